@@ -25,7 +25,8 @@ ghost use Rattle.cli_args.specs.WorkedLines.{WorkedSockets, WorkedVersions};
 ///   with two sockets; `serve` has none.
 /// - `limits`: of `run`; 1 and 1000 open connections are accepted, 0 and 1001 are not; 1 and 3600
 ///   seconds are accepted, 0 and 3601 are not.
-/// - `holds`: of `run`; 16 and 1024 MiB are accepted, 15 and 1025 are not; `serve` has no such option.
+/// - `holds`: of `run`; 16 and 1024 MiB are accepted, 15 and 1025 are not; `serve` has no such
+///   option.
 /// - `logs`: with `--log`, `run` prints a line for each request; given twice, with a value or after
 ///   another order it is invalid.
 /// - `forms`: `columns` is a form; `rows` is none.

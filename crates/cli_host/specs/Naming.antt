@@ -14,7 +14,8 @@ use Rattle.cli_orders.specs.declared.order_names.OrderNames.{OrderNames}
 abbrev pub kind_of : Order → OrderKind
 kind_of Try = kind.Try
 kind_of (Serve file port connections) = kind.Serve
-kind_of (Run file port socket names max_open idle_timeout max_held creates is_logged site) = kind.Run
+kind_of (Run file port socket names max_open idle_timeout max_held creates is_logged site) =
+    kind.Run
 kind_of (Import file book key csv) = kind.Import
 kind_of (Check file) = kind.Check
 kind_of (Books file) = kind.Books

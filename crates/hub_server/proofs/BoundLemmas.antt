@@ -1,5 +1,5 @@
 -- Every step of a server keeps the bound on what its connections hold.
-use Rattle.std.proofs.Common.{◌≡◌, ◌∙◌, ◌≤◌, ℕ, List, [], ◌∷◌, Option, Some, None, inl, inr, refl, sym, ap, subst, arith, slice_get, slice_set}
+use Rattle.std.proofs.Common.{◌≡◌, ◌∙◌, ◌≤◌, ℕ, List, [], ◌∷◌, Option, Some, None, inl, inr, sym, ap, subst, arith, slice_get, slice_set}
 use Rattle.http_requests.specs.HandlerRuns.{HandlerRelation, FaultReplies}
 use Rattle.http_hub.specs.BoundedHubs.{ReceivesWithin}
 use Rattle.http_hub.specs.Holdings.{AreWithin, large_at}

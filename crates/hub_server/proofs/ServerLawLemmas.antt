@@ -1,10 +1,10 @@
 -- Every run of a server is a run of its hub.
-use Rattle.std.proofs.Common.{◌≡◌, ◌∙◌, ◌==◌, ◌⊎◌, ◌<◌, ◌≤◌, ℕ, zero, suc, Bool, true, false, List, [], ◌∷◌, ◌++◌, Option, Some, None, refl, sym, ap, subst, inl, inr, append_assoc, arith, cond, drop, length, slice_get, slice_set, take}
+use Rattle.std.proofs.Common.{◌≡◌, ◌∙◌, ◌==◌, ◌<◌, ◌≤◌, ℕ, zero, suc, Bool, true, false, List, [], ◌∷◌, ◌++◌, Option, Some, None, refl, sym, ap, subst, inl, inr, append_assoc, arith, cond, drop, length, slice_get, slice_set, take}
 use Rattle.std.proofs.lemmas.Bool.{eqb-false, eqb-true, eq-eqb, ne_eqb}
 use Rattle.std.proofs.lemmas.List.{append-nil, length-take-le, take-append-drop}
 use Rattle.http_requests.specs.HandlerRuns.{HandlerRelation, FaultReplies}
 use Rattle.http_hub.specs.FedPieces.{FedPiece, octets_in, pieces_of}
-use Rattle.http_hub.specs.BoundedHubs.{ReceivesWithin, RefusesLarge}
+use Rattle.http_hub.specs.BoundedHubs.{ReceivesWithin}
 use Rattle.http_hub.specs.HubRuns.{DoesStep, HubRuns, HubStep, RefusesPieceAt, pieces_in, sent_to}
 use Rattle.http_hub.specs.HubRuns.HubStep.{Opens, Receives, Fails, Refuses, Sends, Ends}
 use Rattle.http_hub.specs.Hubs.{EndsAt, FailsAt, HubValue, IsAt, OpensAt, ReceivesAt, SendsAt, with_link, with_slot}
