@@ -186,6 +186,20 @@ class Replies(HeldTest):
         self.assertGreater(len(taker.rest()), 16 * MIB)
         self.serve(export("staff"))
 
+    def test_the_log(self):
+        """A request whose reply was dropped has the line of that reply, and that of the refusal."""
+        self.restart(more=["--max-held", 16, "--log"])
+        body = self.announce(LARGEST)
+        self.assertTrue(self.is_refused(self.announce(LARGEST)))
+        self.assertTrue(self.is_refused(self.ask()))
+        body.socket.close()
+        lines = self.server.stop().err.splitlines()
+        refused = b"refused busy 34 status 503 octets %d" % len(BUSY)
+        told = [it for it in lines if b" /books status" not in it]
+        self.assertEqual([refused, refused], [told[0], told[2]])
+        self.assertRegex(told[1], rb"\Arequest GET /books/staff/sync\S* status 200 octets 2[0-9]{7} ")
+        self.assertEqual(3, len(told))
+
     def test_no_reply_stays_in_memory(self):
         """Clients that took a long page, and stay silent since."""
         self.restart(more=["--max-held", 16])
