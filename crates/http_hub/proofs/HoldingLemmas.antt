@@ -299,10 +299,9 @@ module _ {State : Type 0} (does : HandlerRelation State) (fault_reply : FaultRep
   })
   settled most place before old piece now new full after received (inr large) = inr (inr (record {
     reply = large.reply;
-    refused = record { full = full; received = received; refused = large.refused };
+    refused = record { full = full; received = received; reply_is = large.reply_is; refused = large.refused };
     slot = large.slot;
     at = large.at;
     too_large = large.too_large;
-    reply_is = large.reply_is;
     small = large.small;
   }))

@@ -63,7 +63,6 @@ module _ {State : Type 0} (does : HandlerRelation State) (fault_reply : FaultRep
     pub slot : Slot
     pub at : IsAt refused.full place slot
     pub too_large : fits_at most refused.full slot ≡ false
-    pub reply_is : (reply ≡ fault_reply Busy) ⊎ (reply ≡ [])
     pub small : length reply ≤ most_small
 
   -- the result of feeding a piece

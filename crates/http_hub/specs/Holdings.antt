@@ -34,7 +34,7 @@ large_at (Some slot) = large_part (load_of slot.link)
 abbrev pub large_total : List (Option Slot) → ℕ
 large_total slots = sum_by large_at slots
 
--- more octets than one connection can have, whose request and whose replies have fewer than 2^64 each
+-- more octets than one connection can have, whose request and replies have fewer than 2^64 each
 abbrev pub most_load : ℕ
 most_load = 36893488147419103232
 

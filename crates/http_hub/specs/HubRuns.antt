@@ -1,7 +1,8 @@
 -- The effect of any list of a hub's operations. This project's own.
-use Rattle.std.specs.Prelude.{◌≡◌, ◌==◌, ◌≤◌, ℕ, List, [], ◌∷◌, ◌++◌, Option, Some, None, cond}
-use Rattle.std.specs.Prelude.{length, take, slice_get}
+use Rattle.std.specs.Prelude.{◌≡◌, ◌==◌, ◌≤◌, ◌⊎◌, ℕ, List, [], ◌∷◌, ◌++◌, Option, Some, None}
+use Rattle.std.specs.Prelude.{cond, length, take, slice_get}
 use Rattle.http_requests.specs.HandlerRuns.{HandlerRelation, FaultReplies, KeepsScreens}
+use Rattle.http_requests.specs.declared.head_fault.HeadFault.TheVariants.{Busy}
 use Rattle.http_hub.specs.FedPieces.{AreOneRun, FedPiece, Sessions, replies_to}
 use Rattle.http_hub.specs.Hubs.{EndsAt, FailsAt, HubValue, IsAt, OpensAt, ReceivesAt, RefusesAt}
 use Rattle.http_hub.specs.Hubs.{SendsAt, new_hub, open_count}
@@ -86,13 +87,15 @@ pub record AreAllLinks (hub : HubValue) (links : List LinkValue) : Type 0 where
       → slot.serial ≡ another.serial → place ≡ other
 
 module _ {State : Type 0} (does : HandlerRelation State) (fault_reply : FaultReplies) where
-  -- the connection at this place received a piece, what it came to hold was dropped, and this reply
-  -- is pending; no other place changed
+  -- The connection at this place received a piece, and what it came to hold was dropped. This reply
+  -- is pending, that to a busy server's client, or none if memory ran out for it. No other place
+  -- changed.
   pub record RefusesPieceAt
       (place : ℕ) (before : HubValue) (old : State) (piece reply : List ℕ) (now : ℕ)
       (new : State) (after : HubValue) : Type 0 where
     pub full : HubValue
     pub received : ReceivesAt does fault_reply place before old piece now new full
+    pub reply_is : (reply ≡ fault_reply Busy) ⊎ (reply ≡ [])
     pub refused : RefusesAt place full reply now after
 
   -- the effect of one step, at some place

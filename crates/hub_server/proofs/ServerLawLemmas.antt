@@ -461,6 +461,7 @@ module _ {S : Type 0} (does : HandlerRelation S) (fault_reply : FaultReplies) wh
         let there : RefusesPieceAt does fault_reply place a.hub w piece reply a.time v b.hub = record {
           full = refused.full;
           received = received;
+          reply_is = refused.reply_is;
           refused = record { slot = refused.refused.slot; found = refused.refused.found; after_is = hub_is ∙ refused.refused.after_is };
         } in
         refuses_on place serial piece (drop (length piece) seat.unfed) a b c w v x held steps (parts_of a held unfed place serial piece slot seat seated serial_is piece_is)

@@ -56,7 +56,8 @@ output_of connection (Feeds place serial piece ∷ steps) = output_of connection
 module _ {State : Type 0} (does : HandlerRelation State) (fault_reply : FaultReplies) where
   -- The run is a run of the hub. The pieces fed for a connection are, joined, the octets read from
   -- it, or the first of them, and what the hub sends to it is what was written. So what was written
-  -- to each connection, followed by what is pending, is the replies to its own requests in order.
+  -- to each connection, followed by what is pending, is the replies to its own requests in order, and
+  -- after them that to a busy server's client, if it was refused.
   pub record IsRunOfHub
       (limits : ServeLimits) (old : State) (steps : List ServerStep)
       (new : State) (after : ServerValue) : Type 0 where
