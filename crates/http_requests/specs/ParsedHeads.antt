@@ -9,7 +9,7 @@ use Rattle.http_requests.specs.declared.head_fault.HeadFault.TheVariants.{BadHea
 use Rattle.http_requests.specs.declared.head_fault.HeadFault.TheVariants.{BadHost, TransferEncoding}
 use Rattle.http_requests.specs.declared.head_fault.HeadFault.TheVariants.{BadLength, BodyTooLarge}
 use Rattle.http_requests.specs.declared.head_fault.HeadFault.TheVariants.{ForeignHost, ForeignSite}
-use Rattle.http_requests.specs.declared.head_fault.HeadFault.TheVariants.{Precondition}
+use Rattle.http_requests.specs.declared.head_fault.HeadFault.TheVariants.{Precondition, Busy}
 use Rattle.http_requests.specs.declared.head.Head.{Head}
 use Rattle.http_requests.specs.declared.head.ParsedHead.{ParsedHead}
 use Rattle.http_requests.specs.declared.head.ParsedHead.TheVariants.{Good, Faulty, Screened}
@@ -39,6 +39,7 @@ IsBoundFault octets BodyTooLarge = ⊥
 IsBoundFault octets ForeignHost = ⊥
 IsBoundFault octets ForeignSite = ⊥
 IsBoundFault octets Precondition = ⊥
+IsBoundFault octets Busy = ⊥
 
 -- the whole text is a good head that isn't refused, one that is, a head with this fault, or no head
 abbrev pub IsParsedHead : (RequestHead → Option HeadFault) → List ℕ → ParsedHead → Type 0

@@ -8,7 +8,7 @@ use Rattle.std.proofs.lemmas.List.Elements.{All-from_get_or}
 use Rattle.std.proofs.lemmas.List.Sums.{list_all-from_AllPass}
 use Rattle.http_requests.specs.HeadFaults.{head_fault_number, head_fault_text}
 use Rattle.http_requests.specs.declared.head_fault.HeadFault.{HeadFault}
-use Rattle.http_requests.specs.declared.head_fault.HeadFault.TheVariants.{BadHead, HeadTooLarge, BadHost, TransferEncoding, BadLength, BodyTooLarge, ForeignHost, ForeignSite, Precondition}
+use Rattle.http_requests.specs.declared.head_fault.HeadFault.TheVariants.{BadHead, HeadTooLarge, BadHost, TransferEncoding, BadLength, BodyTooLarge, ForeignHost, ForeignSite, Precondition, Busy}
 use Rattle.request_log.specs.LogLines.{IsLogLine, answered_line, cut_mark, escaped, escaped_octet, hex_digit, is_plain, is_printable, lost_line, refused_line, reply_words, request_words, shown, status_code, time_words}
 
 -- the text is printable
@@ -114,6 +114,7 @@ text_is BodyTooLarge = refl
 text_is ForeignHost = refl
 text_is ForeignSite = refl
 text_is Precondition = refl
+text_is Busy = refl
 
 number_small : (fault : HeadFault) → head_fault_number fault < 2 ^ 64
 number_small BadHead = omega arith
@@ -125,6 +126,7 @@ number_small BodyTooLarge = omega arith
 number_small ForeignHost = omega arith
 number_small ForeignSite = omega arith
 number_small Precondition = omega arith
+number_small Busy = omega arith
 
 pub refused_is : (fault : HeadFault) (reply : List ℕ) → length reply < 2 ^ 64 → IsLogLine (refused_line fault reply)
 refused_is fault reply small =

@@ -37,6 +37,7 @@ fn head_fault_of(number: &str) -> HeadFault {
         "31" => HeadFault::ForeignHost,
         "32" => HeadFault::ForeignSite,
         "33" => HeadFault::Precondition,
+        "34" => HeadFault::Busy,
         _ => HeadFault::BodyTooLarge,
     }
 }
