@@ -2,7 +2,7 @@
 use Rattle.std.specs.Prelude.{◌≡◌, ◌≤◌, ℕ, List, [], Option, Some, None}
 use Rattle.httparse.specs.Grammar.{RequestHead, MayBecomeRequest}
 use Rattle.httparse.specs.Spans.{RequestOverflows}
-use Rattle.http_requests.specs.Fields.{fault_of_head, body_length, closes, longest_body}
+use Rattle.http_requests.specs.Fields.{fault_of_head, body_length, closes, longest_body, user_of}
 use Rattle.http_requests.specs.Requests.{StartsWithHead, most_fields}
 use Rattle.http_requests.specs.declared.head_fault.HeadFault.{HeadFault}
 use Rattle.http_requests.specs.declared.head_fault.HeadFault.TheVariants.{BadHead, HeadTooLarge}
@@ -22,6 +22,7 @@ head_of head = record {
   target = head.target;
   close = closes head;
   length = body_length head;
+  user = user_of head;
 }
 
 -- whatever follows, the octets start with no head of 64 fields or fewer
