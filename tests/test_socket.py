@@ -216,12 +216,28 @@ class Requests(SocketTest):
                 self.assertEqual(b"HTTP/1.1 %d" % status, server.ask(octets)[:12])
         self.assertIn(b'"cards":0,', server.ask(tally("staff")))
 
+    def test_who(self):
+        """The log names the user that the front server names, and not at a port."""
+        who = ["Host: office", "X-Remote-User: Zo\xeb Q"]
+        for more, said in [(["--socket", "s", "--host", "office"], rb" user Zo\\xc3\\xab\\x20Q"),
+                           (["--port", "0", "--host", "office"], b"")]:
+            with self.subTest(more):
+                server = Server("a.db", order="run", more=["--log", *more], cwd=self.folder)
+                self.addCleanup(server.kill)
+                for book in "staff", "clients":
+                    server.ask(request("PUT", f"/books/{book}", fields=who, host=False))
+                server.ask(request("DELETE", "/books/staff/cards/a", fields=who, host=False))
+                lines = server.stop().err.splitlines()
+                self.assertRegex(lines[-1], rb"microseconds [0-9]+" + said + rb" reply \{.*\}\Z")
+                self.assertIn(b'"fault":"no-such-card"', lines[-1])
+
     def test_the_log(self):
         server = self.start(more=["--log"])
         replies = [server.ask(octets) for octets in (create("staff"), books())]
         replies.append(server.ask(request("GET", "/books", fields=["Host: evil"], host=False)))
         ended = server.stop()
-        words = [b"request PUT /books/staff status 201 octets %d microseconds [0-9]+\n",
+        words = [b"request PUT /books/staff status 201 octets %d microseconds [0-9]+"
+                 b" reply \\{\"id\":1\\}\n",
                  b"request GET /books status 200 octets %d microseconds [0-9]+\n",
                  b"refused foreign-host 31 status 421 octets %d\n"]
         wanted = b"".join(it % len(reply) for it, reply in zip(words, replies))
