@@ -63,7 +63,7 @@ export class Desk {
     this.chosen = "";
     this.mayList = true;
     this.later = new Set(); // questions that somebody put off
-    this.asked = null; // the entry about which somebody is asked now
+    this.asked = null; // the entry about which somebody is asked now, and what ends that
     this.drawing = 0;
     this.showing = 0;
     this.tabs = new BroadcastChannel("desk");

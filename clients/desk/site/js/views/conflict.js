@@ -16,9 +16,10 @@ function ofTwo(name) {
 
 /**
  * Asks about the clashes of two edits (`merge3`). Answers a list with "mine" or "theirs" for each,
- * or null to decide later. `nameOf` gives the name of a member; `words` are others for two cards.
+ * or null to decide later. `nameOf` gives the name of a member; `words` are others for two cards;
+ * `signal` ends the question.
  */
-export function askBoth(name, both, nameOf, words = ofTwo(name)) {
+export function askBoth(name, both, nameOf, { words = ofTwo(name), signal = null } = {}) {
   const choices = both.clashes.map(() => null);
   const error = el("p", { class: "error", role: "alert" });
   return dialog(words.title, (close, box) => {
@@ -43,7 +44,7 @@ export function askBoth(name, both, nameOf, words = ofTwo(name)) {
         words.all && button(words.all, () => close(choices.map(() => "theirs"))),
         button(words.leave, () => close(null))),
     ];
-  }, "wide");
+  }, "wide", signal);
 }
 
 function row(clash, at, choices, nameOf) {
