@@ -119,7 +119,8 @@ export class Frame {
     const drawn = JSON.stringify([words, by("list-title").textContent, ways.map((it) => it[0])]);
     if (words === null || drawn === this.emptyDrawn) return;
     this.emptyDrawn = drawn;
-    fill(empty, el("p", {}, words), ways.length > 0 && el("div", { class: "bar" },
+    const sign = icon(this.search.value.trim() ? "search" : "people");
+    fill(empty, sign, el("p", {}, words), ways.length > 0 && el("div", { class: "bar" },
       ways.map(([text, run, kind]) => button(text, run, { class: kind ?? null }))));
   }
 

@@ -174,8 +174,8 @@ export const TEXTS = {
   selectAll: "All",
   forSelected: "With these…",
   sort: "Sort",
-  sort_name: "By given name",
-  sort_family: "By family name",
+  sort_name: "Sort by given name",
+  sort_family: "Sort by family name",
   listMenu: "Sort and select",
   favourites: "Favourites",
   recent: "Recently opened",
@@ -381,6 +381,7 @@ export const TEXTS = {
   fileNotUtf8: "The file isn’t in UTF-8. Save it again as UTF-8.",
   fileTooLarge: "The file is too large: at most 8 MB can be imported at once. Cut it into several.",
   fileWithoutCards: "There is no card in this file.",
+  fileSeveral: "Several files are imported together only if all of them are vCards (.vcf).",
   fileSemicolons:
     "The columns of this file are separated by semicolons. Save it again with commas: {header}",
   fileHeader: "The first line of a CSV file has to be exactly: {header}",
