@@ -51,9 +51,12 @@ class Page:
         self.wait("!window.isOld && document.readyState === 'complete'")
 
     def enter(self, address, user, path=""):
-        """Loads the address as a user. The password goes in by the address."""
+        """
+        Loads the address as a user. The password goes in by the address of the books: the page's
+        own files may come from what the browser keeps, and the server wouldn't hear of it.
+        """
         scheme, rest = address.split("://")
-        self.go(f"{scheme}://{user}:{user}-pw@{rest}{path}")
+        self.go(f"{scheme}://{user}:{user}-pw@{rest}{path or 'books'}")
         if not path:
             self.go(address)
 

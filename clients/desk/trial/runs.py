@@ -3,6 +3,7 @@
 import argparse
 import os
 import shutil
+import signal
 import sys
 import tempfile
 import time
@@ -55,6 +56,8 @@ def run(given, programs, kind_of_office, kind_of_trial, steps):
     """Takes the steps in an office of a kind, and says how it went. Returns the status."""
     for name in programs:
         program(name)
+    # Who stops a trial leaves neither its browser nor its servers behind.
+    signal.signal(signal.SIGTERM, lambda *_: sys.exit(143))
     pictures = Path(given.pictures or tempfile.mkdtemp(prefix="desk-pictures-"))
     pictures.mkdir(parents=True, exist_ok=True)
     office = kind_of_office(os.environ.get("CONTACTS", str(ROOT / "contacts")))

@@ -366,7 +366,8 @@ export const TEXTS = {
   // Files
   importTitle: "Import into {book}",
   importText:
-    "All cards of the file are imported, or none. You can choose a CSV file or vCards (.vcf).",
+    "All cards are imported, or none. You can choose a CSV file, or one or more files of vCards " +
+    "(.vcf).",
   dropTitle: "Which book shall this file go into?",
   importFile: "File",
   importNow: "Import",
