@@ -5,7 +5,7 @@ import json
 import time
 from pathlib import Path
 
-SECONDS = 90  # that a page has for each thing, on a machine that is busy with others
+SECONDS = 90  # that a page has for each thing
 
 # The middle of a button or link by its text. Whether it was pressed is kept, as what is there may
 # be drawn anew, or elsewhere, between this and the press.
@@ -29,6 +29,7 @@ class Page:
     A page of a browser. Each browser's own has `run`, `navigate`, `click`, `shot`, and typing.
     """
 
+    slow = 1  # how many times as long all may take
     was_left = False  # by Tab
 
     def __init__(self, browser, context):
@@ -62,7 +63,7 @@ class Page:
 
     def wait(self, expression, seconds=SECONDS):
         """Waits until an expression is true. Returns its value."""
-        end = time.monotonic() + seconds
+        end = time.monotonic() + seconds * self.slow
         while True:
             try:
                 value = self.run(expression)
