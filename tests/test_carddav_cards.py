@@ -9,6 +9,7 @@ from carddav_client import SPACES, STAFF, GatewayTest, card3
 from histories import UIDS, Drawing
 from http_requests import card
 from model.cards import read_card
+from program import Folder
 
 import vcard3
 from gateway import cards
@@ -17,7 +18,7 @@ from gateway.dav import Dav
 from gateway.messages import Request
 from gateway.office import Offices
 from gateway.photos import Photos
-from gateway.state import State
+from gateway.state import Row, State
 from tosculai import Unreachable, lines_of, same
 
 
@@ -215,6 +216,20 @@ class States(unittest.TestCase):
         self.assertRegex(names[1], r"^[0-9a-f]{32}\.vcf$")
         state.assign(1, ["A", "a"])
         self.assertEqual("a.vcf", state.name(1, "a"))
+
+    def test_another_form_of_cards(self):
+        """ETags of before are those of other texts, so each program lists all cards again; once."""
+        with Folder() as folder:
+            path, epochs = str(folder / "names.db"), []
+            for form, token in [("1", ""), ("1", "token"), ("2", ""), ("2", "token")]:
+                with mock.patch("gateway.state.FORM", form):
+                    state = State(path)
+                self.assertEqual(token, state.token(1))
+                state.apply(1, [Row("a", 1, '"1-x"', "text")], "token")
+                epochs.append(state.epoch)
+                state.close()
+            self.assertEqual([True, False, True],
+                             [it == other for it, other in zip(epochs, epochs[1:])])
 
     def test_a_name_is_given_and_taken_back(self):
         state = State(":memory:")

@@ -94,7 +94,7 @@ class Dav:
         if "if-none-match" in request.fields and edits.matches(request.field("if-none-match"),
                                                                entry.etag):
             return Reply(304, head, b"")
-        return Reply(200, head, place.book.filled(text, as4))
+        return Reply(200, head, place.book.filled(text, as4, request.is_noted))
 
     def whole(self, place: Place, as4: bool) -> Iterator[bytes]:
         """All cards of a book, one after another."""

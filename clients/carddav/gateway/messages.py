@@ -14,6 +14,8 @@ NO_VERSION, UID_CONFLICT = f"{{{C}}}supported-address-data", f"{{{C}}}no-uid-con
 NO_RIGHT, BAD_TOKEN = f"{{{D}}}need-privileges", f"{{{D}}}valid-sync-token"
 NO_REPORT, NO_DEPTH = f"{{{D}}}supported-report", f"{{{D}}}propfind-finite-depth"
 NO_COLLATION = f"{{{C}}}supported-collation"
+# Programs that change cards without a condition.
+BLIND = ("Thunderbird",)
 
 
 class Request(NamedTuple):
@@ -47,6 +49,11 @@ class Request(NamedTuple):
         words = [it.partition("/")[0] for it in self.field("user-agent").split(" ") if "/" in it]
         name = (words[-1] if words[:1] == ["Mozilla"] else words[0]) if words else "?"
         return name[:40]
+
+    @property
+    def is_noted(self) -> bool:
+        """Whether the program's cards say what it has read of them (unseen.py)."""
+        return self.program in BLIND
 
 
 class Reply(NamedTuple):
