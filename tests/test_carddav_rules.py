@@ -486,6 +486,9 @@ class Queries(GatewayTest):
         ]:
             reply = self.dav.query(STAFF, inside)
             self.assertEqual((403, (element, True)), (reply.status, reply.reason))
+        many = '<C:prop-filter name="FN"><C:text-match>x</C:text-match></C:prop-filter>' * 200
+        reply = self.dav.query(STAFF, f"<C:filter>{many}</C:filter>")
+        self.assertEqual((403, ("supported-filter", True)), (reply.status, reply.reason))
         for data in ('<C:address-data content-type="text/vcard" version="2.1"/>',
                      '<C:address-data content-type="application/json" version="3.0"/>'):
             reply = self.dav.multiget(STAFF, [STAFF + "a.vcf"], data)
