@@ -346,12 +346,12 @@ def try_bug(bug):
         for folder in "clients", "tests", "examples", "docs":
             shutil.copytree(ROOT / folder, copy / folder,
                             ignore=shutil.ignore_patterns("__pycache__"))
-        shutil.copy(ROOT / "test", copy / "test")
         text = (copy / "clients" / path).read_text(encoding="utf-8")
         if text.count(old) != 1:
             return f"{name}: its text is {text.count(old)} times in {path}"
         (copy / "clients" / path).write_text(text.replace(old, new), encoding="utf-8")
-        ran = subprocess.run([sys.executable, copy / "test", module], cwd=copy,
+        ran = subprocess.run([sys.executable, "-m", "unittest", "-f", f"test_{module}"],
+                             cwd=copy / "tests", stdin=subprocess.DEVNULL,
                              env={**os.environ, "CONTACTS": PROGRAM, "SEEDS": "3"},
                              stdout=subprocess.PIPE, stderr=subprocess.STDOUT)
         return None if ran.returncode else f"{name}: {module} doesn't catch it"
