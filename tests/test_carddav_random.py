@@ -29,7 +29,10 @@ from tosculai import Conflict, Error, lines_of
 
 EDITS = 12  # that each device of a seed has to get acknowledged
 KILLS = 6  # of processes, at least, and requests to forget
-PATIENCE = 60  # seconds that this may take on a busy machine
+AHEAD = 8  # changes by which the desk, which needs no gateway, is ahead of the slowest phone
+BETWEEN = 2  # acknowledged edits of phones between two kills, or
+PAUSE = 20  # seconds
+PATIENCE = 240  # seconds that this may take on a busy machine
 
 
 class Random(unittest.TestCase):
@@ -72,6 +75,9 @@ class Random(unittest.TestCase):
                 except Exception as fault:
                     faults.append(f"{device.name}: {fault!r}")
                 time.sleep(device.pause)
+                while (device is devices[-1] and not is_over.is_set() and not faults
+                       and device.done > min(it.done for it in devices) + AHEAD):
+                    time.sleep(0.02)
 
         threads = [threading.Thread(target=live, args=(it,)) for it in devices]
         for it in threads:
@@ -81,6 +87,10 @@ class Random(unittest.TestCase):
         while time.monotonic() < end and not faults and (
                 kills < KILLS or any(it.done < EDITS for it in devices)):
             time.sleep(killer.uniform(0.1, 0.5))
+            done, until = sum(it.done for it in devices[:-1]), min(end, time.monotonic() + PAUSE)
+            while (sum(it.done for it in devices[:-1]) < done + BETWEEN
+                   and time.monotonic() < until and not faults):
+                time.sleep(0.02)
             killer.choice(harms)()
             kills += 1
         is_over.set()
