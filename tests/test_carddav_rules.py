@@ -240,23 +240,28 @@ class WithoutConditions(GatewayTest):
             self.assertEqual([f"CATEGORIES:{wanted}"], self.put(text)[4:-1])
 
     def test_photos(self):
-        """A photo that nobody edits stays, also one that is kept beside the card."""
+        """A photo that nobody edits stays, and one that others have changed or removed stays so,
+        also if it is kept beside the card."""
         for size in 3_000, 100_000, 400_000:
-            octets = bytes(it * it % 251 for it in range(size))
-            photo = "PHOTO;ENCODING=b;TYPE=JPEG:" + base64.b64encode(octets).decode()
-            self.dav.ask("DELETE", self.PATH)
-            self.assertEqual(201, self.dav.ask("PUT", self.PATH, card3("a", "Ann", "TEL:+1",
-                                                                      photo)).status)
-            text = self.read()
+            old, new = (["PHOTO;ENCODING=b;TYPE=JPEG:" + base64.b64encode(
+                bytes(it * by % 251 for it in range(size))).decode()] for by in (3, 5))
+            cases = {f"p{at}-{size}": it for at, it in enumerate((old, new, []))}
+            paths = {uid: f"{STAFF}{uid}.vcf" for uid in cases}
+            for uid, path in paths.items():
+                self.dav.ask("PUT", path, card3(uid, "Ann", "TEL:+1", *old))
+            texts = {uid: self.read(path) for uid, path in paths.items()}
             self.stack.restart()
             self.thunderbird.close()
             self.dav.close()
-            got = self.dav.ask("GET", self.PATH)
-            self.dav.ask("PUT", self.PATH, got.text.replace("+1", "+2"), If_Match=got.etag)
-            lines = self.put(text.replace("FN:Ann", "FN:Anna"))
-            self.assertEqual((1, 1), (sum(it.startswith("PHOTO") for it in lines),
-                                      lines.count("TEL:+2")))
-            self.assertIn(photo, lines_of(self.dav.ask("GET", self.PATH).text))
+            for uid, photos in cases.items():
+                path = paths[uid]
+                self.assertEqual(204, self.dav.ask("PUT", path, card3(uid, "Ann", "TEL:+2",
+                                                                      *photos)).status)
+                text = texts[uid].replace("FN:Ann", "FN:Anna")
+                self.assertEqual(204, self.thunderbird.ask("PUT", path, text).status)
+                lines = lines_of(self.dav.ask("GET", path).text)
+                self.assertLessEqual({"FN:Anna", "TEL:+2"}, set(lines))
+                self.assertEqual(photos, [it for it in lines if it.startswith("PHOTO")])
 
     def test_the_line(self):
         """Thunderbird alone gets it, in each card that it reads as a whole, and no ETag after a

@@ -8,11 +8,12 @@ holds for several programs of one user, for any age of what they read, and after
 """
 
 import base64
+import functools
 import hashlib
 import re
 from collections import Counter
 from typing import Counter as Counts
-from typing import Iterable, List, NamedTuple, Optional
+from typing import Iterable, List, NamedTuple, Optional, Sequence
 
 import vcard3
 from tosculai import lines_of, uid_of
@@ -22,6 +23,7 @@ from gateway.categories import category, is_categories, raw_values, value_of
 from gateway.files import MARK, SMALL, file_of
 
 LINES_MAX = 2_000  # of a card that gets the line
+CACHED = 300  # characters of a line whose digest is kept in memory
 WIDTH = 8  # letters of a digest
 LINE = re.compile(rf"([0-9]+)-([\w-]{{{WIDTH}}})-((?:[\w-]{{{WIDTH}}})*)", re.ASCII)
 SOME_LINE = re.compile(READ, re.IGNORECASE)
@@ -48,8 +50,13 @@ def digest(what: object) -> str:
     return base64.urlsafe_b64encode(octets)[:WIDTH].decode()
 
 
-def said_by(line: str) -> List[str]:
+def said_by(line: str) -> Sequence[str]:
     """Digests of what a line says: of categories, each is one."""
+    return _said_by(line) if len(line) <= CACHED else _said_by.__wrapped__(line)
+
+
+@functools.lru_cache(maxsize=4096)
+def _said_by(line: str) -> Sequence[str]:
     if name_of(line) in FRAME:
         return []
     if is_categories(line):
