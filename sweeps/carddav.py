@@ -80,7 +80,7 @@ BUGS = [
     ("what a user removes comes back", "carddav/gateway/cards.py", "lambda it: it in shown or",
      "lambda it:", "carddav_cards"),
     ("the gateway's own line is stored", "carddav/gateway/cards.py",
-     "[it for it in framed if name_of(it) != SHOWN]", "list(framed)", "carddav_cards"),
+     "[it for it in framed if name_of(it) not in (SHOWN, READ)]", "list(framed)", "carddav_cards"),
     ("a program's line speaks for all names", "carddav/gateway/cards.py",
      "lambda it: it in shown or", "lambda it: bool(shown) or", "carddav_cards"),
     ("a respelled line is an edit", "python/vcard3.py",
