@@ -164,11 +164,11 @@ fn writes(method: &[u8]) -> bool
 }
 
 /// Appends what a change came to.
-fn write_change(out: &mut Vec<u8>, method: &[u8], reply: &[u8]) -> Result<(), NoMemory>
+fn write_change(out: &mut Vec<u8>, head: &Head, reply: &[u8]) -> Result<(), NoMemory>
     ensures { OnOk result (out.new.items ≡ out.old.items
-        ++ lines.change_words method.now reply.now) }
+        ++ lines.change_words head.now.method reply.now) }
 {
-    if !writes(method) {
+    if !writes(head.method.as_str().as_bytes()) {
         return Ok(());
     }
     out.extend_from_slice(b" reply ")?;
@@ -178,19 +178,19 @@ fn write_change(out: &mut Vec<u8>, method: &[u8], reply: &[u8]) -> Result<(), No
 /// Appends what follows the target in the line of a request that was answered.
 fn write_outcome(
     out: &mut Vec<u8>,
-    method: &[u8],
+    head: &Head,
     user: &[u8],
     reply: &[u8],
     micros: u64,
 ) -> Result<(), NoMemory>
     ensures { OnOk result (out.new.items ≡ out.old.items ++ (lines.reply_words reply.now
         ++ (lines.time_words micros ++ (lines.user_words user.now
-        ++ (lines.change_words method.now reply.now ++ line_feed ∷ []))))) }
+        ++ (lines.change_words head.now.method reply.now ++ line_feed ∷ []))))) }
 {
     write_reply(out, reply)?;
     write_time(out, micros)?;
     write_user(out, user)?;
-    write_change(out, method, reply)?;
+    write_change(out, head, reply)?;
     out.push(b'\n')?;
     Ok(())
 }
@@ -207,7 +207,8 @@ fn write_answered(
         ++ lines.answered_line head.now.method head.now.target user.now reply.now micros) }
 {
     write_request(out, head)?;
-    write_outcome(out, head.method.as_str().as_bytes(), user, reply, micros)
+    write_outcome(out, head, user, reply, micros)?;
+    Ok(())
 }
 
 /// Appends the line of a request for whose reply memory ran out.
