@@ -70,7 +70,7 @@ impl<S: Alter> SqlStore<S> {
 // ---- the files of a program
 
 /// Fails with `NotEmpty` if something is at the path, and with `Store` if the host can't tell.
-fn check_free(rt: &HostRuntime, path: &str) -> Result<(), OpenFault> {
+pub(crate) fn check_free(rt: &HostRuntime, path: &str) -> Result<(), OpenFault> {
     match fs::exists(rt, path) {
         Ok(false) => Ok(()),
         Ok(true) => Err(OpenFault::NotEmpty),
@@ -80,7 +80,7 @@ fn check_free(rt: &HostRuntime, path: &str) -> Result<(), OpenFault> {
 
 /// Removes the new file and its log if no copy was made in them. An error is ignored: then what is
 /// left doesn't open as a store.
-fn remove_new(rt: &HostRuntime, target: &str, log: &str) {
+pub(crate) fn remove_new(rt: &HostRuntime, target: &str, log: &str) {
     let _removed = fs::remove_file(rt, target);
     let _removed_log = fs::remove_file(rt, log);
 }
@@ -93,6 +93,23 @@ fn is_empty_file(rt: &HostRuntime, path: &str) -> bool {
     }
 }
 
+/// Opens a new file. If that fails, an empty file is removed.
+pub(crate) fn open_new(
+    rt: &HostRuntime,
+    target: &str,
+    log: &str,
+) -> Result<Connection<FileStore<FileFrom<Unknown>>>, OpenFault> {
+    match Connection::open_from(rt, target, false, Unknown) {
+        Ok(connection) => Ok(connection),
+        Err((error, _left)) => {
+            if is_empty_file(rt, target) {
+                remove_new(rt, target, log);
+            }
+            Err(open_fault_of(error))
+        }
+    }
+}
+
 /// Copies the books into a new file, which needs no log.
 fn copy_to_new(
     rt: &HostRuntime,
@@ -100,15 +117,7 @@ fn copy_to_new(
     target: &str,
     log: &str,
 ) -> Result<(), OpenFault> {
-    let connection = match Connection::open_from(rt, target, false, Unknown) {
-        Ok(connection) => connection,
-        Err((error, _left)) => {
-            if is_empty_file(rt, target) {
-                remove_new(rt, target, log);
-            }
-            return Err(open_fault_of(error));
-        }
-    };
+    let connection = open_new(rt, target, log)?;
     if !is_schema_empty(connection.schema()) {
         return Err(OpenFault::NotEmpty);
     }

@@ -1,0 +1,17 @@
+use Rattle.std.proofs.Common.{subst}
+use Rattle.sqlite.specs.Files.{file_state}
+use Rattle.store_lookups.specs.StoredBooks.{IsOpenOnHonestDisk, stored_books}
+use Rattle.book_store.proofs.CopyLemmas.{is_resync}
+use Rattle.book_store.proofs.leaving_out.restart_copy.Goals as goal
+
+pub returns-in-Ok-clause-was_open : goal.returns-in-Ok-clause-was_open
+returns-in-Ok-clause-was_open g c clean = c.resync.ensures.changes.keeps_terms.premise (c.in_ok-files.ensures.was_open clean)
+
+pub returns-in-Ok-clause-restarted : goal.returns-in-Ok-clause-restarted
+returns-in-Ok-clause-restarted g c clean =
+    let was = c.args.copy in
+    let now = c.resync.new.self in record {
+      after = stored_books (file_state now.conn);
+      alone = c.in_ok-files.ensures.alone clean;
+      resynced = is_resync was.limits c.args.pairs c.in-Ok.books (stored_books (file_state was.conn)) (stored_books (file_state now.conn)) c.args.some (c.resync.ensures.changes.matches_step (c.in_ok-files.ensures.was_open clean));
+    }
