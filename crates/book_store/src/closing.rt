@@ -16,7 +16,9 @@ use book_model::Limits;
 use sqlite::{Alter, Connection, FileStore, Files};
 use sqlite_disk::Disk;
 use sqlite_std_file::{FileFrom, Unknown};
-use std::fs;
+use std::fs::Permissions;
+use std::os::unix::fs::{MetadataExt, PermissionsExt};
+use std::{fs, io};
 use store_schema::{OpenFault, open_fault_of};
 use sync_core::BookStore;
 
@@ -93,14 +95,29 @@ fn is_empty_file(rt: &HostRuntime, path: &str) -> bool {
     }
 }
 
-/// Opens a new file. If that fails, an empty file is removed.
+/// Gives the new file and its log the mode of the file at the path.
+fn take_mode(rt: &HostRuntime, path: &str, target: &str, log: &str) -> io::Result<()> {
+    let mode = fs::metadata(rt, path)?.mode() & 0o777;
+    fs::set_permissions(rt, target, Permissions::from_mode(mode))?;
+    fs::set_permissions(rt, log, Permissions::from_mode(mode))
+}
+
+/// Opens a new file, with the mode of the file at the path. If that fails, an empty file is removed.
 pub(crate) fn open_new(
     rt: &HostRuntime,
+    path: &str,
     target: &str,
     log: &str,
 ) -> Result<Connection<FileStore<FileFrom<Unknown>>>, OpenFault> {
     match Connection::open_from(rt, target, false, Unknown) {
-        Ok(connection) => Ok(connection),
+        Ok(connection) => {
+            // Before anything is written that others may not read.
+            if take_mode(rt, path, target, log).is_err() {
+                remove_new(rt, target, log);
+                return Err(OpenFault::Store);
+            }
+            Ok(connection)
+        }
         Err((error, _left)) => {
             if is_empty_file(rt, target) {
                 remove_new(rt, target, log);
@@ -110,14 +127,15 @@ pub(crate) fn open_new(
     }
 }
 
-/// Copies the books into a new file, which needs no log.
+/// Copies the books of the file at the path into a new file, which needs no log.
 fn copy_to_new(
     rt: &HostRuntime,
     books: &mut FileBooks,
+    path: &str,
     target: &str,
     log: &str,
 ) -> Result<(), OpenFault> {
-    let connection = open_new(rt, target, log)?;
+    let connection = open_new(rt, path, target, log)?;
     if !is_schema_empty(connection.schema()) {
         return Err(OpenFault::NotEmpty);
     }
@@ -132,22 +150,23 @@ fn copy_to_new(
     Ok(())
 }
 
-/// Copies the books into a new file, and returns their number.
+/// Copies the books of the file at the path into a new file, and returns their number.
 fn copy_books(
     rt: &HostRuntime,
     books: &mut FileBooks,
+    path: &str,
     target: &str,
     log: &str,
 ) -> Result<u64, OpenFault> {
     let Ok(lines) = books.books() else {
         return Err(OpenFault::Store);
     };
-    copy_to_new(rt, books, target, log)?;
+    copy_to_new(rt, books, path, target, log)?;
     Ok(lines.len() as u64)
 }
 
 /// The name of a file's log.
-fn log_of(rt: &HostRuntime, path: &str) -> Result<String, OpenFault> {
+pub(crate) fn log_of(rt: &HostRuntime, path: &str) -> Result<String, OpenFault> {
     match format!(in rt.alloc(); "{path}-wal") {
         Ok(log) => Ok(log),
         Err(_) => Err(OpenFault::Memory),
@@ -156,7 +175,7 @@ fn log_of(rt: &HostRuntime, path: &str) -> Result<String, OpenFault> {
 
 /// Removes a log that the opening of the file made: the file had none before, and it has no octets.
 /// The file must be held meanwhile, so that nobody else writes the log.
-fn forget_log(rt: &HostRuntime, had_log: bool, log: &str) {
+pub(crate) fn forget_log(rt: &HostRuntime, had_log: bool, log: &str) {
     if !had_log && is_empty_file(rt, log) {
         let _removed = fs::remove_file(rt, log);
     }
@@ -165,8 +184,8 @@ fn forget_log(rt: &HostRuntime, had_log: bool, log: &str) {
 impl SqlStore<FileStore<FileFrom<Unknown>>> {
     /// Copies the store in the file at the path into a new file, and returns the number of books.
     /// The new file needs no log, and none stays beside it. It holds no text that the tables don't
-    /// hold: none of a card that was removed or replaced. If the old file had no log, none stays
-    /// beside it either.
+    /// hold: none of a card that was removed or replaced. It has the mode of the old file. If that
+    /// had no log, none stays beside it either.
     ///
     /// Fails with `NotEmpty` if something is at the path `target`, or at that of its log; as `open`
     /// does for the file; and as `copy_to` does. An error removes the new file.
@@ -177,7 +196,7 @@ impl SqlStore<FileStore<FileFrom<Unknown>>> {
         let old_log = log_of(rt, path)?;
         let had_log = fs::exists(rt, old_log.as_str()).unwrap_or(true);
         let mut books = SqlStore::open(rt, path, Limits::standard())?;
-        let copied = copy_books(rt, &mut books, target, log.as_str());
+        let copied = copy_books(rt, &mut books, path, target, log.as_str());
         forget_log(rt, had_log, old_log.as_str());
         copied
     }

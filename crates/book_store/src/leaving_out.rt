@@ -10,7 +10,7 @@ ghost use Rattle.store_tables.specs.SchemaCreation.{empty_schema};
 ghost use Rattle.sync_core.specs.StoreModels.{KeepsBooks, KeepsTerms};
 ghost use Rattle.std.specs.Prelude.{◌≡◌, ◌≤◌, IfOk, OnOk, false};
 
-use crate::closing::{check_free, open_new, remove_new};
+use crate::closing::{check_free, forget_log, log_of, open_new, remove_new};
 use crate::copy_fault::{CopyFault, fault_of};
 use crate::files::FileBooks;
 use crate::sql_store::SqlStore;
@@ -99,21 +99,28 @@ fn check_names(books: &mut FileBooks, names: &[Text]) -> Result<(), CopyFault> {
     Ok(())
 }
 
-/// Copies the books but those with these names into the file at the path `making`, and then gives
-/// it the name `target`. After an error nothing is at either path.
+/// Whether both paths lead to one file.
+fn are_same_file(rt: &HostRuntime, a: &str, b: &str) -> bool {
+    match (fs::canonicalize(rt, a), fs::canonicalize(rt, b)) {
+        (Ok(a), Ok(b)) => a.as_str() == b.as_str(),
+        _ => false,
+    }
+}
+
+/// Copies the books of the file at the path `path` but those with these names into the file at
+/// `making`, and then gives it the name `target`. After an error nothing is at either of these.
 fn make_file(
     rt: &HostRuntime,
     books: &mut FileBooks,
     names: &[Text],
+    path: &str,
     making: &str,
     target: &str,
 ) -> Result<u64, CopyFault> {
-    let Ok(log) = format!(in rt.alloc(); "{making}-wal") else {
-        return Err(CopyFault::Open(OpenFault::Memory));
-    };
+    let log = log_of(rt, making)?;
     // What a copy left that was stopped.
     remove_new(rt, making, log.as_str());
-    let connection = open_new(rt, making, log.as_str())?;
+    let connection = open_new(rt, path, making, log.as_str())?;
     let copied = books.copy_without(names, connection);
     let (files, count) = match copied {
         Ok(made) => made,
@@ -131,6 +138,19 @@ fn make_file(
             Err(CopyFault::Open(OpenFault::Store))
         }
     }
+}
+
+/// Tests the names, and makes the file.
+fn copy_rest(
+    rt: &HostRuntime,
+    books: &mut FileBooks,
+    names: &[Text],
+    path: &str,
+    making: &str,
+    target: &str,
+) -> Result<u64, CopyFault> {
+    check_names(books, names)?;
+    make_file(rt, books, names, path, making, target)
 }
 
 impl SqlStore<FileStore<FileFrom<Unknown>>> {
@@ -151,16 +171,20 @@ impl SqlStore<FileStore<FileFrom<Unknown>>> {
         if names.is_empty() {
             return Ok(SqlStore::copy_file(rt, path, target)?);
         }
-        let Ok(log) = format!(in rt.alloc(); "{target}-wal") else {
-            return Err(CopyFault::Open(OpenFault::Memory));
-        };
+        let log = log_of(rt, target)?;
         let Ok(making) = format!(in rt.alloc(); "{target}.copying") else {
             return Err(CopyFault::Open(OpenFault::Memory));
         };
         check_free(rt, target)?;
         check_free(rt, log.as_str())?;
+        if are_same_file(rt, path, making.as_str()) {
+            return Err(CopyFault::Open(OpenFault::NotEmpty));
+        }
+        let old_log = log_of(rt, path)?;
+        let had_log = fs::exists(rt, old_log.as_str()).unwrap_or(true);
         let mut books = SqlStore::open(rt, path, Limits::standard())?;
-        check_names(&mut books, names)?;
-        make_file(rt, &mut books, names, making.as_str(), target)
+        let copied = copy_rest(rt, &mut books, names, path, making.as_str(), target);
+        forget_log(rt, had_log, old_log.as_str());
+        copied
     }
 }
