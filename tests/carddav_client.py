@@ -247,6 +247,12 @@ class Stack:
         with open(f"/proc/{self.gateway.pid}/status", encoding="ascii") as file:
             return int(re.search(r"VmHWM:\s+(\d+) kB", file.read())[1]) * 1024
 
+    def processor_time(self):
+        """The seconds of processors that the gateway has had."""
+        with open(f"/proc/{self.gateway.pid}/stat", encoding="ascii") as file:
+            words = file.read().rpartition(")")[2].split()
+        return (int(words[11]) + int(words[12])) / os.sysconf("SC_CLK_TCK")
+
     def client(self, user="ann", **more):
         return Client(self.place, user, **more)
 

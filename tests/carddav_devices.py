@@ -175,17 +175,17 @@ class Device:
 class Phone(Device):
     """A phone: a copy by path, a token, and requests that carry the ETag which it saw."""
 
-    user = "ann"
+    user, agent, refused = "ann", "", 403  # the status of a token that is refused
 
     def __init__(self, name, ledger, seed, place, version):
         super().__init__(name, ledger, seed)
         self.version, self.copy, self.token = version, {}, ""
-        self.dav = Client(place, self.user, program=f"{name}/1.0")
+        self.dav = Client(place, self.user, program=self.agent or f"{name}/1.0")
 
     def pull(self):
         """As a phone does it. Raises OSError if it isn't answered."""
         reply = self.asked(lambda: self.dav.sync(STAFF, self.token, self.random.choice([None, 3])))
-        if reply.status == 403:
+        if reply.status == self.refused:
             assert reply.reason[0] == "valid-sync-token", reply
             self.copy, self.token = {}, ""
             return self.pull()
@@ -264,6 +264,22 @@ class CategoryPhone(Phone):
         lines = [it for it in lines_of(text) if not it.startswith("CATEGORIES:")]
         lines[-1:-1] = ["CATEGORIES:" + ",".join(sorted(names))] if names else []
         return self.put(uid, "".join(it + "\r\n" for it in lines))
+
+
+class Unseeing(Phone):
+    """Thunderbird: it changes cards without a condition, keeps lines that it doesn't know, and reads
+    a card again after it has sent it."""
+
+    agent = "Mozilla/5.0 (X11; Linux x86_64; rv:153.0) Gecko/20100101 Thunderbird/153.8.0"
+    refused = 400
+
+    def put(self, uid, text):
+        path = self.paths[uid]
+        is_done = self.sent("PUT", path, text)
+        got = self.asked(lambda: self.dav.ask("GET", quote(path)))
+        if got.status == 200:
+            self.copy[path] = got.etag, got.text
+        return is_done
 
 
 class Api(Device):

@@ -119,6 +119,8 @@ connect
       --max-open <M>      Maximum number of connections open at once, 1 to 1000 [default: 256]
       --idle-timeout <S>  Seconds after which an idle connection is closed, or one whose request \
 headers are incomplete, 1 to 3600 [default: 60]
+      --max-held <MIB>    Maximum memory for long requests and replies that are on their way, in \
+MiB, 16 to 1024; one by itself may have more [default: 64]
       --create            Create the file if it isn't there
       --log               Print a line for each request on standard error when it is answered
       --site <DIR>        A folder whose files are served at / and below, beside the books at \

@@ -9,15 +9,16 @@ from carddav_client import SPACES, STAFF, GatewayTest, card3
 from histories import UIDS, Drawing
 from http_requests import card
 from model.cards import read_card
+from program import Folder
 
 import vcard3
-from gateway import cards
+from gateway import cards, unseen
 from gateway.books import Shelf
 from gateway.dav import Dav
 from gateway.messages import Request
 from gateway.office import Offices
 from gateway.photos import Photos
-from gateway.state import State
+from gateway.state import Row, State
 from tosculai import Unreachable, lines_of, same
 
 
@@ -99,6 +100,60 @@ class Merges(unittest.TestCase):
         base = card("a", "Ann", "TEL:1", "TEL:1")
         once = cards.written(base, False).replace("TEL:1\r\n", "", 1)
         self.assertEqual(1, self.newer(once, base).count("TEL:1"))
+
+
+class Unseen(unittest.TestCase):
+    """An edit of what was read some versions ago is as if the newest card had been read."""
+
+    def newer(self, text, base):
+        return cards.newer(text, base, nobody, "new", nobody)
+
+    def edit(self, text, gone, more):
+        lines = [it for it in lines_of(text) if it not in gone]
+        return "".join(it + "\r\n" for it in [*lines[:-1], *more, lines[-1]])
+
+    def test_random_edits(self):
+        for form in "3.0", "4.0":
+            drawing, as4 = Drawing("unseen " + form), form == "4.0"
+            for drawing.drawn in range(60):
+                base = read_card(drawing.text(drawing.random.choice(UIDS))).text.decode()
+                read = cards.written(base, as4)
+                lines = [it for it in lines_of(read)
+                         if unseen.said_by(it) and cards.name_of(it) not in unseen.ONCE]
+                drawing.random.shuffle(lines)
+                theirs, own = lines[:1], lines[1:2]
+                if {cards.key_of(it) for it in theirs} & {cards.key_of(it) for it in own}:
+                    continue  # two edits of one line
+                with self.subTest(form=form, base=base, theirs=theirs, own=own):
+                    now = self.newer(self.edit(read, theirs, ["NOTE:others"]), base)
+                    seen = cards.written(now, as4)
+                    text = self.edit(unseen.with_line(read, 1), own, ["TEL:+99"])
+                    said = unseen.read_by(text).said
+                    wanted = self.newer(self.edit(seen, own, ["TEL:+99"]), now)
+                    for _ in range(2):  # also if it is sent twice
+                        now = self.newer(unseen.edited(text, said, seen), now)
+                        self.assertEqual(sorted(lines_of(wanted)), sorted(lines_of(now)))
+                        seen = cards.written(now, as4)
+
+    def test_nobody_else_has_edited(self):
+        """Then what the program sends is taken as it is."""
+        text = unseen.with_line(cards.written(card("a", "Ann", "TEL:+1", "NOTE:n"), False), 1)
+        sent = self.edit(text, ["NOTE:n"], ["TEL:+1", "X-NEW:1"])
+        self.assertEqual(sent, unseen.edited(sent, unseen.read_by(sent).said,
+                                             cards.written(card("a", "Ann", "TEL:+1", "NOTE:n"),
+                                                           False)))
+
+    def test_many_lines(self):
+        """A card with too many lines for the line has none, and the cost is that of its lines."""
+        lines = [f"TEL:+{it}" for it in range(1_900)]
+        text = unseen.with_line(card("a", "Ann", *lines), 1)
+        begun = time.process_time()
+        made = unseen.edited(self.edit(text, lines[:900], []), unseen.read_by(text).said,
+                             card("a", "Ann", *lines, "TEL:+n"))
+        self.assertEqual([*lines[900:], "TEL:+n"], lines_of(made)[-1_002:-1])
+        self.assertLess(time.process_time() - begun, 5)  # it takes a fifth of one
+        text = card("a", "Ann", *(f"TEL:+{it}" for it in range(2_000)))
+        self.assertEqual(text, unseen.with_line(text, 1))
 
 
 class LeftOut(unittest.TestCase):
@@ -215,6 +270,20 @@ class States(unittest.TestCase):
         self.assertRegex(names[1], r"^[0-9a-f]{32}\.vcf$")
         state.assign(1, ["A", "a"])
         self.assertEqual("a.vcf", state.name(1, "a"))
+
+    def test_another_form_of_cards(self):
+        """ETags of before are those of other texts, so each program lists all cards again; once."""
+        with Folder() as folder:
+            path, epochs = str(folder / "names.db"), []
+            for form, token in [("1", ""), ("1", "token"), ("2", ""), ("2", "token")]:
+                with mock.patch("gateway.state.FORM", form):
+                    state = State(path)
+                self.assertEqual(token, state.token(1))
+                state.apply(1, [Row("a", 1, '"1-x"', "text")], "token")
+                epochs.append(state.epoch)
+                state.close()
+            self.assertEqual([True, False, True],
+                             [it == other for it, other in zip(epochs, epochs[1:])])
 
     def test_a_name_is_given_and_taken_back(self):
         state = State(":memory:")

@@ -3,6 +3,7 @@
 import base64
 import io
 import os
+import re
 import sys
 import unittest
 import warnings
@@ -186,7 +187,7 @@ class Users(unittest.TestCase):
     def test_lines_for_nginx(self):
         """The map is that of examples/nginx.conf."""
         users = [("admin", "*:rw"), ("ann", "staff:rw clients:rw"), ("bob", "staff:rw clients:r"),
-                 ("hall.x", "staff:r")]
+                 ("hall.x", "staff:r"), ("zoe", "*:rw clients:r staff:r own:rw")]
         accounts.write(str(self.state / "users"), {
             name: accounts.Account("hash", accounts.rights_of(rights.split()))
             for name, rights in users})
@@ -196,9 +197,23 @@ class Users(unittest.TestCase):
             '"~^admin \\S+ \\S* \\S+$" 1;',
             '"~^ann \\S+ (clients|staff) (clients|staff|_)$" 1;',
             '"~^bob \\S+ (staff) (staff|_)$" 1;', '"~^bob GET (clients|staff) _$" 1;',
-            '"~^hall\\.x GET (staff) _$" 1;'], out.splitlines())
+            '"~^hall\\.x GET (staff) _$" 1;',
+            # The first line that fits counts, as in nginx.
+            '"~^zoe (?!GET )\\S+ (clients|staff) \\S+$" 0;', '"~^zoe \\S+ \\S* (clients|staff)$" 0;',
+            '"~^zoe \\S+ \\S* \\S+$" 1;', '"~^zoe \\S+ (own) (own|_)$" 1;',
+            '"~^zoe GET (clients|own|staff) _$" 1;'], out.splitlines())
+        lines = [re.fullmatch('"~(.*)" ([01]);', it).groups() for it in out.splitlines()]
+        for asked, wanted in [
+            ("zoe GET staff _", "1"), ("zoe PUT staff _", "0"), ("zoe PUT own _", "1"),
+            ("zoe PUT other _", "1"), ("zoe GET  _", "1"), ("zoe POST own staff", "0"),
+            ("zoe POST staff own", "0"), ("zoe POST own other", "1"), ("zoex GET own _", ""),
+            ("bob PUT clients _", ""), ("bob POST staff clients", ""), ("bob GET clients _", "1"),
+            ("ann POST staff clients", "1"), ("ann POST staff other", ""),
+        ]:
+            allowed = next((it for line, it in lines if re.search(line, asked)), "")
+            self.assertEqual(wanted, allowed, asked)
         self.assertIn('"~^hall GET staff _$"', (ROOT / "examples/nginx.conf").read_text())
-        self.assertEqual("admin:hash\nann:hash\nbob:hash\nhall.x:hash\n",
+        self.assertEqual("admin:hash\nann:hash\nbob:hash\nhall.x:hash\nzoe:hash\n",
                          run("--state", self.state, "--nginx", "passwords")[1])
 
     def test_a_wrong_file(self):

@@ -1,7 +1,7 @@
 """Phones and an office change one book at the same time, while both processes are killed.
 
 Three phones (one of vCard 3.0 that drops what it doesn't know, one of 4.0, one whose groups are
-categories) and the desk add numbers to cards, take numbers away, add and remove cards, and put
+categories), Thunderbird, which changes cards without a condition, and the desk add numbers to cards, take numbers away, add and remove cards, and put
 people into groups and out of them. The desk edits older copies, and puts edits together by its own
 merge. Meanwhile the gateway and the server are killed and started again, the book forgets removals,
 and the file is resynced. In the end all copies are equal, and each edit that got its 2xx is there,
@@ -18,7 +18,8 @@ import unittest
 
 from carddav_client import CATEGORIES, STAFF, Stack
 from carddav_desk import Merger
-from carddav_devices import OFFICE, CategoryPhone, Desk, Ledger, Phone, categories, numbers, teams
+from carddav_devices import (OFFICE, CategoryPhone, Desk, Ledger, Phone, Unseeing, categories,
+                             numbers, teams)
 from http_requests import card
 from program import Folder
 from python_client import office
@@ -28,7 +29,10 @@ from tosculai import Conflict, Error, lines_of
 
 EDITS = 12  # that each device of a seed has to get acknowledged
 KILLS = 6  # of processes, at least, and requests to forget
-PATIENCE = 60  # seconds that this may take on a busy machine
+AHEAD = 8  # changes by which the desk, which needs no gateway, is ahead of the slowest phone
+BETWEEN = 2  # acknowledged edits of phones between two kills, or
+PAUSE = 20  # seconds
+PATIENCE = 240  # seconds that this may take on a busy machine
 
 
 class Random(unittest.TestCase):
@@ -50,7 +54,8 @@ class Random(unittest.TestCase):
             ledger.made[uid] = True
         phones = [Phone("three", ledger, seed, stack.place, "3.0"),
                   Phone("four", ledger, seed, stack.place, "4.0"),
-                  CategoryPhone("cat", ledger, seed, stack.place, "3.0")]
+                  CategoryPhone("cat", ledger, seed, stack.place, "3.0"),
+                  Unseeing("thunderbird", ledger, seed, stack.place, "3.0")]
         desk = Desk("desk", ledger, seed, stack.server, merge)
         devices = [*phones, desk]
         faults = self.run_devices(devices, stack, random.Random(f"killer {seed}"), ledger)
@@ -70,6 +75,9 @@ class Random(unittest.TestCase):
                 except Exception as fault:
                     faults.append(f"{device.name}: {fault!r}")
                 time.sleep(device.pause)
+                while (device is devices[-1] and not is_over.is_set() and not faults
+                       and device.done > min(it.done for it in devices) + AHEAD):
+                    time.sleep(0.02)
 
         threads = [threading.Thread(target=live, args=(it,)) for it in devices]
         for it in threads:
@@ -79,6 +87,10 @@ class Random(unittest.TestCase):
         while time.monotonic() < end and not faults and (
                 kills < KILLS or any(it.done < EDITS for it in devices)):
             time.sleep(killer.uniform(0.1, 0.5))
+            done, until = sum(it.done for it in devices[:-1]), min(end, time.monotonic() + PAUSE)
+            while (sum(it.done for it in devices[:-1]) < done + BETWEEN
+                   and time.monotonic() < until and not faults):
+                time.sleep(0.02)
             killer.choice(harms)()
             kills += 1
         is_over.set()
@@ -97,7 +109,8 @@ class Random(unittest.TestCase):
         """All copies have what the server has, and the server has what the ledger wants."""
         fresh = [Phone("fresh3", ledger, 0, stack.place, "3.0"),
                  Phone("fresh4", ledger, 0, stack.place, "4.0"),
-                 CategoryPhone("freshcat", ledger, 0, stack.place, "3.0")]
+                 CategoryPhone("freshcat", ledger, 0, stack.place, "3.0"),
+                 Unseeing("freshbird", ledger, 0, stack.place, "3.0")]
         phones[2].pull()  # what a killed gateway has left is done by this
         desk.copy = {}
         desk.seen()
@@ -124,7 +137,8 @@ class Random(unittest.TestCase):
 
 
 class OneCard(unittest.TestCase):
-    """Five phones and the office edit one card, each until it is taken."""
+    """Five phones and the office edit one card, each until it is taken. Thunderbird edits it, too:
+    without a condition, and what it has read some edits ago."""
 
     EDITS = 10
 
@@ -149,6 +163,17 @@ class OneCard(unittest.TestCase):
             faults += [] if reply.status == 204 else [reply]
         dav.close()
 
+    def thunderbird(self, stack, done, faults):
+        dav = stack.client(program=Unseeing.agent)
+        for number in range(self.EDITS):
+            got = dav.ask("GET", STAFF + "a.vcf")
+            time.sleep(0.05)
+            line = f"TEL:+bird-{number}\r\nEND:VCARD"
+            reply = dav.ask("PUT", STAFF + "a.vcf", got.text.replace("END:VCARD", line))
+            done.append(f"+bird-{number}")
+            faults += [] if reply.status == 204 else [reply]
+        dav.close()
+
     def desk(self, stack, done):
         book, number = office(stack.server).book("staff"), 0
         while number < self.EDITS:
@@ -167,12 +192,13 @@ class OneCard(unittest.TestCase):
         threads = [threading.Thread(target=self.phone, args=(stack, it, done, faults))
                    for it in range(5)]
         threads.append(threading.Thread(target=self.desk, args=(stack, done)))
+        threads.append(threading.Thread(target=self.thunderbird, args=(stack, done, faults)))
         for it in threads:
             it.start()
         for it in threads:
             it.join()
         self.assertEqual([], faults)
-        self.assertEqual(6 * self.EDITS, len(done))
+        self.assertEqual(7 * self.EDITS, len(done))
         text = staff.get("a").text
         self.assertEqual(set(done), numbers(text))
         for line in OFFICE:

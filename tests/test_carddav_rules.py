@@ -3,11 +3,12 @@
 Each wanted status and element is that of RFC 4918, 6352, 6578 or 9110.
 """
 
+import base64
 import threading
 import unittest
 from urllib.parse import quote
 
-from carddav_client import C, CLIENTS, CS, D, STAFF, Client, GatewayTest, card3
+from carddav_client import C, CATEGORIES, CLIENTS, CS, D, STAFF, Client, GatewayTest, card3
 from http_requests import card
 from test_python_client import HOSTILE
 
@@ -108,6 +109,199 @@ class Conditions(GatewayTest):
         new = self.dav.ask("GET", STAFF + "a.vcf").etag
         self.assertEqual(204, self.dav.ask("PUT", STAFF + "a.vcf", edited, If_Match=new).status)
         self.assertLess({"LANG:de", "TEL:+2"}, set(lines_of(self.staff.get("a").text)))
+
+
+class WithoutConditions(GatewayTest):
+    """Thunderbird changes cards without If-Match: others may have changed them since it read them.
+
+    It sends back lines that it doesn't know, reads a card again after it has sent it, and has a
+    copy of its own on each machine of a user.
+    """
+
+    AGENT = "Mozilla/5.0 (X11; Linux x86_64; rv:153.0) Gecko/20100101 Thunderbird/153.8.0"
+    PATH = STAFF + "a.vcf"
+    users = CATEGORIES
+
+    def setUp(self):
+        super().setUp()
+        self.thunderbird = self.stack.client(program=self.AGENT)
+        self.addCleanup(self.thunderbird.close)
+
+    def read(self, path=PATH, dav=None):
+        return (dav or self.thunderbird).multiget(STAFF, [path]).cards()[path]
+
+    def put(self, text, status=204, dav=None):
+        reply = (dav or self.thunderbird).ask("PUT", self.PATH, text)
+        self.assertEqual(status, reply.status, reply)
+        found = self.staff.find("a")
+        self.assertNotIn("TOSCULAI", found.text if found else "")
+        return lines_of(found.text) if found else []
+
+    def office(self, *lines, name="Ann"):
+        self.staff.put(card("a", name, *lines))
+
+    def test_edits_of_both_are_kept(self):
+        """Whatever others have done since, and whatever becomes of the gateway."""
+        for harm in (lambda: None, self.stack.restart, self.lose):
+            self.office("TEL:+1", "TEL:+9", "NOTE:old", "LANG:fr", "X-ODD:1")
+            text = self.read()
+            for line in "NOTE:old", "EMAIL:a@e.test":
+                self.office("TEL:+2", "TEL:+9", line, "LANG:de", "X-ODD:1", "X-NEW:1")
+                self.dav.sync(STAFF)
+            harm()
+            self.dav.close()
+            self.thunderbird.close()
+            text = text.replace("FN:Ann", "FN:Anna").replace("TEL:+9", "TEL:+8")
+            wanted = ["FN:Anna", "TEL:+2", "TEL:+8", "EMAIL:a@e.test", "LANG:de", "X-ODD:1",
+                      "X-NEW:1"]
+            for _ in range(2):  # the second time, since its reply was lost
+                self.assertEqual(sorted(wanted), sorted(self.put(text)[3:-1]))
+
+    def lose(self):
+        """The state is lost, but not its users."""
+        self.stack.kill_gateway()
+        for path in self.stack.state.glob("names.db*"):
+            path.unlink()
+        self.stack.start()
+
+    def test_two_machines_of_a_user(self):
+        """What one of them has read says nothing of the other."""
+        self.office("TEL:+1")
+        text = self.read()
+        self.office("TEL:+2")
+        other = self.stack.client(program=self.AGENT)
+        self.addCleanup(other.close)
+        self.assertIn("TEL:+2", self.read(dav=other))
+        lines = self.put(text.replace("FN:Ann", "FN:Anna"))
+        self.assertEqual(["FN:Anna", "TEL:+2"], lines[3:-1])
+
+    def test_both_change_one_line(self):
+        """Both numbers stay; of a name, which a card has once, the later one."""
+        self.office("TEL:+1", "N:Lee;Ann;;;")
+        text = self.read()
+        self.office("TEL:+2", "N:Lee;Anne;;;", name="Anne")
+        found = self.put(text.replace("Ann", "Anna").replace("TEL:+1", "TEL:+3"))
+        self.assertEqual(["FN:Anna", "N:Lee;Anna;;;", "TEL:+2", "TEL:+3"], sorted(found[3:-1]))
+
+    def test_what_it_has_read_it_may_take_back(self):
+        self.office("TEL:+1")
+        old = self.read()
+        self.office("TEL:+2")
+        self.assertEqual(["FN:Ann", "TEL:+1"],
+                         self.put(self.read().replace("TEL:+2", "TEL:+1"))[3:-1])
+        self.assertEqual(["FN:Ann", "TEL:+1"], self.put(old)[3:-1])
+
+    def test_two_lines_that_say_the_same(self):
+        for gone, rest in [("TEL:+1\r\n", 1), ("", 2)]:
+            self.office("TEL:+1", "TEL:+1")
+            text = self.read()
+            self.office("TEL:+1", "TEL:+1", "LANG:de")
+            lines = self.put(text.replace(gone, "", 1))
+            self.assertEqual((rest, 1), (lines.count("TEL:+1"), lines.count("LANG:de")))
+
+    def test_a_card_that_somebody_has_removed(self):
+        """It doesn't come back; but a copy of it under another UID is a card of its own."""
+        self.office("TEL:+1")
+        text = self.read()
+        self.assertEqual(204, self.dav.ask("DELETE", self.PATH).status)
+        self.put(text.replace("TEL:+1", "TEL:+2"), 412)
+        self.assertIsNone(self.staff.find("a"))
+        copy = text.replace("UID:a", "UID:b")
+        self.assertEqual(201, self.thunderbird.ask("PUT", STAFF + "b.vcf", copy).status)
+        self.assertEqual(201, self.thunderbird.ask("PUT", CLIENTS + "a.vcf", text).status)
+        for book, uid in (self.staff, "b"), (self.clients, "a"):
+            self.assertEqual(lines_of(card(uid, "Ann", "TEL:+1", "N:Ann;;;;")),
+                             lines_of(book.get(uid).text))
+
+    def test_groups_that_are_categories(self):
+        """Each name is a thing of its own: one joins, another leaves, others change the rest."""
+        cat = self.stack.client("cat", program=self.AGENT)
+        self.addCleanup(cat.close)
+        self.office("CATEGORIES:Own,Old")
+        for uid, members in ("one", ["a"]), ("two", ["a"]), ("three", []), ("four", []):
+            self.staff.put(card(uid, uid, "KIND:group", *(f"MEMBER:{it}" for it in members)))
+        text = self.read(dav=cat)
+        self.assertIn("CATEGORIES:Own,Old,one,two", lines_of(text))
+        self.office("CATEGORIES:Own,New", "TEL:+1")
+        for uid, members in ("one", []), ("three", ["a"]):
+            self.staff.put(card(uid, uid, "KIND:group", *(f"MEMBER:{it}" for it in members)))
+        lines = self.put(text.replace("Own,Old,one,two", "Own,Old,one,four"), dav=cat)
+        self.assertEqual(["FN:Ann", "CATEGORIES:Own,New", "TEL:+1"], lines[3:-1])
+        self.assertEqual({"one": [], "two": [], "three": ["a"], "four": ["a"]},
+                         {it: self.staff.people(it)[0] for it in ("one", "two", "three", "four")})
+        names = lines_of(self.read(dav=cat))
+        self.assertIn("CATEGORIES:Own,New,four,three", names)
+
+    def test_categories_of_a_card(self):
+        for new, wanted in [("B", "B,D"), ("", "D"), ("A,B,C", "B,D,C")]:
+            self.office("CATEGORIES:A,B")
+            text = self.read().replace("CATEGORIES:A,B\r\n", f"CATEGORIES:{new}\r\n" if new else "")
+            self.office("CATEGORIES:B,D")
+            self.assertEqual([f"CATEGORIES:{wanted}"], self.put(text)[4:-1])
+
+    def test_photos(self):
+        """A photo that nobody edits stays, and one that others have changed or removed stays so,
+        also if it is kept beside the card."""
+        for size in 3_000, 100_000, 400_000:
+            old, new = (["PHOTO;ENCODING=b;TYPE=JPEG:" + base64.b64encode(
+                bytes(it * by % 251 for it in range(size))).decode()] for by in (3, 5))
+            cases = {f"p{at}-{size}": it for at, it in enumerate((old, new, []))}
+            paths = {uid: f"{STAFF}{uid}.vcf" for uid in cases}
+            for uid, path in paths.items():
+                self.dav.ask("PUT", path, card3(uid, "Ann", "TEL:+1", *old))
+            texts = {uid: self.read(path) for uid, path in paths.items()}
+            self.stack.restart()
+            self.thunderbird.close()
+            self.dav.close()
+            for uid, photos in cases.items():
+                path = paths[uid]
+                self.assertEqual(204, self.dav.ask("PUT", path, card3(uid, "Ann", "TEL:+2",
+                                                                      *photos)).status)
+                text = texts[uid].replace("FN:Ann", "FN:Anna")
+                self.assertEqual(204, self.thunderbird.ask("PUT", path, text).status)
+                lines = lines_of(self.dav.ask("GET", path).text)
+                self.assertLessEqual({"FN:Anna", "TEL:+2"}, set(lines))
+                self.assertEqual(photos, [it for it in lines if it.startswith("PHOTO")])
+
+    def test_the_line(self):
+        """Thunderbird alone gets it, in each card that it reads as a whole, and no ETag after a
+        put: what it has sent isn't what it would read."""
+        self.office("TEL:+1")
+        for text in (self.read(), self.thunderbird.ask("GET", self.PATH).text,
+                     self.thunderbird.sync(STAFF, props="<C:address-data/>").cards()[self.PATH]):
+            self.assertIn("\r\nX-TOSCULAI-READ:", text)
+        self.assertNotIn("TOSCULAI", self.read(dav=self.dav))
+        part = '<C:address-data><C:prop name="TEL"/></C:address-data>'
+        self.assertNotIn("TOSCULAI", self.thunderbird.multiget(STAFF, [self.PATH], part).text)
+        size = self.thunderbird.propfind(self.PATH, "<D:getcontentlength/>").prop(
+            self.PATH, D + "getcontentlength").text
+        self.assertEqual(size, str(len(self.thunderbird.ask("GET", self.PATH).body)))
+        reply = self.thunderbird.ask("PUT", self.PATH, self.read().replace("+1", "+2"))
+        self.assertEqual((204, None), (reply.status, reply.fields["ETag"]))
+
+    def test_lines_that_say_nothing(self):
+        """Of what isn't the gateway's own line nothing is believed, and it is never stored."""
+        self.office("TEL:+1")
+        text = self.read()
+        line = next(it for it in lines_of(text) if it.startswith("X-TOSCULAI-READ"))
+        self.office("TEL:+2")
+        for other in ("X-TOSCULAI-READ:", line[:-1], line + "!", line + "\r\n" + line,
+                      line.replace(":3-", ":3"), "X-TOSCULAI-READ:" + "A" * 100_000):
+            with self.subTest(other[:60]):
+                lines = self.put(text.replace("\r\n ", "").replace(line, other))
+                self.assertEqual(["FN:Ann", "TEL:+1"], lines[3:-1])
+        old = text.replace("\r\n ", "").replace("X-TOSCULAI-READ:", "X-TOSCULAI-READ:9")
+        self.put(old.replace("TEL:+1", "TEL:+3"), 412)
+        self.assertIn("TEL:+1", self.put(old.replace("X-TOSCULAI-READ:9", "X-OTHER:")))
+
+    def test_respelled_lines_are_no_edits(self):
+        self.office("TEL;TYPE=home:+1", "NICKNAME:a\\,b", "X-ODD:1")
+        text = self.read().replace("\r\n ", "").replace("TEL;TYPE=home", "TEL;VALUE=TEXT;TYPE=HOME")
+        self.office("TEL;TYPE=home:+2", "NICKNAME:a\\,b", "X-ODD:1")
+        text = text.replace("X-TOSCULAI-READ:", "x-tosculai-read;value=unknown:")
+        lines = self.put(text.replace("a\\,b", "a,b").replace("END:", "NOTE:new\r\nEND:"))
+        self.assertEqual({"FN:Ann", "TEL;TYPE=home:+2", "NICKNAME:a\\,b", "X-ODD:1", "NOTE:new"},
+                         set(lines[3:-1]))
 
 
 class Names(GatewayTest):
@@ -297,6 +491,9 @@ class Queries(GatewayTest):
         ]:
             reply = self.dav.query(STAFF, inside)
             self.assertEqual((403, (element, True)), (reply.status, reply.reason))
+        many = '<C:prop-filter name="FN"><C:text-match>x</C:text-match></C:prop-filter>' * 200
+        reply = self.dav.query(STAFF, f"<C:filter>{many}</C:filter>")
+        self.assertEqual((403, ("supported-filter", True)), (reply.status, reply.reason))
         for data in ('<C:address-data content-type="text/vcard" version="2.1"/>',
                      '<C:address-data content-type="application/json" version="3.0"/>'):
             reply = self.dav.multiget(STAFF, [STAFF + "a.vcf"], data)

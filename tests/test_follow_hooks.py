@@ -111,23 +111,31 @@ class Who(FollowTest):
     def line(self, method, target, more="", status=200):
         return f"request {method} {target} status {status} octets 1 microseconds 2{more}\n"
 
+    def put_by(self, user, version):
+        """What a line ends with that has a user and a reply."""
+        return f' user {user} reply {{"put":"edited","version":{version}}}'
+
     def test_lines(self):
         def change(line):
             return [tuple(it) for it in authors.changes_of(line.strip())]
 
-        put = self.line("PUT", "/books/staff/cards/a%2Fb", " user ann version 7", 201)
-        both = [("staff", "a", True, None, "ann"), ("clients", "a", False, None, "ann")]
+        put = self.line("PUT", "/books/staff/cards/a%2Fb", self.put_by("ann", 7), 201)
+        both = [("staff", "a", True, 5, "ann"), ("clients", "a", False, 1, "ann")]
         for line, wanted in [
             (put, [("staff", "a/b", False, 7, "ann")]),
             ("Nov 27 03:12:00 host contacts[123]: " + put, [("staff", "a/b", False, 7, "ann")]),
             (self.line("PUT", "/books/staff/cards/a?version=1"),
              [("staff", "a", False, None, None)]),
-            (self.line("DELETE", "/books/staff/cards/a", " user -"),
-             [("staff", "a", True, None, None)]),
+            (self.line("DELETE", "/books/staff/cards/a", ' reply {"number":4}'),
+             [("staff", "a", True, 4, None)]),
+            (self.line("PUT", "/books/staff/cards/a", ' user ann reply {"put":"crea..'),
+             [("staff", "a", False, None, "ann")]),
+            (self.line("PUT", "/books/staff/cards/a", ' user Zo\\xc3\\xab\\x20Q reply {}'),
+             [("staff", "a", False, None, "Zoë Q")]),
             (self.line("PUT", "/books/staff/cards/\\xc3\\xa9", " user ann"),
              [("staff", "é", False, None, "ann")]),
-            (self.line("POST", "/books/staff/cards/a/move?version=1&to=clients", " user ann"),
-             both),
+            (self.line("POST", "/books/staff/cards/a/move?version=1&to=clients",
+                       ' user ann reply {"from":5,"version":1}'), both),
             (self.line("POST", "/books/staff/import?key=k", " user ann"),
              [("staff", None, False, None, "ann")]),
             (self.line("PUT", "/books/staff/cards/a", " user ann", 412), []),
@@ -154,12 +162,12 @@ class Who(FollowTest):
         target = "/books/staff/cards/a"
         for at, (text, lines, who) in enumerate([
             ("Ann", [], None),
-            ("B", [(" user ann version 2",)], "ann"),
-            ("C", [(" user bob version 3",), (" user eve",)], "bob"),
+            ("B", [(self.put_by("ann", 2),)], "ann"),
+            ("C", [(self.put_by("bob", 3),), (" user eve",)], "bob"),
             ("D", [(" user cy",)], "cy"),
             ("E", [(" user cy",), (" user eve",)], None),
             ("F", [("",)], None),
-            ("G", [(" user eve version 99",)], None),
+            ("G", [(self.put_by("eve", 99),)], None),
         ], 1):
             self.staff.put(card("a", text))
             add(*(self.line("PUT", target, *more) for more in lines))
@@ -168,7 +176,7 @@ class Who(FollowTest):
             self.assertEqual((at, card("a", text), who), self.listed()[-1])
         log.rename(self.folder / "log.1")  # the log is rotated
         self.staff.put(card("a", "H"))
-        add(self.line("PUT", target, " user ann version 8"))
+        add(self.line("PUT", target, self.put_by("ann", 8)))
         with redirect_stdout(io.StringIO()):
             follower.round()
         self.assertEqual("ann", self.listed()[-1][2])

@@ -52,11 +52,13 @@ def split_replies(octets):
     return replies
 
 
-def line_of(method, target, reply):
+def line_of(method, target, reply, user=b""):
     """The pattern of the line for a request with this reply."""
     words = b"request %s %s status %s octets %d microseconds " % (
         method.encode(), target, reply[9:12], len(reply))
-    return re.escape(words) + rb"[0-9]+\n"
+    changed = method in ("PUT", "POST", "DELETE")
+    more = b" reply " + reply.partition(b"\r\n\r\n")[2] if changed else b""
+    return re.escape(words) + rb"[0-9]+" + re.escape(user + more) + rb"\n"
 
 
 class Log(OrderTest):

@@ -5,6 +5,7 @@ What has to be there afterwards is written by hand, or read by sqlite3 from the 
 
 import json
 import signal
+import stat
 import subprocess
 import time
 import unittest
@@ -25,6 +26,10 @@ def bodies(replies):
 
 def ask(file, *requests):
     return bodies(serve(file, *requests))
+
+
+def mode_of(path):
+    return stat.S_IMODE(path.stat().st_mode)
 
 
 class RestoreTest(unittest.TestCase):
@@ -111,6 +116,80 @@ class Restores(RestoreTest):
                          [it for it in self.names() if not it.endswith("-wal")])
         self.assertEqual(0, run("verify", self.kept()).status)
 
+    def test_again(self):
+        """A second restore of the same copy takes no number that the first one took."""
+        self.lay()
+        self.assertEqual(0, self.restore().status)
+        *_, lost = ask(self.file, put("staff", "e", "Eve"), put("young", "z", "Zed"), sync("staff"))
+        self.assertEqual(f"{SYNC}1/1000003/1000003", lost["token"])
+        self.assertEqual(0, self.restore().status)
+        staff, young, page, other = ask(self.file, sync("staff", "1/1000003/1000003"),
+                                        sync("young", "2/1000001/1000001"), sync("staff"),
+                                        sync("young"))
+        self.assertEqual([TOO_OLD, TOO_OLD], [staff, young])
+        self.assertEqual({"a": 1, "b": 2}, {it["uid"]: it["version"] for it in page["members"]})
+        for it, least in (page, 1_000_003), (other, 1_000_001):
+            self.assertGreater(int(it["token"].rpartition("/")[2]), least)
+
+    def test_small_skip(self):
+        """Each book passes the numbers of the file, however few are to be skipped."""
+        self.lay()
+        self.assertEqual(0, self.restore("--skip", 2).status)
+        staff, young = ask(self.file, sync("staff", "1/5/5"), sync("young", "2/1/1"))
+        self.assertEqual([TOO_OLD, TOO_OLD], [staff, young])
+
+    def test_back(self):
+        """What was kept is put back, and devices of the time between start again, too."""
+        self.lay()
+        self.assertEqual(0, self.restore().status)
+        ask(self.file, put("staff", "e", "Eve"))
+        self.backup = self.kept()
+        self.assertEqual(0, self.restore().status)
+        refused, page = ask(self.file, sync("staff", "1/1000003/1000003"), sync("staff"))
+        self.assertEqual(TOO_OLD, refused)
+        self.assertEqual({"a", "b", "c", "d"}, {it["uid"] for it in page["members"]})
+
+    def test_access(self):
+        """The new file and what is kept have the mode of the old file; without one, the copy's."""
+        self.lay()
+        for it in self.file, log_of(self.file):
+            if it.exists():
+                it.chmod(0o600)
+        self.backup.chmod(0o644)
+        self.assertEqual(0, self.restore().status)
+        self.assertEqual([0o600, 0o600], [mode_of(self.file), mode_of(self.kept())])
+        for it in self.folder.glob("office.db*"):
+            it.unlink()
+        self.backup.chmod(0o640)
+        self.assertEqual(0, self.restore().status)
+        self.assertEqual(0o640, mode_of(self.file))
+
+    def test_link(self):
+        """A link stays one, and the file that it leads to is replaced."""
+        self.lay()
+        link = self.folder / "link.db"
+        link.symlink_to("office.db")
+        ended = run("restore", self.backup, link)
+        self.assertEqual(0, ended.status)
+        self.assertTrue(link.is_symlink())
+        self.assertEqual({"staff", "young", "clients"},
+                         {it["name"] for it in ask(self.file, books())[0]["books"]})
+
+    def test_log_without_its_file(self):
+        """It is kept, since changes may be in it."""
+        self.lay()
+        for octets in None, b"":
+            with self.subTest(octets):
+                for it in self.folder.glob("office.db*"):
+                    it.unlink()
+                if octets is not None:
+                    self.file.write_bytes(octets)
+                log_of(self.file).write_bytes(b"a log")
+                kept = log_of(self.kept())
+                self.assertEqual(self.printed(f"kept {kept}", "restored 1"), self.restore())
+                self.assertEqual(b"a log", kept.read_bytes())
+                self.assertEqual(0, run("verify", self.file).status)
+
     def test_twice(self):
         """Each restore keeps what it replaces."""
         self.lay()
@@ -157,6 +236,15 @@ class Restores(RestoreTest):
         ended = self.restore()
         self.assertEqual(0, ended.status)
         self.assertEqual("no store", self.kept().read_text())
+
+    def test_leftover_is_the_copy(self):
+        """What a restore left that was stopped can be put back."""
+        self.lay()
+        leftover = self.folder / "office.db.restoring"
+        self.backup.rename(leftover)
+        self.backup = leftover
+        self.assertEqual(0, self.restore().status)
+        self.assertEqual(0, run("verify", leftover).status)
 
     def test_leftover(self):
         """What a restore left that was stopped is no obstacle."""
@@ -217,7 +305,10 @@ class Stops(RestoreTest):
         """A restore that is killed leaves the old file or the new one, whole."""
         self.lay()
         old = self.contents(self.file).rows
-        office, copied = self.file.read_bytes(), self.backup.read_bytes()
+        # One file that needs no log.
+        whole = self.folder / "whole.db"
+        self.assertEqual(0, run("copy", self.file, whole).status)
+        office, copied = whole.read_bytes(), self.backup.read_bytes()
         seen = set()
         for step in range(60):
             for it in self.folder.glob("office.db*"):

@@ -475,7 +475,8 @@ class Options(OrderTest):
         self.assertRegex(
             ended.err,
             rb"\A" + b"".join(lines)
-            + rb"request PUT /books/staff status 201 octets [0-9]+ microseconds [0-9]+\n\Z")
+            + rb"request PUT /books/staff status 201 octets [0-9]+ microseconds [0-9]+"
+            + rb' reply \{"id":1\}\n\Z')
 
     def test_without_the_log(self):
         server = self.start("--create")

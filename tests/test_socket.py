@@ -19,10 +19,9 @@ from dialogue import ServedTest, Talk
 from http_requests import books, card, create, get, put, request, tally
 from model.http import Session
 from order_trials import OrderTest
-from program import Ended, Server, run
+from program import Server, run
 from test_run import FOREIGN
 
-DEVICE = Ended(3, b"", b"fault device 1\n")
 PATH_MAX = 107  # octets of the path of a socket, by the system
 NAMES = ["--host", "office"]
 
@@ -93,8 +92,12 @@ class Files(SocketTest):
         self.assertEqual(0o660, mode_of(other))
 
     def refused(self, path="s"):
-        """A server that starts at the path ends, with nothing printed."""
-        self.assertEqual(DEVICE, self.start(path).end())
+        """A server that starts at the path ends, says why, and prints nothing."""
+        self.assert_device(self.start(path).end())
+
+    def assert_device(self, ended):
+        self.assertEqual((3, b""), (ended.status, ended.out))
+        self.assertRegex(ended.err, rb"\A[^\n]+\nfault device 1\n\Z")
 
     def test_other_files_are_left_alone(self):
         (self.folder / "file").write_bytes(b"Dear office,\n")
@@ -143,7 +146,7 @@ class Files(SocketTest):
         first = self.start()
         second = Server("b.db", order="run", more=["--create", "--socket", "s"], cwd=self.folder)
         self.addCleanup(second.kill)
-        self.assertEqual(DEVICE, second.end())
+        self.assert_device(second.end())
         self.assert_served(first)
         self.assertTrue((self.folder / "b.db").exists())
 
@@ -169,7 +172,9 @@ class Files(SocketTest):
         self.kill()
         self.path.unlink()
         server = Server("none.db", order="run", more=["--socket", "s"], cwd=self.folder)
-        self.assertEqual(Ended(3, b"", b"fault open 1\n"), server.end())
+        ended = server.end()
+        self.assertEqual((3, b""), (ended.status, ended.out))
+        self.assertTrue(ended.err.endswith(b"\nfault open 1\n"))
         self.assertFalse(self.path.exists())
 
     def test_no_port(self):
@@ -211,12 +216,28 @@ class Requests(SocketTest):
                 self.assertEqual(b"HTTP/1.1 %d" % status, server.ask(octets)[:12])
         self.assertIn(b'"cards":0,', server.ask(tally("staff")))
 
+    def test_who(self):
+        """The log names the user that the front server names, and not at a port."""
+        who = ["Host: office", "X-Remote-User: Zo\xeb Q"]
+        for more, said in [(["--socket", "s", "--host", "office"], rb" user Zo\\xc3\\xab\\x20Q"),
+                           (["--port", "0", "--host", "office"], b"")]:
+            with self.subTest(more):
+                server = Server("a.db", order="run", more=["--log", *more], cwd=self.folder)
+                self.addCleanup(server.kill)
+                for book in "staff", "clients":
+                    server.ask(request("PUT", f"/books/{book}", fields=who, host=False))
+                server.ask(request("DELETE", "/books/staff/cards/a", fields=who, host=False))
+                lines = server.stop().err.splitlines()
+                self.assertRegex(lines[-1], rb"microseconds [0-9]+" + said + rb" reply \{.*\}\Z")
+                self.assertIn(b'"fault":"no-such-card"', lines[-1])
+
     def test_the_log(self):
         server = self.start(more=["--log"])
         replies = [server.ask(octets) for octets in (create("staff"), books())]
         replies.append(server.ask(request("GET", "/books", fields=["Host: evil"], host=False)))
         ended = server.stop()
-        words = [b"request PUT /books/staff status 201 octets %d microseconds [0-9]+\n",
+        words = [b"request PUT /books/staff status 201 octets %d microseconds [0-9]+"
+                 b" reply \\{\"id\":1\\}\n",
                  b"request GET /books status 200 octets %d microseconds [0-9]+\n",
                  b"refused foreign-host 31 status 421 octets %d\n"]
         wanted = b"".join(it % len(reply) for it, reply in zip(words, replies))

@@ -112,7 +112,7 @@ class Verify(OrderTest):
     def test_no_other_fault_has_a_row(self):
         (self.folder / "text.db").write_bytes(b"no database at all")
         for name, words, number in [
-            ("none.db", b"there is no such file; contacts init none.db makes one", 1),
+            ("none.db", b"there is no such file", 1),
             ("text.db", b"it isn't a file of this program, or its log isn't beside it", 2),
         ]:
             with self.subTest(name):

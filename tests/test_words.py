@@ -19,7 +19,8 @@ IS_ROOT = os.geteuid() == 0
 NOBODY = 65_534
 FIRST_PORT = "/proc/sys/net/ipv4/ip_unprivileged_port_start"
 ROWS_MAX = 8_388_608
-INIT = "there is no such file; contacts init {0} makes one"
+MISSING = "there is no such file"
+INIT = MISSING + "; contacts init {0} makes one"
 TAKEN = "another program has it open"
 VCARD = "BEGIN:VCARD\r\nVERSION:4.0\r\nUID:a\r\nFN:Ann\r\nEND:VCARD\r\n"
 
@@ -75,8 +76,11 @@ class Words(OrderTest):
 
 class StoreFiles(Words):
     def test_missing(self):
-        self.for_each_order("a.db", "a.db: " + INIT.format("a.db"), "fault open 1")
-        self.assert_said(["migrate", "a.db"], "a.db: " + INIT.format("a.db"), "fault open 1")
+        """Who looks for the books of a file isn't told to make one without any."""
+        for arguments in ["tally", "a.db", "staff"], ["book", "a.db", "staff"], ["serve", "a.db"]:
+            self.assert_said(arguments, "a.db: " + INIT.format("a.db"), "fault open 1")
+        for order in "books", "verify", "resync":
+            self.assert_said([order, "a.db"], "a.db: " + MISSING, "fault open 1", always=True)
         self.assert_said(["run", "a.db"],
                          "a.db: there is no such file; contacts run a.db --create makes it",
                          "fault open 1", always=True)
@@ -186,8 +190,8 @@ class Copies(Words):
         self.assert_said(["copy", "a.db", "b.db"],
                          "b.db: something is there already; nothing was changed", "fault open 5",
                          always=True)
-        self.assert_said(["copy", "none.db", "c.db"], "none.db: " + INIT.format("none.db"),
-                         "fault open 1", always=True)
+        self.assert_said(["copy", "none.db", "c.db"], "none.db: " + MISSING, "fault open 1",
+                         always=True)
         self.assert_said(["copy", "a.db", "none/c.db"],
                          "none/c.db: there is no folder for it; make that first", "fault open 1",
                          always=True)
@@ -200,22 +204,28 @@ class Copies(Words):
         self.assert_said(["restore", "text.db", "a.db"],
                          "text.db: it isn't a file of this program, or its log isn't beside it",
                          "fault open 2", always=True)
-        self.assert_said(["restore", "none.db", "a.db"],
-                         "none.db: there is no such file", "fault open 1", always=True)
+        self.assert_said(["restore", "none.db", "a.db"], "none.db: " + MISSING, "fault open 1",
+                         always=True)
         with Server(self.folder / "a.db"):
             self.assert_said(["restore", "text.db", "a.db"], "a.db: " + TAKEN, "fault open 1",
                              always=True)
 
-    def test_resync(self):
-        self.assert_said(["resync", "a.db"], "a.db: " + INIT.format("a.db"), "fault open 1",
-                         always=True)
-
 
 class Sockets(Words):
-    """Why a server can't listen at a Unix socket."""
+    """Why a server can't listen at a Unix socket, or serve a folder."""
+
+    def test_site(self):
+        """It is said once."""
+        self.make_books()
+        self.assert_said(["run", "a.db", "--site", "none"], "none: no such folder",
+                         "fault device 1", always=True)
 
     def test_causes(self):
         self.make_books()
+        long = "x" * 108
+        self.assert_said(["run", "a.db", "--socket", long],
+                         f"{long}: a socket's path has at most 107 bytes; name a shorter one",
+                         "fault device 1", always=True)
         self.write({"taken": "a file"})
         self.assert_said(["run", "a.db", "--socket", "taken"],
                          "taken: something else is there; move it away, or name another path",

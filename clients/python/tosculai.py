@@ -95,6 +95,7 @@ class BadQuery(Refused, number=30): """The query is wrong."""
 class ForeignHost(Refused, number=31): """The URL's host is none of the server's names (--host)."""
 class ForeignSite(Refused, number=32): """A field says that a page of another site sends this."""
 class Precondition(Refused, number=33): """A field such as If-Match, in place of `version`."""
+class Busy(Refused, number=34): """The server holds as much as it may: ask again in a second."""
 
 
 class Card(NamedTuple):

@@ -91,6 +91,7 @@ FAULTS = {
     FOREIGN_HOST: (421, "foreign-host"),
     FOREIGN_SITE: (403, "foreign-site"),
     PRECONDITION: (501, "precondition"),
+    34: (503, "busy"),
 }
 
 

@@ -270,6 +270,11 @@ def nginx_map(users: Dict[str, Account]) -> str:
             continue
         user = re.escape(name)
         every = account.rights.get("*", "")
+        guarded = "|".join(re.escape(it) for it, right in sorted(account.rights.items())
+                           if right == "r" and it != "*")
+        if every == "rw" and guarded:  # these lines come first, so they count
+            lines.append(f'"~^{user} (?!GET )\\S+ ({guarded}) \\S+$" 0;')
+            lines.append(f'"~^{user} \\S+ \\S* ({guarded})$" 0;')
         if every == "rw":
             lines.append(f'"~^{user} \\S+ \\S* \\S+$" 1;')
         elif every:

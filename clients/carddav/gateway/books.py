@@ -12,7 +12,7 @@ from typing import Callable, Collection, Dict, Iterator, List, NamedTuple, Optio
 
 from tosculai import Card, InvalidToken, NoSuchBook, Page, lines_of
 
-from gateway import cards, files
+from gateway import cards, files, unseen
 from gateway.office import Offices
 from gateway.people import People
 from gateway.photos import Photos
@@ -231,19 +231,24 @@ class AddressBook:
                 self._people = people
             return self._people
 
-    def as_read(self, text: str, as4: bool, parts: Collection[str] = ()) -> str:
+    def as_read(self, text: str, as4: bool, parts: Collection[str] = (),
+                is_noted: bool = False) -> str:
         """A stored text as a program reads it, or these properties of it.
 
-        It has marks in place of large files; `Photos.filled` puts them in, piece by piece.
+        It has marks in place of large files; `Photos.filled` puts them in, piece by piece. If
+        `is_noted`, it says itself what was read (unseen.py).
         """
         bare = self.shelf.photos.shown(text)
         made = cards.written(bare, as4)
-        made = cards.partial(made, set(parts)) if parts else made
+        if parts:
+            made = cards.partial(made, set(parts))
+        elif is_noted:
+            made = unseen.with_line(made, self.number)
         return made if bare is text else files.with_whole_marks(lines_of(made))
 
-    def filled(self, text: str, as4: bool) -> Iterator[bytes]:
+    def filled(self, text: str, as4: bool, is_noted: bool = False) -> Iterator[bytes]:
         """A stored text as a program reads it, with its files."""
-        return self.shelf.photos.filled(self.as_read(text, as4))
+        return self.shelf.photos.filled(self.as_read(text, as4, (), is_noted))
 
     # Tokens of clients.
 

@@ -15,7 +15,7 @@ from typing import Callable, Dict, Hashable, List, Set
 import vcard3
 from tosculai import UID, lines_of, uid_of
 
-FORM = "2"  # changes with each change of what clients read of a card, since ETags depend on it
+FORM = "3"  # changes with each change of what clients read of a card, since ETags depend on it
 MEMBER = re.compile(r"((?:[\w-]+\.)?(?:X-ADDRESSBOOKSERVER-)?MEMBER(?:;[^:]*)?:)(.*)")
 URI = re.compile(r"[A-Za-z][A-Za-z0-9+.-]*:.")
 X_NAME = re.compile(r"X-[A-Z0-9-]+")
@@ -26,12 +26,16 @@ CACHED = 2048  # characters of a card whose 3.0 text is kept in memory
 LINE = re.compile(r"(?:[\w-]+\.)?[\w-]+(?:;[\w-]+=(?:\"[^\"]*\"|[^\";:,]*)"
                   r"(?:,(?:\"[^\"]*\"|[^\";:,]*))*)*:.*", re.DOTALL | re.ASCII)
 CONTROLS = re.compile(r"[\x00-\x08\x0a-\x1f\x7f]")
-# A line that only programs read: see `_with_shown`.
-SHOWN = "X-TOSCULAI-SHOWN"
+# Lines that only programs read: see `_with_shown`, and unseen.py.
+SHOWN, READ = "X-TOSCULAI-SHOWN", "X-TOSCULAI-READ"
 # Properties that each program shows and edits: one that is left out was removed by its user.
 COMMON = {"BEGIN", "END", "VERSION", "UID", "PRODID", "REV", "FN", "N", "NICKNAME", "TEL", "EMAIL",
           "ADR", "ORG", "TITLE", "NOTE", "URL", "BDAY", "PHOTO", "KIND", "MEMBER",
-          "X-ADDRESSBOOKSERVER-KIND", "X-ADDRESSBOOKSERVER-MEMBER", SHOWN}
+          "X-ADDRESSBOOKSERVER-KIND", "X-ADDRESSBOOKSERVER-MEMBER", SHOWN, READ}
+
+
+def is_version4(text: str) -> bool:
+    return re.search(r"^VERSION:\s*4\.0\s*$", text, re.MULTILINE | re.IGNORECASE) is not None
 
 
 class BadText(ValueError):
@@ -102,8 +106,8 @@ def newer(text: str, base: str, has: Callable[[str], bool], uid: str,
     whether the program would have sent a property of this name.
     """
     framed = _framed(text)
-    lines, shown = [it for it in framed if name_of(it) != SHOWN], _shown(framed)
-    as4 = "VERSION:4.0" in lines
+    lines = [it for it in framed if name_of(it) not in (SHOWN, READ)]
+    shown, as4 = _shown(framed), "VERSION:4.0" in lines
     _give_uid(lines, base, uid)
     if not any(name_of(it) == "FN" for it in lines):
         lines.insert(2, "FN:" + _made_name(lines))

@@ -3,7 +3,6 @@
 import itertools
 import re
 from typing import Callable, Dict, Iterator, List, Tuple
-from urllib.parse import urlsplit
 
 from tosculai import (BadCard, BookFull, ChangesSpent, Error, FrontAnswer, LostReply, NoSuchBook,
                       Refused, Unreachable)
@@ -14,7 +13,7 @@ from gateway.davxml import element, href, prop_status
 from gateway.edits import Conditions, Failed, UidInUse
 from gateway.files import Files, taken_out
 from gateway.messages import (NO_CARD, NO_DEPTH, NO_VERSION, QUOTA, RETRY_AFTER, TEXT, TOO_LARGE,
-                              UID_CONFLICT, XML, Fault, Reply, Request)
+                              UID_CONFLICT, XML, Fault, Reply, Request, parts_of)
 from gateway.photos import CARD_MAX, SHOWN, NoRoom
 from gateway.places import PREFIX, Place, check_name, may_write, path_of, place_of
 from gateway.properties import ALL, PROPERTIES, VCARD, Resource, dav, respond
@@ -28,6 +27,10 @@ WELL_KNOWN = "/.well-known/carddav"
 VERSION4 = re.compile(r"text/vcard\s*;\s*version=\"?4\.0", re.IGNORECASE)
 # In these each line has its octets of ASCII.
 LIKE_ASCII = ("utf-8", "utf8", "us-ascii", "ascii", "iso-8859-1", "iso-8859-15", "windows-1252")
+# Charsets that texts of people are in. Python knows more codecs, some of which take very long.
+CHARSETS = re.compile("(iso-8859-|windows-|cp|mac-?|koi8-|iso-2022-|euc-|utf-?16-?)[0-9a-z]{0,4}"
+                      "|utf-?8|us-ascii|ascii|macintosh|shift[-_]jis|big5|gb2312|gbk|gb18030"
+                      "|tis-620")
 CARD_TYPES = ("text/", "application/octet-stream", "application/vcard")
 # What is wrong with a card, by the cause that the server gives (docs/API.md).
 CAUSES = {2: "it isn't UTF-8", 3: "it has a control character", 4: "a line isn't one of a card",
@@ -94,7 +97,7 @@ class Dav:
         if "if-none-match" in request.fields and edits.matches(request.field("if-none-match"),
                                                                entry.etag):
             return Reply(304, head, b"")
-        return Reply(200, head, place.book.filled(text, as4))
+        return Reply(200, head, place.book.filled(text, as4, request.is_noted))
 
     def whole(self, place: Place, as4: bool) -> Iterator[bytes]:
         """All cards of a book, one after another."""
@@ -206,7 +209,7 @@ class Dav:
 
     def move(self, request: Request) -> Reply:
         place = self.writable(request, place_of(request, self.shelf))
-        target = urlsplit(request.field("destination"))
+        target = parts_of(request.field("destination"))
         if target.netloc and target.netloc not in (request.field("host"),
                                                    request.field("x-forwarded-host")):
             raise Fault(502, f"the Destination is on another server, {target.netloc[:80]}")
@@ -255,7 +258,10 @@ class Dav:
 
 
 def is_discovery(target: str) -> bool:
-    return urlsplit(target).path.rstrip("/") in (WELL_KNOWN, "")
+    try:
+        return parts_of(target).path.rstrip("/") in (WELL_KNOWN, "")
+    except Fault:
+        return False
 
 
 def conditions_of(request: Request) -> Conditions:
@@ -271,10 +277,12 @@ def card_of(request: Request) -> Tuple[str, Files]:
     if kind and not kind.startswith(CARD_TYPES):
         raise Fault(403, f"{kind[:60]} isn't text/vcard", NO_VERSION)
     charset = request.charset or "utf-8"
+    if not CHARSETS.fullmatch(charset):
+        raise Fault(403, f"the charset {charset[:40]} isn't taken; UTF-8 is", NO_CARD)
     text, files = taken_out(request.body) if charset in LIKE_ASCII else (request.body, {})
     try:
         return text.decode(charset), files
-    except (UnicodeDecodeError, LookupError):
+    except (UnicodeError, LookupError):
         raise Fault(403, f"the card isn't {request.charset[:40] or 'UTF-8'}", NO_CARD) from None
 
 

@@ -13,13 +13,13 @@ from typing import FrozenSet, NamedTuple, Optional
 from tosculai import (Book, Conflict, Error, LostReply, NoSuchCard, Refused, UidTaken, lines_of,
                       uid_of)
 
-from gateway import cards
+from gateway import cards, unseen
 from gateway.books import AddressBook, Missing
 from gateway.files import Files
 from gateway.photos import Fitted
 from gateway.state import Entry
 
-ROUNDS = 5  # attempts of a change without a condition, if others change the card meanwhile
+ROUNDS = 20  # attempts of a change without a condition, if others change the card meanwhile
 
 
 class Failed(Exception):
@@ -93,10 +93,11 @@ def put(book: AddressBook, name: str, sent: Sent, conditions: Conditions) -> Sto
             fault = conditions.fault(old)
             if fault and not (old and conditions.match):
                 raise fault
-            fitted = merged(book, name, sent, old, base)
+            made = with_edits_of_others(book, sent, conditions, old)
+            fitted = merged(book, name, made, old, base)
             if fault and lines_of(fitted.text) != lines_of(base):
                 raise fault  # else the edit was made before, and its reply was lost
-            stored = put_once(book, name, sent, old, base, fitted)
+            stored = put_once(book, name, made, old, base, fitted)
             if stored:
                 return stored
             book.suspect(uid_of(fitted.text), old)
@@ -110,11 +111,7 @@ def is_same(book: AddressBook, stored: str, text: str) -> bool:
     if not stored:
         return False
     bare = book.shelf.photos.bare(stored).text
-    return lines_of(cards.written(bare, is_version4(text))) == lines_of(text)
-
-
-def is_version4(text: str) -> bool:
-    return re.search(r"^VERSION:4\.0\r?$", text, re.MULTILINE | re.IGNORECASE) is not None
+    return lines_of(cards.written(bare, cards.is_version4(text))) == lines_of(text)
 
 
 def put_once(book: AddressBook, name: str, sent: Sent, old: Optional[Entry], base: str,
@@ -153,6 +150,24 @@ def merged(book: AddressBook, name: str, sent: Sent, old: Optional[Entry], base:
     bare = book.shelf.photos.bare(base)
     whole = cards.newer(sent.text, bare.text, book.has, uid, knows)
     return book.shelf.photos.fitted(whole, bare, sent.files, sent.address)
+
+
+def with_edits_of_others(book: AddressBook, sent: Sent, conditions: Conditions,
+                         old: Optional[Entry]) -> Sent:
+    """What a program without a condition sends, over what others have made of the card since.
+
+    What it has read is a condition, too: that the card is still there.
+    """
+    read = unseen.read_by(sent.text)
+    if not read or conditions.any or not read.is_of(book.number, uid_of(sent.text)):
+        return sent
+    base = book.text(old) if old else None
+    if base is None:
+        raise Failed("somebody has removed the card since it was read")
+    if read.form != cards.FORM:
+        raise Failed("the card was read of another version of the gateway: read it again")
+    now = cards.written(book.shelf.photos.bare(base).text, cards.is_version4(sent.text))
+    return sent._replace(text=unseen.edited(sent.text, read.said, now))
 
 
 def check_uid(book: AddressBook, name: str, old: Optional[Entry], uid: str) -> None:

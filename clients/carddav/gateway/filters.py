@@ -8,14 +8,17 @@ import vcard3
 from tosculai import lines_of
 from vcard3 import Line
 
-from gateway.messages import NO_COLLATION, Fault
+from gateway.messages import NO_COLLATION, NO_FILTER, Fault
 from gateway.properties import COLLATIONS, card
 
+ELEMENTS_MAX = 200  # of a filter: each is tried on each line of each card
 MATCH_TYPES = ("equals", "contains", "starts-with", "ends-with")
 
 
 def check(query: ET.Element) -> None:
     """Refuses what no card is compared with, before any card is."""
+    if sum(1 for _ in query.iter()) > ELEMENTS_MAX:
+        raise Fault(403, f"a filter has at most {ELEMENTS_MAX} elements", NO_FILTER)
     for match in query.iter(card("text-match")):
         collation = match.get("collation", COLLATIONS[2])
         if collation not in (*COLLATIONS, "default"):

@@ -205,10 +205,11 @@ def put(view: AddressBook, name: str, sent: Sent, conditions: Conditions) -> Sto
             if old and not shown:
                 raise UidInUse("a group of the book has this name", name)
             base = (view.plain.text(old) or "") if old else ""
-            edit = categories.edit_of(sent.text, base, view.shown.names(old.uid) if old else [])
             fault = conditions.fault(shown)
             if fault and not (shown and conditions.match):
                 raise fault
+            made = edits.with_edits_of_others(view, sent, conditions, shown)
+            edit = categories.edit_of(made.text, base, view.shown.names(old.uid) if old else [])
             plain = sent._replace(text=edit.text, known=frozenset(["CATEGORIES"]))
             fitted = edits.merged(view.plain, name, plain, old, base)
             lines = lines_of(fitted.text)

@@ -1,6 +1,7 @@
 """Requests and replies without sockets, and refusals in words."""
 
 from typing import Dict, Iterator, NamedTuple, Union
+from urllib.parse import SplitResult, urlsplit
 
 from gateway import davxml
 from gateway.davxml import C, D
@@ -13,7 +14,9 @@ TOO_LARGE, NO_CARD = f"{{{C}}}max-resource-size", f"{{{C}}}valid-address-data"
 NO_VERSION, UID_CONFLICT = f"{{{C}}}supported-address-data", f"{{{C}}}no-uid-conflict"
 NO_RIGHT, BAD_TOKEN = f"{{{D}}}need-privileges", f"{{{D}}}valid-sync-token"
 NO_REPORT, NO_DEPTH = f"{{{D}}}supported-report", f"{{{D}}}propfind-finite-depth"
-NO_COLLATION = f"{{{C}}}supported-collation"
+NO_COLLATION, NO_FILTER = f"{{{C}}}supported-collation", f"{{{C}}}supported-filter"
+# Programs that change cards without a condition.
+BLIND = ("Thunderbird",)
 
 
 class Request(NamedTuple):
@@ -47,6 +50,19 @@ class Request(NamedTuple):
         words = [it.partition("/")[0] for it in self.field("user-agent").split(" ") if "/" in it]
         name = (words[-1] if words[:1] == ["Mozilla"] else words[0]) if words else "?"
         return name[:40]
+
+    @property
+    def is_noted(self) -> bool:
+        """Whether the program's cards say what it has read of them (unseen.py)."""
+        return self.program in BLIND
+
+
+def parts_of(address: str) -> SplitResult:
+    """The parts of an address or a path, as clients send it."""
+    try:
+        return urlsplit(address)
+    except ValueError:
+        raise Fault(400, "this isn't an address") from None
 
 
 class Reply(NamedTuple):

@@ -15,11 +15,11 @@
 import functools
 import re
 from typing import NamedTuple, Optional, Tuple
-from urllib.parse import quote, unquote, urlsplit
+from urllib.parse import quote, unquote
 
 from gateway.books import AddressBook, Shelf
 from gateway.groups import view_of
-from gateway.messages import NO_RIGHT, Fault, Request
+from gateway.messages import NO_RIGHT, Fault, Request, parts_of
 
 PREFIX = "/dav"
 NAME_MAX = 255  # octets of a name
@@ -43,7 +43,7 @@ class Place(NamedTuple):
 
 def place_of(request: Request, shelf: Shelf, path: Optional[str] = None) -> Place:
     """What the path names, or that of the request; a card need not be there."""
-    parts = _parts(urlsplit(request.target if path is None else path).path)
+    parts = _parts(parts_of(request.target if path is None else path).path)
     if not parts:
         return Place("root")
     first, rest = parts[0], parts[1:]

@@ -97,7 +97,8 @@ def length(it: Resource) -> Optional[str]:
     """The octets of what a GET without Accept returns."""
     assert it.place.book and it.entry
     text = it.place.book.text(it.entry)
-    return None if text is None else str(sum(map(len, it.place.book.filled(text, False))))
+    return None if text is None else str(sum(map(
+        len, it.place.book.filled(text, False, it.request.is_noted))))
 
 
 PROPERTIES: Dict[str, Made] = {

@@ -123,7 +123,7 @@ class Answer(NamedTuple):
 
     def data(self, text: str) -> str:
         """The card as the client wants it."""
-        return self.book.as_read(text, self.wanted.as4, self.wanted.parts)
+        return self.book.as_read(text, self.wanted.as4, self.wanted.parts, self.request.is_noted)
 
     def card_place(self, name: str) -> Place:
         return self.place._replace(kind="card", name=name)

@@ -7,7 +7,8 @@
 - **Files.** Who was the first to store each file of photos.py, and how large it is.
 - **Views.** What is shown to programs whose groups are categories (shown.py).
 - **The epoch** is a part of each token for clients. If this file is lost, so are the names; then
-  there is another epoch, all tokens are refused, and clients list all names again.
+  there is another epoch, all tokens are refused, and clients list all names again. So they do
+  once another version of the gateway gives them cards in another form, with other ETags.
 
 A commit of names is on the disk when it returns (`synchronous` FULL). One of copies need not be:
 rows and token are in one transaction, so after a power cut an older copy is there, with its token.
@@ -20,6 +21,8 @@ import sqlite3
 import threading
 from contextlib import contextmanager
 from typing import Collection, Dict, Iterable, Iterator, List, NamedTuple, Optional, Tuple
+
+from gateway.cards import FORM
 
 SCHEMA_NUMBER = "1"
 SCHEMA = """
@@ -93,6 +96,10 @@ class State:
         if found["schema"] != SCHEMA_NUMBER:
             raise ValueError(f"{path} is of another version of the gateway")
         self.epoch = str(found["epoch"])
+        if found.get("form") != FORM:  # what clients have read is of another form
+            self.start_over()
+            with self.changing(durably=True):
+                self._db.execute("INSERT OR REPLACE INTO facts VALUES ('form', ?)", (FORM,))
         self._known = set(self._db.execute("SELECT program, property FROM known"))
         self._stale = {int(it) for it, in self._db.execute("SELECT book FROM stale")}
 

@@ -116,9 +116,15 @@ AUDIT = r"""(() => {
     };
     for (let at = 1; at < stops.length; at += 1) {
         const [one, next] = [stops[at - 1], stops[at]].map(placeOf);
-        if (next.bottom <= one.top && next.left < one.right) wrong('Tab goes up to', stops[at]);
+        if (next.bottom > one.top || next.left >= one.right) continue;
+        wrong(`Tab goes up from ${brief(stops[at - 1])} at ${one.top} to ${next.top}`, stops[at]);
     }
     if (document.documentElement.scrollWidth > innerWidth) found.push('wider than the page');
+    // A name isn't broken up into letters.
+    for (const node of all('#card-name')) {
+        const least = 5 * parseFloat(getComputedStyle(node).fontSize);
+        if (node.getBoundingClientRect().width < least) wrong('no room for a name', node);
+    }
     return found;
 })()"""
 

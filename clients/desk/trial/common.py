@@ -4,6 +4,7 @@ import json
 import time
 
 from office import logical, uid_path
+from pages import Page
 
 ROWS = "[...document.querySelectorAll('#list [role=option] .name')].map((it) => it.textContent)"
 STATE = "(document.querySelector('#state span')?.textContent ?? '')"
@@ -53,7 +54,7 @@ class Trial:
 
 def until(condition, seconds=60):
     """Waits until a function answers something. Returns that."""
-    end = time.monotonic() + seconds
+    end = time.monotonic() + seconds * Page.slow
     while True:
         value = condition()
         if value:

@@ -11,8 +11,10 @@ import tempfile
 import time
 from pathlib import Path
 
+from pages import Page
+
 INVERSE = bytes(range(255, -1, -1))
-STARTS = 900  # tenths of a second, on a machine that is busy with others
+STARTS = 900  # tenths of a second
 
 
 class Socket:
@@ -80,7 +82,7 @@ class Driver:
             )
         self.number = 0
         self.pages = {}
-        for _ in range(STARTS):
+        for _ in range(STARTS * Page.slow):
             if place.exists() and is_whole(place.read_text()):
                 break
             time.sleep(0.1)

@@ -58,10 +58,10 @@ def faces(trial):
         }));
     })()""")
     page.wait(f"{ROWS}.includes('Tamsin Pell')")
-    list_menu(page, "By family name")
+    list_menu(page, "Sort by family name")
     # Cards that steps before this one made may come first.
     page.wait(f"{ROWS}.slice(0, 16).includes('Zoë Angelopoulou')")
-    list_menu(page, "By given name")
+    list_menu(page, "Sort by given name")
     page.wait(f"!{ROWS}.slice(0, 16).includes('Zoë Angelopoulou')")
 
 
@@ -350,21 +350,33 @@ def count_pages(page):
     return len(re.findall(rb"/Type\s*/Page\b(?!s)", base64.b64decode(data)))
 
 
+# Drops files on the page, `[name, text]` each.
+DROP = """((files) => {
+    const data = new DataTransfer();
+    for (const [name, text] of files) data.items.add(new File([text], name));
+    document.body.dispatchEvent(new DragEvent('drop', {
+        dataTransfer: data, bubbles: true, cancelable: true,
+    }));
+})"""
+
+
 @step
 def dropped_files(trial):
     """A file that is dropped on the page is offered for an import; the page stays."""
     page, office = at_desk(trial), trial.office
     page.press("clients", "document.querySelector('#books')")
-    page.run("""(() => {
-        const data = new DataTransfer();
-        const text = 'BEGIN:VCARD\\r\\nVERSION:4.0\\r\\nUID:drop1\\r\\nFN:Dora Dropped\\r\\n'
-            + 'END:VCARD\\r\\n';
-        data.items.add(new File([text], 'dora.vcf', { type: 'text/vcard' }));
-        document.body.dispatchEvent(new DragEvent('drop', {
-            dataTransfer: data, bubbles: true, cancelable: true,
-        }));
-    })()""")
-    page.wait(f"{DIALOG}?.innerText.includes('1 card to import')")
-    page.press("Import", "document.querySelector('dialog .bar')")
-    until(lambda: "Dora Dropped" in names(office))
+    dora, dirk, dana = (card(f"drop{n}", f"FN:D{it} Dropped")
+                        for n, it in enumerate(("ora", "irk", "ana")))
+    for files, count, name in (
+        ([["dora.vcf", dora]], "1 card to import", "Dora Dropped"),
+        ([["dirk.vcf", dirk], ["dana.vcf", f"\ufeff{dana}"]], "2 cards to import", "Dana Dropped"),
+    ):
+        page.run(f"{DROP}({json.dumps(files)})")
+        page.wait(f"{DIALOG}?.innerText.includes('{count}')")
+        page.press("Import", "document.querySelector('dialog .bar')")
+        until(lambda: name in names(office))
+        page.press("Close", DIALOG)
+    page.run(f"{DROP}({json.dumps([['dora.vcf', dora], ['people.csv', '']])})")
+    page.wait(f"{DIALOG}?.innerText.includes('only if all of them are vCards')")
+    assert page.run(f"{DIALOG}.querySelector('.bar .main').disabled")
     page.press("Close", DIALOG)

@@ -198,3 +198,24 @@ def letters(trial):
     page.wait(f"{TITLE} === 'Tamsin Pell'")
     page.key("Home")
     until(lambda: page.run(TITLE) == page.run(f"{ROWS}[0]"))
+
+
+@step
+def many_groups(trial):
+    """A book of many groups shows the first of them, and all others by one press."""
+    page, office = at_desk(trial), trial.office
+    shown = f"[...{BOOKS}.querySelectorAll('.book-name')].map((it) => it.textContent)" \
+        ".filter((it) => it.startsWith('Crowd '))"
+    office.order_book("crowd")
+    office.fill("crowd", (card(f"crowd{n}", f"FN:Crowd {n}", "KIND:group") for n in range(62)))
+    page.front()
+    page.press("Update now")
+    page.press("crowd", BOOKS)
+    page.wait(f"{shown}.length === 60")
+    page.press("Show 2 more", BOOKS)
+    page.wait(f"{shown}.length === 62 && {shown}.includes('Crowd 61')")
+    for n in range(62):
+        office.ask("DELETE", f"/crowd/cards/crowd{n}")
+    page.press("clients", BOOKS)
+    page.press("Update now")
+    page.wait(f"{shown}.length === 0")

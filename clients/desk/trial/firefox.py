@@ -25,8 +25,9 @@ SETTINGS = {
     "browser.aboutwelcome.enabled": False, "browser.download.alwaysOpenPanel": False,
     "browser.shell.checkDefaultBrowser": False, "browser.startup.page": 0,
     "datareporting.policy.dataSubmissionEnabled": False, "extensions.update.enabled": False,
-    # A page of another site opens no dialog for a password, which nobody could answer here.
-    "network.auth.subresource-http-auth-allow": 1,
+    # No request of a page opens a dialog for a password, which nobody could answer here.
+    "network.auth.subresource-http-auth-allow": 0,
+    "devtools.jsonview.enabled": False,
     "network.captive-portal-service.enabled": False, "network.connectivity-service.enabled": False,
     "network.http.phishy-userpass-length": 255, "services.settings.server": "data:,",
     "toolkit.telemetry.reportingpolicy.firstRun": False,

@@ -294,7 +294,7 @@ def saved_offline(trial):
     begun = time.monotonic()
     page.press("Save")
     page.wait(f"{TITLE} === 'Gwen Ashdown' && {CARD}.includes('Head of sales')", 5)
-    assert time.monotonic() - begun < 3
+    assert time.monotonic() - begun < 3 * page.slow
     assert "not sent yet" in page.run(CARD).lower(), page.run(CARD)
     page.wait(f"{WAITING}.includes('1 change not sent yet')")
     page.picture(trial.pictures / "not-sent.png")

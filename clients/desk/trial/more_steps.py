@@ -173,6 +173,9 @@ def looks(trial):
             admin.wait(f"{TITLE} === 'Miriam O’Hara'")
             admin.rest(300)
             look(trial, admin, f"{name}-{scheme}-card", width)
+            admin.run("document.querySelector('#pane .actions .round').click()")
+            look(trial, admin, f"{name}-{scheme}-menu", width)
+            admin.key("Escape")
             admin.run("location.hash = '#/edit/clients/c12'")
             admin.wait("document.querySelector('.form')")
             look(trial, admin, f"{name}-{scheme}-form", width)
@@ -189,9 +192,9 @@ def look(trial, page, name, width):
     assert not wrong, (name, wrong)
 
 
-# The least, a phone, a tablet, a laptop, a large screen.
-SIZES = [("least", 320, 640), ("narrow", 390, 780), ("middle", 768, 1024), ("usual", 1280, 800),
-         ("wide", 1600, 1000)]
+# The least, a phone, a tablet in both directions, a laptop, a large screen.
+SIZES = [("least", 320, 640), ("narrow", 390, 780), ("middle", 768, 1024), ("across", 1024, 768),
+         ("usual", 1280, 800), ("wide", 1600, 1000)]
 
 
 @step

@@ -9,6 +9,8 @@ from office import card
 from steps import ROWS, TITLE, fault, fill, more, search, stored, toast, until
 
 DIALOG = "document.querySelector('dialog')"
+# The network is back. A question may come at once, and "Update now" is below it then.
+BACK = "window.dispatchEvent(new Event('online'))"
 
 
 def mover(trial, uid, name, *lines):
@@ -116,7 +118,7 @@ def move_conflicts(trial):
     move(page, "staff")
     office.put_aside("clients", "mv4", lambda it: it.replace("TITLE:Cook", "TITLE:Their cook"))
     office.open()
-    page.press("Update now")
+    page.run(BACK)
     page.wait("document.querySelector('dialog table.conflict')")
     page.press("Take theirs", DIALOG)
     assert "TITLE:Their cook" in card_with(office, "staff", "mv4")
@@ -142,7 +144,7 @@ def move_conflicts(trial):
     move(page, "staff")
     office.ask_aside("DELETE", "/clients/cards/mv6")
     office.open()
-    page.press("Update now")
+    page.run(BACK)
     page.wait(f"{DIALOG}?.innerText.includes('Somebody deleted or moved Moe Gone')")
     page.press("Store it again", DIALOG)
     assert "TITLE:Cook" in card_with(office, "staff", "mv6")

@@ -56,7 +56,7 @@ class Office:
         shutil.copytree(SITE, self.site)
         self.nginx = None
         self.server = None
-        self.port = free_port()
+        self.socket = self.folder / "office.sock"
         self.front_port = free_port()
         self.front = f"https://127.0.0.1:{self.front_port}/"
         self.begin()
@@ -104,7 +104,7 @@ class Office:
             ("listen 443 ssl", f"listen 127.0.0.1:{self.front_port} ssl"),
             ("/etc/ssl/office", f"{self.folder}/office"),
             ("/etc/nginx/contacts.users", str(users)),
-            ("127.0.0.1:8080", f"127.0.0.1:{self.port}"),
+            ("/run/tosculai/office.sock", str(self.socket)),
             ("/usr/local/share/tosculai/desk", str(self.site)),
         ):
             if old not in text:
@@ -133,15 +133,15 @@ class Office:
 
     def remember(self):
         """One round of `follow`: the versions of cards that are there by now are kept."""
-        url = f"http://127.0.0.1:{self.port}"
         subprocess.run(
-            [sys.executable, PYTHON / "follow.py", url, self.memory, "--once", "--dated"],
+            [sys.executable, PYTHON / "follow.py", f"unix:{self.socket}", self.memory, "--once",
+             "--dated"],
             check=True, stdout=subprocess.DEVNULL,
         )
 
     def serve(self):
         self.server = subprocess.Popen(
-            [self.program, "run", self.file, "--port", str(self.port)],
+            [self.program, "run", self.file, "--socket", str(self.socket)],
             stdout=subprocess.PIPE,
         )
         self.server.stdout.readline()
@@ -208,7 +208,10 @@ class Office:
 
     def ask_aside(self, method, path, body=None):
         """The same behind nginx's back: as from a place where the network is there."""
-        connection = http.client.HTTPConnection("127.0.0.1", self.port, timeout=70)
+        connection = http.client.HTTPConnection("127.0.0.1", timeout=70)
+        connection.sock = socket.socket(socket.AF_UNIX)
+        connection.sock.settimeout(70)
+        connection.sock.connect(str(self.socket))
         connection.request(method, f"/books{path}", None if body is None else body.encode())
         reply = connection.getresponse()
         text = reply.read().decode()

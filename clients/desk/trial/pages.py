@@ -5,7 +5,7 @@ import json
 import time
 from pathlib import Path
 
-SECONDS = 90  # that a page has for each thing, on a machine that is busy with others
+SECONDS = 90  # that a page has for each thing
 
 # The middle of a button or link by its text. Whether it was pressed is kept, as what is there may
 # be drawn anew, or elsewhere, between this and the press.
@@ -29,6 +29,7 @@ class Page:
     A page of a browser. Each browser's own has `run`, `navigate`, `click`, `shot`, and typing.
     """
 
+    slow = 1  # how many times as long all may take
     was_left = False  # by Tab
 
     def __init__(self, browser, context):
@@ -51,15 +52,18 @@ class Page:
         self.wait("!window.isOld && document.readyState === 'complete'")
 
     def enter(self, address, user, path=""):
-        """Loads the address as a user. The password goes in by the address."""
+        """
+        Loads the address as a user. The password goes in by the address of the books: the page's
+        own files may come from what the browser keeps, and the server wouldn't hear of it.
+        """
         scheme, rest = address.split("://")
-        self.go(f"{scheme}://{user}:{user}-pw@{rest}{path}")
+        self.go(f"{scheme}://{user}:{user}-pw@{rest}{path or 'books'}")
         if not path:
             self.go(address)
 
     def wait(self, expression, seconds=SECONDS):
         """Waits until an expression is true. Returns its value."""
-        end = time.monotonic() + seconds
+        end = time.monotonic() + seconds * self.slow
         while True:
             try:
                 value = self.run(expression)

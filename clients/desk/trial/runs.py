@@ -3,6 +3,7 @@
 import argparse
 import os
 import shutil
+import signal
 import sys
 import tempfile
 import time
@@ -12,6 +13,7 @@ from pathlib import Path
 from browser import Browser
 from firefox import Firefox
 from office import ROOT
+from pages import Page
 
 
 def program(name):
@@ -47,6 +49,8 @@ def arguments(text):
     """The arguments that all trials have; `text` is what the trial is about."""
     parser = argparse.ArgumentParser(description=text.split("\n")[0])
     parser.add_argument("--firefox", action="store_true", help="Firefox in place of Chromium")
+    parser.add_argument("--slow", type=int, default=1, metavar="N",
+                        help="all may take N times as long, on a machine that is busy with others")
     parser.add_argument("--pictures", help="a folder for pictures of the desk")
     return parser
 
@@ -55,6 +59,9 @@ def run(given, programs, kind_of_office, kind_of_trial, steps):
     """Takes the steps in an office of a kind, and says how it went. Returns the status."""
     for name in programs:
         program(name)
+    Page.slow = given.slow
+    # Who stops a trial leaves neither its browser nor its servers behind.
+    signal.signal(signal.SIGTERM, lambda *_: sys.exit(143))
     pictures = Path(given.pictures or tempfile.mkdtemp(prefix="desk-pictures-"))
     pictures.mkdir(parents=True, exist_ok=True)
     office = kind_of_office(os.environ.get("CONTACTS", str(ROOT / "contacts")))

@@ -43,6 +43,12 @@ SEARCH = """(async (texts) => {
 TEXTS = ["jun abel", "company 12", "7946 0012", "björn", "arviso", "99@", "zz", "hana lu frost"]
 
 
+def processor(page):
+    """The time that the page's own thread has had of a processor, in milliseconds."""
+    metrics = page.call("Performance.getMetrics")["metrics"]
+    return 1000 * next(it["value"] for it in metrics if it["name"] == "TaskDuration")
+
+
 def measured(trial, user, name, cards):
     """A desk with an empty profile, and how long it took until it had all cards."""
     office = trial.office
@@ -63,7 +69,10 @@ def measured(trial, user, name, cards):
 def figures(trial, user, name, cards):
     page, first, whole = measured(trial, user, name, cards)
     time.sleep(3)  # until it has written what it will need at the next start
+    page.call("Performance.enable", timeDomain="threadTicks")
+    used = processor(page)
     took = page.run(f"{SEARCH}({json.dumps(TEXTS)})")
+    used = (processor(page) - used) / len(took)
     again = []
     for _ in range(3):
         page.go(trial.office.front)
@@ -74,7 +83,8 @@ def figures(trial, user, name, cards):
     heap = page.call("Runtime.getHeapUsage")["usedSize"] / 1e6
     middle = statistics.median(took)
     print(f"  {cards:,} cards: first rows {first:.1f} s, whole copy {whole:.1f} s, "
-          f"search with paint {middle:.0f} ms in the median and {max(took):.0f} at most, "
+          f"search with paint {middle:.0f} ms in the median and {max(took):.0f} at most "
+          f"({used:.0f} ms of a processor each), "
           f"opening again {min(again):.2f} s, heap {heap:.0f} MB")
     return middle
 

@@ -338,7 +338,7 @@ def files(trial):
     ):
         admin.run(f"({MENU}).click()")
         admin.press(text, "document.querySelector('dialog')")
-        end = time.monotonic() + 40
+        end = time.monotonic() + 40 * admin.slow
         while not (downloads / name).exists() and time.monotonic() < end:
             admin.rest(100)
         content = (downloads / name).read_bytes().decode()

@@ -1,12 +1,14 @@
 """Who made a change, from the lines that `contacts run --log` writes.
 
-    request PUT /books/staff/cards/a status 201 octets 152 microseconds 913 user ann version 12
+    request PUT /books/staff/cards/a status 200 octets 152 microseconds 913 user ann \
+        reply {"put":"edited","version":12}
 
-After the target come names and values. Without `user`, a line says nobody. A line with `version`
-says who made that version. One without it counts only if it is the card's only line since the last
-round, so that nobody is named for another's change.
+(in one line). After the target come names and values. Without `user`, a line says nobody. A line
+whose reply has a version says who made it. One without it counts only if it is the card's only line
+since the last round, so that nobody is named for another's change.
 """
 
+import json
 import os
 import re
 from collections import defaultdict
@@ -29,10 +31,24 @@ class Change(NamedTuple):
     user: Optional[str]
 
 
+def unescaped(word: str) -> bytes:
+    """A word of a line, as it was sent."""
+    return ESCAPE.sub(lambda it: bytes([int(it.group(1), 16)]), word.encode())
+
+
 def parts_of(target: str) -> List[str]:
     """The parts of a target's path, decoded."""
-    octets = ESCAPE.sub(lambda it: bytes([int(it.group(1), 16)]), target.encode())
+    octets = unescaped(target)
     return [unquote_to_bytes(it).decode("utf-8", "replace") for it in octets.split(b"/")]
+
+
+def numbers_in(reply: str) -> Dict[str, int]:
+    """The numbers in the JSON of a reply; none if it was cut."""
+    try:
+        value = json.loads(unescaped(reply))
+    except ValueError:
+        return {}
+    return {name: it for name, it in value.items() if isinstance(it, int)}
 
 
 def changes_of(line: str) -> List[Change]:
@@ -46,16 +62,17 @@ def changes_of(line: str) -> List[Change]:
     parts = parts_of(path)
     if not fields.get("status", "").startswith("2") or parts[:2] != ["", "books"]:
         return []
-    number = fields.get("version", "")
-    version = int(number) if number.isdigit() else None
-    user = None if fields.get("user", "-") == "-" else fields["user"]
+    numbers = numbers_in(fields.get("reply", "{}"))
+    version = numbers.get("version")
+    user = unescaped(fields["user"]).decode("utf-8", "replace") if "user" in fields else None
     if len(parts) == 5 and parts[3] == "cards" and method in ("PUT", "DELETE"):
-        return [Change(parts[2], parts[4], method == "DELETE", version, user)]
+        removes = method == "DELETE"
+        return [Change(parts[2], parts[4], removes, numbers.get("number") if removes else version,
+                       user)]
     if len(parts) == 6 and parts[5] == "move":
-        # Of the two books only one can have made the version that the line names.
         to = parse_qs(query).get("to", [""])[0]
-        return [Change(parts[2], parts[4], True, None, user),
-                Change(to, parts[4], False, None, user)]
+        return [Change(parts[2], parts[4], True, numbers.get("from"), user),
+                Change(to, parts[4], False, version, user)]
     if len(parts) == 4 and parts[3] == "import":
         return [Change(parts[2], None, False, None, user)]
     return []

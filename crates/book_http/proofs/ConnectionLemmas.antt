@@ -1,10 +1,11 @@
 -- What a connection was served is a run of the service.
-use Rattle.std.proofs.Common.{ℕ, List, ◌++◌, false, Option, Some, None, inl, inr}
+use Rattle.std.proofs.Common.{ℕ, List, ◌++◌, false, Option, Some}
 use Rattle.std.proofs.KnownBytes.{Consumes-trans}
 use Rattle.std.specs.Io.KnownBytes.{Consumes}
 use Rattle.http_replies.specs.Replies.{head_fault_octets}
 use Rattle.http_requests.specs.SessionFeeding.{FeedsSession, HandlesSomePrefix}
 use Rattle.http_requests.specs.HandlerRuns.{HandlerRelation, FaultReplies}
+use Rattle.http_requests.proofs.PartLemmas.{part_of_fed}
 use Rattle.http_requests.proofs.RunLemmas.{answered_run, part_on}
 use Rattle.book_http.specs.declared.serve_fault.ServeFault.{ServeFault}
 use Rattle.book_http.specs.declared.serve_fault.ServeFault.TheVariants.{Read, Write, TooManyTurns, Memory}
@@ -15,14 +16,6 @@ use Rattle.book_http.proofs.OctetRunLemmas.{lost_pieces_run, sessions_run}
 use Rattle.sync_core.specs.StoreModels.{StoreModel}
 
 module _ {State : Type 0} (does : HandlerRelation State) (fault_reply : FaultReplies) where
-  -- what a session was fed was handled from the front
-  pub part_of_fed : (octets replies : List ℕ) (old new : State) (session : Option (List ℕ)) → FeedsSession does fault_reply octets old replies new session → HandlesSomePrefix does fault_reply octets old new
-  part_of_fed octets replies old new (Some rest) fed =
-      record { replies = replies; ended = false; rest = rest; runs = answered_run does fault_reply octets old replies new false rest fed.0 }
-  part_of_fed octets replies old new None (inr stop) = record { replies = stop.answers; ended = false; rest = stop.rest; runs = stop.answered }
-  part_of_fed octets replies old new None (inl stop) =
-      record { replies = stop.answers; ended = stop.ended; rest = stop.rest; runs = answered_run does fault_reply octets old stop.answers new stop.ended stop.rest stop.answered }
-
   -- some first requests of what was read were handled
   pub record HandlesRead (input left : Option (List ℕ)) (old new : State) : Type 0 where
     pub octets : List ℕ
@@ -31,17 +24,17 @@ module _ {State : Type 0} (does : HandlerRelation State) (fault_reply : FaultRep
 
   pub handles_read : (why : ServeFault) (input left output written : Option (List ℕ)) (old new : State) → AbortsConnection does fault_reply why input left output written old new → HandlesRead input left old new
   handles_read Read input left output written old new broke =
-      let s = broke.serves in record { octets = s.octets; read = s.read; part = part_of_fed s.octets s.replies old new (Some broke.held) s.fed }
+      let s = broke.serves in record { octets = s.octets; read = s.read; part = part_of_fed does fault_reply s.octets s.replies old new (Some broke.held) s.fed }
   handles_read Write input left output written old new broke =
       let s = broke.serves in
       record {
         octets = s.octets ++ broke.piece;
         read = Consumes-trans input broke.between left s.octets broke.piece s.read broke.read;
-        part = part_of_fed (s.octets ++ broke.piece) (s.replies ++ broke.replies) old new broke.session
+        part = part_of_fed does fault_reply (s.octets ++ broke.piece) (s.replies ++ broke.replies) old new broke.session
             (fed_on does fault_reply s.octets broke.piece s.replies broke.replies old broke.middle new (Some broke.held) broke.session s.fed broke.fed);
       }
   handles_read TooManyTurns input left output written old new broke =
-      let s = broke.serves in record { octets = s.octets; read = s.read; part = part_of_fed s.octets s.replies old new (Some broke.held) s.fed }
+      let s = broke.serves in record { octets = s.octets; read = s.read; part = part_of_fed does fault_reply s.octets s.replies old new (Some broke.held) s.fed }
   handles_read Memory input left output written old new broke =
       let s = broke.serves in
       record {

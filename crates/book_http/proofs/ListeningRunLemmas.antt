@@ -4,7 +4,8 @@ use Rattle.std.proofs.lemmas.List.{append-nil}
 use Rattle.std.specs.Io.KnownBytes.{Appends, Consumes}
 use Rattle.book_http.specs.declared.serve_fault.ServeFault.{ServeFault}
 use Rattle.book_http.specs.OctetPromise.{ServiceStep, StartsAt}
-use Rattle.book_http.proofs.ConnectionLemmas.{handles_read, part_of_fed}
+use Rattle.http_requests.proofs.PartLemmas.{part_of_fed}
+use Rattle.book_http.proofs.ConnectionLemmas.{handles_read}
 use Rattle.book_http.proofs.OctetRunLemmas.{all_limits, all_premise, requests_run}
 use Rattle.book_http.specs.Listening.{ServesConnection, ServesInTurn, ServedConnection}
 use Rattle.book_http.specs.ListeningRuns.{ConnectionsAreOneRun, RunsInTurn, RunsOneConnection}

@@ -123,24 +123,53 @@ fn copy_to_new(
     Ok(())
 }
 
+/// Copies the books into a new file, and returns their number.
+fn copy_books(
+    rt: &HostRuntime,
+    books: &mut FileBooks,
+    target: &str,
+    log: &str,
+) -> Result<u64, OpenFault> {
+    let Ok(lines) = books.books() else {
+        return Err(OpenFault::Store);
+    };
+    copy_to_new(rt, books, target, log)?;
+    Ok(lines.len() as u64)
+}
+
+/// The name of a file's log.
+fn log_of(rt: &HostRuntime, path: &str) -> Result<String, OpenFault> {
+    match format!(in rt.alloc(); "{path}-wal") {
+        Ok(log) => Ok(log),
+        Err(_) => Err(OpenFault::Memory),
+    }
+}
+
+/// Removes a log that the opening of the file made: the file had none before, and it has no octets.
+/// The file must be held meanwhile, so that nobody else writes the log.
+fn forget_log(rt: &HostRuntime, had_log: bool, log: &str) {
+    if !had_log && is_empty_file(rt, log) {
+        let _removed = fs::remove_file(rt, log);
+    }
+}
+
 impl SqlStore<FileStore<FileFrom<Unknown>>> {
     /// Copies the store in the file at the path into a new file, and returns the number of books.
     /// The new file needs no log, and none stays beside it. It holds no text that the tables don't
-    /// hold: none of a card that was removed or replaced.
+    /// hold: none of a card that was removed or replaced. If the old file had no log, none stays
+    /// beside it either.
     ///
     /// Fails with `NotEmpty` if something is at the path `target`, or at that of its log; as `open`
     /// does for the file; and as `copy_to` does. An error removes the new file.
     pub fn copy_file(rt: &HostRuntime, path: &str, target: &str) -> Result<u64, OpenFault> {
-        let Ok(log) = format!(in rt.alloc(); "{target}-wal") else {
-            return Err(OpenFault::Memory);
-        };
+        let log = log_of(rt, target)?;
         check_free(rt, target)?;
         check_free(rt, log.as_str())?;
+        let old_log = log_of(rt, path)?;
+        let had_log = fs::exists(rt, old_log.as_str()).unwrap_or(true);
         let mut books = SqlStore::open(rt, path, Limits::standard())?;
-        let Ok(lines) = books.books() else {
-            return Err(OpenFault::Store);
-        };
-        copy_to_new(rt, &mut books, target, log.as_str())?;
-        Ok(lines.len() as u64)
+        let copied = copy_books(rt, &mut books, target, log.as_str());
+        forget_log(rt, had_log, old_log.as_str());
+        copied
     }
 }

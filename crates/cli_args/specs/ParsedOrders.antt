@@ -89,10 +89,12 @@ serve_order rows = with_file (λ file. option_and_then (λ port.
 -- at the socket if one was given, and else at the port
 abbrev pub run_order_of : List Row → Option Order
 run_order_of rows = with_file (λ file. option_and_then (λ port. option_and_then (λ max_open.
-    option_map (λ idle_timeout. Run file port (text_arg (codes "PATH") rows)
-    (texts_arg (codes "NAME") rows) max_open idle_timeout
+    option_and_then (λ idle_timeout. option_map (λ max_held.
+    Run file port (text_arg (codes "PATH") rows) (texts_arg (codes "NAME") rows)
+    max_open idle_timeout max_held
     (is_given (codes "create") rows) (is_given (codes "log") rows) (text_arg (codes "DIR") rows))
-    (u64_arg (codes "S") rows)) (u64_arg (codes "M") rows)) (port_arg rows)) rows
+    (u64_arg (codes "MIB") rows)) (u64_arg (codes "S") rows)) (u64_arg (codes "M") rows))
+    (port_arg rows)) rows
 
 -- a socket and a port exclude each other
 abbrev pub run_order : List Row → Option Order

@@ -100,6 +100,10 @@ max_open_option = number_option (codes "M") (codes "max-open") 1 1000 (codes "25
 abbrev pub idle_timeout_option : Rule
 idle_timeout_option = number_option (codes "S") (codes "idle-timeout") 1 3600 (codes "60")
 
+-- the MiB that all connections together may hold of long requests and replies
+abbrev pub max_held_option : Rule
+max_held_option = number_option (codes "MIB") (codes "max-held") 16 1024 (codes "64")
+
 -- whether the file is created if it isn't there
 abbrev pub create_switch : Rule
 create_switch = switch (codes "create") (codes "create")
@@ -115,7 +119,7 @@ site_option = free_option (codes "DIR") (codes "site")
 abbrev pub run_command : Shape
 run_command = order_command (codes "run")
     (file_arg ∷ port_option (codes "8080") ∷ socket_option ∷ host_option ∷ max_open_option
-    ∷ idle_timeout_option ∷ create_switch ∷ log_switch ∷ site_option ∷ [])
+    ∷ idle_timeout_option ∷ max_held_option ∷ create_switch ∷ log_switch ∷ site_option ∷ [])
 
 abbrev pub import_command : Shape
 import_command =

@@ -92,21 +92,21 @@ WorkedServes =
 abbrev pub WorkedRuns : Type 0
 WorkedRuns =
     (order_from (over_file (codes "run") [])
-    ≡ Some (order.Run db 8080 None [] 256 60 false false None))
+    ≡ Some (order.Run db 8080 None [] 256 60 64 false false None))
     × (order_from (over_file (codes "run")
     (codes "--host=a" ∷ codes "--create" ∷ codes "--host" ∷ codes "b" ∷ codes "--log" ∷ []))
-    ≡ Some (order.Run db 8080 None (codes "a" ∷ codes "b" ∷ []) 256 60 true true None))
+    ≡ Some (order.Run db 8080 None (codes "a" ∷ codes "b" ∷ []) 256 60 64 true true None))
     × (order_from (over_file (codes "run")
     (codes "--port=0" ∷ codes "--max-open=1000" ∷ codes "--idle-timeout=1" ∷ []))
-    ≡ Some (order.Run db 0 None [] 1000 1 false false None))
+    ≡ Some (order.Run db 0 None [] 1000 1 64 false false None))
     × (order_from (over_file (codes "run") (codes "--site" ∷ codes "desk" ∷ []))
-    ≡ Some (order.Run db 8080 None [] 256 60 false false (Some (codes "desk"))))
+    ≡ Some (order.Run db 8080 None [] 256 60 64 false false (Some (codes "desk"))))
     × (order_from (over_file (codes "run") (codes "--connections=1" ∷ [])) ≡ None)
 
 abbrev pub WorkedSockets : Type 0
 WorkedSockets =
     (order_from (over_file (codes "run") (codes "--socket=s" ∷ []))
-    ≡ Some (order.Run db 8080 (Some (codes "s")) [] 256 60 false false None))
+    ≡ Some (order.Run db 8080 (Some (codes "s")) [] 256 60 64 false false None))
     × (order_from (over_file (codes "run") (codes "--socket" ∷ codes "s" ∷ codes "--port=8080" ∷ []))
     ≡ None)
     × (order_from (over_file (codes "run") (codes "--socket=s" ∷ codes "--socket=s" ∷ [])) ≡ None)
@@ -115,16 +115,26 @@ WorkedSockets =
 abbrev pub WorkedLimits : Type 0
 WorkedLimits =
     (order_from (over_file (codes "run") (codes "--max-open=1" ∷ codes "--idle-timeout=3600" ∷ []))
-    ≡ Some (order.Run db 8080 None [] 1 3600 false false None))
+    ≡ Some (order.Run db 8080 None [] 1 3600 64 false false None))
     × (order_from (over_file (codes "run") (codes "--max-open=1001" ∷ [])) ≡ None)
     × (order_from (over_file (codes "run") (codes "--max-open=0" ∷ [])) ≡ None)
     × (order_from (over_file (codes "run") (codes "--idle-timeout=3601" ∷ [])) ≡ None)
     × (order_from (over_file (codes "run") (codes "--idle-timeout=0" ∷ [])) ≡ None)
 
+abbrev pub WorkedHolds : Type 0
+WorkedHolds =
+    (order_from (over_file (codes "run") (codes "--max-held=16" ∷ []))
+    ≡ Some (order.Run db 8080 None [] 256 60 16 false false None))
+    × (order_from (over_file (codes "run") (codes "--max-held" ∷ codes "1024" ∷ []))
+    ≡ Some (order.Run db 8080 None [] 256 60 1024 false false None))
+    × (order_from (over_file (codes "run") (codes "--max-held=15" ∷ [])) ≡ None)
+    × (order_from (over_file (codes "run") (codes "--max-held=1025" ∷ [])) ≡ None)
+    × (order_from (over_file (codes "serve") (codes "--max-held=64" ∷ [])) ≡ None)
+
 abbrev pub WorkedLogs : Type 0
 WorkedLogs =
     (order_from (over_file (codes "run") (codes "--log" ∷ []))
-    ≡ Some (order.Run db 8080 None [] 256 60 false true None))
+    ≡ Some (order.Run db 8080 None [] 256 60 64 false true None))
     × (order_from (over_file (codes "run") (codes "--log=yes" ∷ [])) ≡ None)
     × (order_from (over_file (codes "run") (codes "--log" ∷ codes "--log" ∷ [])) ≡ None)
     × (order_from (over_book (codes "tally") (codes "--log" ∷ [])) ≡ None)

@@ -1,7 +1,8 @@
 //! Worked examples: the orders of some command lines, computed from the definitions. They are
 //! stated in `specs/WorkedLines.antt`.
 ghost use Rattle.cli_args.specs.WorkedLines.{WorkedConnections, WorkedConversions, WorkedDefaults};
-ghost use Rattle.cli_args.specs.WorkedLines.{WorkedFaults, WorkedFiles, WorkedForms, WorkedLimits};
+ghost use Rattle.cli_args.specs.WorkedLines.{WorkedFaults, WorkedFiles, WorkedForms, WorkedHolds};
+ghost use Rattle.cli_args.specs.WorkedLines.{WorkedLimits};
 ghost use Rattle.cli_args.specs.WorkedLines.{WorkedCopies, WorkedLogs};
 ghost use Rattle.cli_args.specs.WorkedLines.{WorkedNumbers, WorkedOrders, WorkedPages};
 ghost use Rattle.cli_args.specs.WorkedLines.{WorkedPorts, WorkedResyncs, WorkedRuns, WorkedServes};
@@ -24,6 +25,8 @@ ghost use Rattle.cli_args.specs.WorkedLines.{WorkedSockets, WorkedVersions};
 ///   with two sockets; `serve` has none.
 /// - `limits`: of `run`; 1 and 1000 open connections are accepted, 0 and 1001 are not; 1 and 3600
 ///   seconds are accepted, 0 and 3601 are not.
+/// - `holds`: of `run`; 16 and 1024 MiB are accepted, 15 and 1025 are not; `serve` has no such
+///   option.
 /// - `logs`: with `--log`, `run` prints a line for each request; given twice, with a value or after
 ///   another order it is invalid.
 /// - `forms`: `columns` is a form; `rows` is none.
@@ -48,6 +51,7 @@ pub fn worked_lines_are_orders()
     ensures runs { WorkedRuns }
     ensures sockets { WorkedSockets }
     ensures limits { WorkedLimits }
+    ensures holds { WorkedHolds }
     ensures logs { WorkedLogs }
     ensures forms { WorkedForms }
     ensures numbers { WorkedNumbers }

@@ -49,6 +49,7 @@ fn run_order_of(alloc: Global, matches: &ArgMatches<'_>) -> Result<Order, LineFa
     let port = port_arg(alloc, matches)?;
     let max_open = u64_arg(alloc, matches, "M")?;
     let idle_timeout = u64_arg(alloc, matches, "S")?;
+    let max_held = u64_arg(alloc, matches, "MIB")?;
     let socket = given_text(alloc, matches, "PATH")?;
     let names = given_texts(alloc, matches, "NAME")?;
     let site = given_text(alloc, matches, "DIR")?;
@@ -59,6 +60,7 @@ fn run_order_of(alloc: Global, matches: &ArgMatches<'_>) -> Result<Order, LineFa
         names,
         max_open,
         idle_timeout,
+        max_held,
         creates: is_given(matches, "create"),
         is_logged: is_given(matches, "log"),
         site,

@@ -44,6 +44,9 @@ pub enum Order {
         /// The seconds that a connection may be idle, and that the head of a request may take, 1 to
         /// 3,600; 60 if it wasn't given.
         idle_timeout: u64,
+        /// The MiB that all connections together may hold of long requests and replies, 16 to
+        /// 1,024; 64 if it wasn't given.
+        max_held: u64,
         /// Whether the file is created if it isn't there.
         creates: bool,
         /// Whether a line is printed on standard error for each request.

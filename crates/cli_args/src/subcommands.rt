@@ -168,6 +168,21 @@ fn idle_timeout_option<'a>(alloc: Global) -> Arg<'a>
     )
 }
 
+fn max_held_option<'a>(alloc: Global) -> Arg<'a>
+    ensures { IsArgument lines.max_held_option result }
+{
+    number_option(
+        alloc,
+        "MIB",
+        "max-held",
+        16,
+        1_024,
+        "64",
+        "Maximum memory for long requests and replies that are on their way, in MiB, 16 to 1024; \
+         one by itself may have more",
+    )
+}
+
 fn create_switch<'a>(alloc: Global) -> Arg<'a>
     ensures { IsArgument lines.create_switch result }
 {
@@ -210,6 +225,7 @@ fn run_command<'a>(alloc: Global) -> Result<Command<'a>, AllocError>
                 host_option(alloc),
                 max_open_option(alloc),
                 idle_timeout_option(alloc),
+                max_held_option(alloc),
                 create_switch(alloc),
                 log_switch(alloc),
                 site_option(alloc),

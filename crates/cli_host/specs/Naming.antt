@@ -14,7 +14,8 @@ use Rattle.cli_orders.specs.declared.order_names.OrderNames.{OrderNames}
 abbrev pub kind_of : Order → OrderKind
 kind_of Try = kind.Try
 kind_of (Serve file port connections) = kind.Serve
-kind_of (Run file port socket names max_open idle_timeout creates is_logged site) = kind.Run
+kind_of (Run file port socket names max_open idle_timeout max_held creates is_logged site) =
+    kind.Run
 kind_of (Import file book key csv) = kind.Import
 kind_of (Check file) = kind.Check
 kind_of (Books file) = kind.Books
@@ -55,7 +56,7 @@ given (Some text) = text
 abbrev pub names_of : Order → OrderNames
 names_of (Init file) = named kind.Other file true [] 0
 names_of (Serve file port connections) = named kind.Serve file false [] port
-names_of (Run file port socket names max_open idle_timeout creates is_logged site) =
+names_of (Run file port socket names max_open idle_timeout max_held creates is_logged site) =
     named kind.Run file creates (given socket) port
 names_of (Import file book key csv) = named kind.Import file false csv 0
 names_of (Check file) = named kind.Check [] false file 0

@@ -36,12 +36,18 @@ abbrev pub address_of : ℕ → Option (List ℕ) → Address
 address_of port None = Port port
 address_of port (Some path) = Socket path
 
--- the limits of a server, with its patience in seconds
-abbrev pub limits_of : ℕ → ℕ → ℕ → ServeLimits
-limits_of connections together patience = record {
+-- This number of MiB in octets; a number that has more than 64 bits is cut to 2^64 - 1. The command
+-- line allows at most 1,024 MiB.
+abbrev pub octets_of : ℕ → ℕ
+octets_of mebibytes = min (mebibytes * 1048576) (2 ^ 64 - 1)
+
+-- the limits of a server, with its patience in seconds, and in MiB what its connections may hold
+abbrev pub limits_of : ℕ → ℕ → ℕ → ℕ → ServeLimits
+limits_of connections together patience held = record {
   connections = connections;
   together = together;
   patience = milliseconds_of patience;
+  held = octets_of held;
 }
 
 -- what an order does that uses the store in a file; for any other order, nothing
@@ -67,8 +73,8 @@ work_of (Init file) = CreateFile file
 work_of (Migrate file) = MigrateFile file
 work_of (Copy file target) = CopyFile file target
 work_of (Restore backup file pairs) = RestoreFile backup file pairs
-work_of (Run file port socket names max_open idle_timeout creates is_logged site) =
+work_of (Run file port socket names max_open idle_timeout max_held creates is_logged site) =
     RunFile file creates names (address_of port socket)
-    (limits_of endless_connections max_open idle_timeout) is_logged site
+    (limits_of endless_connections max_open idle_timeout max_held) is_logged site
 work_of (Serve file port connections) = ServeFile file port connections
 work_of order = store_work_of order

@@ -3,6 +3,7 @@
 //! What it finds may differ from what happened: another program may have closed the file since. No
 //! contract says what a file or a port is, so nothing is proved of it but that it returns.
 
+use crate::file_care::{log_of, remove_if_empty};
 use crate::host::loopback;
 use cli_orders::FoundCause;
 use sqlite_std_file::{OpenError, Unknown};
@@ -16,6 +17,9 @@ use std::{fs, io};
 
 /// The most octets of a file of rows.
 const ROWS_OCTETS_MAX: u64 = 8_388_608;
+
+/// The most octets that the path of a Unix socket has, by the system.
+const SOCKET_PATH_MAX: usize = 107;
 
 /// How many times 4,096 octets are written to see whether a disk has room: those of a long import.
 const ROOM_WRITES: u32 = 2_048;
@@ -79,15 +83,20 @@ fn is_writable(rt: &HostRuntime, file: &str) -> bool {
         .is_ok()
 }
 
-/// Opens the store file and its log as the store does: why that fails, or else whether there is
-/// room.
-fn opening_cause(rt: &HostRuntime, file: &str) -> FoundCause {
-    match sqlite_std_file::open(rt, file, Unknown) {
-        Ok(_opened) => room_cause(rt, file),
-        Err(OpenError::Busy) => FoundCause::Taken,
-        Err(OpenError::HotJournal) => FoundCause::HasJournal,
-        Err(OpenError::OutOfMemory) => FoundCause::Nothing,
-        Err(OpenError::Io(error)) => {
+/// Removes the store file's log if it has no octets.
+fn remove_empty_log(rt: &HostRuntime, file: &str) {
+    if let Ok(log) = log_of(rt.alloc(), file) {
+        let _removed = remove_if_empty(rt, log.as_str());
+    }
+}
+
+/// What the error of opening the store file or its log says.
+fn cause_of_opening(rt: &HostRuntime, file: &str, error: OpenError) -> FoundCause {
+    match error {
+        OpenError::Busy => FoundCause::Taken,
+        OpenError::HotJournal => FoundCause::HasJournal,
+        OpenError::OutOfMemory => FoundCause::Nothing,
+        OpenError::Io(error) => {
             let denied = if is_writable(rt, file) {
                 FoundCause::FolderDenied
             } else {
@@ -95,6 +104,26 @@ fn opening_cause(rt: &HostRuntime, file: &str) -> FoundCause {
             };
             cause_of_kind(error.kind(), denied)
         }
+    }
+}
+
+/// Opens the store file and its log as the store does, and closes them: why that fails, if it does.
+/// It leaves no log that it made.
+fn open_once(rt: &HostRuntime, file: &str) -> Option<FoundCause> {
+    match sqlite_std_file::open(rt, file, Unknown) {
+        Ok(_held) => {
+            remove_empty_log(rt, file);
+            None
+        }
+        Err(error) => Some(cause_of_opening(rt, file, error)),
+    }
+}
+
+/// Why the store file or its log can't be opened, or else whether there is room.
+fn opening_cause(rt: &HostRuntime, file: &str) -> FoundCause {
+    match open_once(rt, file) {
+        Some(cause) => cause,
+        None => room_cause(rt, file),
     }
 }
 
@@ -173,6 +202,9 @@ pub(crate) fn rows_cause(rt: &HostRuntime, file: &str) -> FoundCause {
 
 /// Why no endpoint can be bound to a Unix socket at the path.
 pub(crate) fn socket_cause(rt: &HostRuntime, path: &str) -> FoundCause {
+    if path.len() > SOCKET_PATH_MAX {
+        return FoundCause::LongPath;
+    }
     match fs::symlink_metadata(rt, path) {
         Ok(found) if found.file_type().is_socket() => FoundCause::SocketTaken,
         Ok(_) => FoundCause::NotSocket,

@@ -12,7 +12,7 @@ ghost use Rattle.book_http.specs.Streams.{ReadsAtMost};
 
 use crate::admin_store::AdminStore;
 use crate::host::Host;
-use crate::naming::names_to_say;
+use crate::naming::{names_to_say, site_of};
 use crate::running::run_on_host;
 use crate::words::say_why;
 use book_http::Listener;
@@ -80,8 +80,9 @@ fn report_bad_arguments<E: Write>(errors: &mut E, text: &str) -> ProgramExit
 }
 
 /// Runs the order `try`, and reports a stop.
-fn run_try_order<R: Read, W: Write, E: Write>(
+fn run_try_order<S, P, L, M: Host<S, P, L>, R: Read, W: Write, E: Write>(
     alloc: Global,
+    host: &M,
     reader: &mut R,
     writer: &mut W,
     errors: &mut E,
@@ -94,7 +95,11 @@ fn run_try_order<R: Read, W: Write, E: Write>(
     ensures at_most { ReadsAtMost read_octets_max
         (R.remaining reader.old) (R.remaining reader.new) }
 {
+    let names = names_to_say(alloc, host, &Order::Try);
     let done = run_try(alloc, reader, writer);
+    if let Err(stop) = &done {
+        say_why(alloc, host, names, None, *stop);
+    }
     report_result(alloc, errors, done)
 }
 
@@ -113,9 +118,10 @@ fn run_other_order<
         (E.contents errors.old) (E.contents errors.new) result) }
 {
     let names = names_to_say(alloc, &*host, &order);
+    let site = site_of(alloc, &order);
     let done = run_on_host(alloc, host, order, writer);
     if let Err(stop) = &done {
-        say_why(alloc, &*host, names, *stop);
+        say_why(alloc, &*host, names, site.as_ref(), *stop);
     }
     report_result(alloc, errors, done)
 }
@@ -173,7 +179,7 @@ pub fn run_and_report<
         × (host.new ≡ host.old) }
 {
     match order {
-        Ok(Order::Try) => run_try_order(alloc, reader, writer, errors),
+        Ok(Order::Try) => run_try_order(alloc, &*host, reader, writer, errors),
         Ok(order) => run_other_order(alloc, host, order, writer, errors),
         Err(LineFault::Bad { text }) => report_bad_arguments(errors, text.as_str()),
         Err(LineFault::Memory) => report_stop(alloc, errors, Stop::out_of_memory()),

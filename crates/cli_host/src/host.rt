@@ -32,8 +32,8 @@ use sync_core::Limits;
 /// contracts over any host say which calls are made of it, and one body runs orders on all hosts.
 ///
 /// A host also prints the lines of `run --log`, says that a long import or opening goes on, and looks
-/// for why a file, a socket or a port couldn't be used. These are no calls, since they change
-/// nothing.
+/// for why a file, a socket or a port couldn't be used. These are no calls: what an order does and
+/// prints doesn't depend on them.
 pub trait Host<S, P, L>: RequestLog {
     /// What is known of a call: its result, and the host before and after it.
     ghost calls: { HostCall S P L → Self → Self → Type 0 };
@@ -112,7 +112,7 @@ pub trait Host<S, P, L>: RequestLog {
     fn say(&self, text: &[u8]);
 
     /// Looks for why the store file can't be used, which the order makes if it isn't there, or
-    /// doesn't. For this it may open the file once more, and make a file beside it, which it
+    /// doesn't. For this it may open the file once more, and fill a file beside it, which it
     /// removes.
     fn cause_of_store(&self, file: &str, makes_file: bool) -> FoundCause;
 
@@ -124,6 +124,9 @@ pub trait Host<S, P, L>: RequestLog {
 
     /// Looks for why no endpoint can be bound to the port.
     fn cause_of_port(&self, port: u16) -> FoundCause;
+
+    /// Whether the folder can be read as a site. If it can't, `read_site` has said why.
+    fn has_site(&self, dir: &str) -> bool;
 
     /// Closes the endpoint, after its connections were served.
     fn finish(&mut self, endpoint: P)
@@ -333,6 +336,10 @@ impl Host<FileBooks, SocketEndpoint, TcpListener> for HostRuntime {
 
     fn cause_of_port(&self, port: u16) -> FoundCause {
         port_cause(self, port)
+    }
+
+    fn has_site(&self, dir: &str) -> bool {
+        read_site(self, dir).is_ok()
     }
 
     fn finish(&mut self, endpoint: SocketEndpoint) {

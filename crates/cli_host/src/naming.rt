@@ -151,6 +151,17 @@ fn names_of(alloc: Global, order: &Order) -> Result<OrderNames, NoMemory>
     }
 }
 
+/// The folder of files that the order serves beside the books, if it does.
+pub(crate) fn site_of(alloc: Global, order: &Order) -> Option<Text> {
+    match order {
+        Order::Run {
+            site: Some(site),
+            ..
+        } => Text::copy_of(alloc, site.as_str()).ok(),
+        _ => None,
+    }
+}
+
 /// Whether something is said of a stop of an order of this kind.
 fn says(is_watched: bool, kind: OrderKind) -> bool
     ensures { result ≡ is_watched || uses_words kind }

@@ -1,37 +1,43 @@
 //! Puts a copy back in place of a file. A program that is stopped on the way leaves the file as it
-//! was, or the new one.
+//! was, or the new one. In place of a file that can't be read it may leave one that is refused as no
+//! store; what was there is kept then.
 
 use crate::admin_store::AdminStore;
+use crate::file_care::{
+    copy_synced, is_there, log_of, on_device, real_name, remove, remove_if_empty, remove_log,
+    remove_with_log, sync_folder_of, take_access,
+};
+use crate::lost_numbers::pairs_past;
 use base_types::{Items, NoMemory, Text};
 use book_store::{FileBooks, OpenFault, SqlStore};
 use cli_orders::{Restored, Stop};
+use sqlite::Files;
+use sqlite_std_file::{FileFrom, OpenError, Unknown};
 use std::alloc::Global;
+use std::io::Write;
 use std::rt::HostRuntime;
 use std::{fs, io};
-use sync_core::{BookStore, Denied, Limits, Refusal};
+use sync_core::{BookLine, BookStore, Denied, Limits, Refusal};
 
 /// The most names that are tried for a file that is kept.
 const KEPT_NAMES_MAX: u32 = 10_000;
 
-/// What is at the name of the file that is replaced.
+/// A file and its log that nobody else can open.
+type HeldFiles = Files<FileFrom<Unknown>>;
+
+/// What is at the name of the file that is replaced. Nobody else can open it meanwhile.
 #[derive(Drop)]
 enum Old {
-    /// Nothing, or a file without octets.
-    Vacant,
-    /// A file that is no store that this program can read.
-    Unread,
-    /// A store, and the names of its books, the oldest book first. Nobody else can open the file
-    /// while the store is open.
-    Read(FileBooks, Vec<Text>),
+    /// A file without octets, and whether it was made to be held.
+    Vacant(HeldFiles, bool),
+    /// No store that this program can read.
+    Unread(HeldFiles),
+    /// A store, and its books.
+    Read(FileBooks, Vec<BookLine>),
 }
 
-/// Fails with `Device` where the system does.
-fn on_device<T>(done: io::Result<T>) -> Result<T, Stop> {
-    match done {
-        Ok(value) => Ok(value),
-        Err(_) => Err(Stop::Device),
-    }
-}
+/// What became of the books: the names of those that were made again, and the number of all.
+type Renewed = (Items<Text>, u64);
 
 fn add(names: &mut Vec<Text>, name: Text) -> Result<(), NoMemory> {
     if names.push(name).is_err() {
@@ -40,95 +46,134 @@ fn add(names: &mut Vec<Text>, name: Text) -> Result<(), NoMemory> {
     Ok(())
 }
 
-/// The name of the file's log.
-fn log_of(alloc: Global, file: &str) -> Result<String, NoMemory> {
-    Ok(format!(in alloc; "{file}-wal")?)
+// ---- the old file
+
+/// Holds the file and its log, which are made if they are missing. Stops if they can't be held, as
+/// while a server has them open.
+fn hold(rt: &HostRuntime, file: &str) -> Result<HeldFiles, Stop> {
+    match sqlite_std_file::open(rt, file, Unknown) {
+        Ok(files) => Ok(files),
+        Err(OpenError::OutOfMemory) => Err(Stop::Open(OpenFault::Memory)),
+        Err(_) => Err(Stop::Open(OpenFault::Store)),
+    }
 }
 
-fn is_there(rt: &HostRuntime, path: &str) -> bool {
-    fs::exists(rt, path).unwrap_or(true)
+/// Holds a file that couldn't be opened as a store, if it is none that this program can read: also
+/// if its log can't be read.
+fn hold_unread(rt: &HostRuntime, file: &str, fault: OpenFault) -> Result<Old, Stop> {
+    match fault {
+        OpenFault::NotEmpty | OpenFault::Memory => Err(Stop::Open(fault)),
+        OpenFault::NotOurs
+        | OpenFault::OtherSchema { .. }
+        | OpenFault::Damaged
+        | OpenFault::Store => Ok(Old::Unread(hold(rt, file)?)),
+    }
 }
 
-/// Removes the file if it is there.
-fn remove(rt: &HostRuntime, path: &str) -> Result<(), Stop> {
-    match fs::remove_file(rt, path) {
-        Ok(()) => Ok(()),
-        Err(error) if error.kind() == io::ErrorKind::NotFound => Ok(()),
+/// Opens the file that is to be replaced.
+fn read_old(rt: &HostRuntime, file: &str) -> Result<Old, Stop> {
+    match SqlStore::open(rt, file, Limits::standard()) {
+        Ok(store) => {
+            let mut store = store;
+            let books = store.books()?;
+            Ok(Old::Read(store, books))
+        }
+        Err(fault) => hold_unread(rt, file, fault),
+    }
+}
+
+/// Looks at what is to be replaced, and holds it.
+fn look_at_old(rt: &HostRuntime, file: &str) -> Result<Old, Stop> {
+    match fs::metadata(rt, file) {
+        Ok(found) if found.is_file() && found.len() == 0 => {
+            Ok(Old::Vacant(hold(rt, file)?, false))
+        }
+        Ok(_) => read_old(rt, file),
+        Err(error) if error.kind() == io::ErrorKind::NotFound => {
+            Ok(Old::Vacant(hold(rt, file)?, true))
+        }
         Err(_) => Err(Stop::Device),
     }
 }
 
-// ---- the old file
-
-/// The names of the store's books, the oldest book first.
-fn names_by_age(alloc: Global, store: &mut FileBooks) -> Result<Vec<Text>, Stop> {
-    let lines = store.books()?;
-    let mut names = Vec::new(alloc);
-    for id in 1..=lines.len() as u64 {
-        for line in lines.as_slice() {
-            if line.id == id {
-                add(&mut names, Text::copy_of(alloc, line.name.as_str())?)?;
-            }
-        }
-    }
-    Ok(names)
-}
-
-/// Looks at what is to be replaced. Stops if it can't be opened now, as while a server has it open.
-fn look_at_old(rt: &HostRuntime, file: &str) -> Result<Old, Stop> {
-    match fs::metadata(rt, file) {
-        Ok(metadata) if metadata.is_file() && metadata.len() == 0 => return Ok(Old::Vacant),
-        Ok(_) => {}
-        Err(error) if error.kind() == io::ErrorKind::NotFound => return Ok(Old::Vacant),
-        Err(_) => return Err(Stop::Device),
-    }
-    match SqlStore::open(rt, file, Limits::standard()) {
-        Ok(store) => {
-            let mut store = store;
-            let names = names_by_age(rt.alloc(), &mut store)?;
-            Ok(Old::Read(store, names))
-        }
-        Err(OpenFault::NotOurs) | Err(OpenFault::OtherSchema { .. }) | Err(OpenFault::Damaged) => {
-            Ok(Old::Unread)
-        }
-        Err(fault) => Err(Stop::Open(fault)),
+/// The old file's books, if they are known.
+fn books_of(old: &Old) -> &[BookLine] {
+    match old {
+        Old::Read(_, books) => books.as_slice(),
+        _ => &[],
     }
 }
 
 // ---- the new file
 
-/// Creates each book that the store hasn't, and returns their names.
+/// Creates the book if the store hasn't got it, and adds its name then.
+fn make_if_missing<S: BookStore>(
+    alloc: Global,
+    store: &mut S,
+    name: &str,
+    made: &mut Vec<Text>,
+) -> Result<(), Stop> {
+    match store.create_book(name) {
+        Ok(_id) => {
+            add(made, Text::copy_of(alloc, name)?)?;
+            Ok(())
+        }
+        Err(Denied::Refused(Refusal::BookExists)) => Ok(()),
+        Err(denied) => Err(Stop::from(denied)),
+    }
+}
+
+/// Creates each of these books that the store hasn't, the oldest first, so that it gets its id
+/// again. Returns their names.
 fn make_missing<S: BookStore>(
     alloc: Global,
     store: &mut S,
-    names: &[Text],
+    books: &[BookLine],
 ) -> Result<Items<Text>, Stop> {
     let mut made = Vec::new(alloc);
-    for name in names {
-        match store.create_book(name.as_str()) {
-            Ok(_id) => add(&mut made, Text::copy_of(alloc, name.as_str())?)?,
-            Err(Denied::Refused(Refusal::BookExists)) => {}
-            Err(denied) => return Err(Stop::from(denied)),
+    for id in 1..=books.len() as u64 {
+        for book in books {
+            if book.id == id {
+                make_if_missing(alloc, store, book.name.as_str(), &mut made)?;
+            }
         }
     }
     Ok(Items::from_vec(made))
 }
 
-/// Creates the missing books of the new file, makes every device start again, and folds the log
-/// into the file. Returns the names of the books that were made, and the number of all books.
-fn renew(
-    rt: &HostRuntime,
-    fresh: &str,
-    names: &[Text],
+/// Makes every device start again. Each book's numbers pass those of the old file's, so also those
+/// that an earlier restore or resync took.
+fn resync_past(store: &mut FileBooks, old: &[BookLine], pairs: u64) -> Result<u64, Stop> {
+    let books = store.books()?;
+    let past = pairs_past(old, books.as_slice(), pairs);
+    let count = store.resync_books(past)?;
+    Ok(count)
+}
+
+/// Creates the missing books, and makes every device start again.
+fn renew_books(
+    alloc: Global,
+    store: &mut FileBooks,
+    old: &[BookLine],
     pairs: u64,
-) -> Result<(Items<Text>, u64), Stop> {
-    let mut store: FileBooks = SqlStore::open(rt, fresh, Limits::standard())?;
-    let made = make_missing(rt.alloc(), &mut store, names)?;
-    let books = store.resync_books(pairs)?;
+) -> Result<Renewed, Stop> {
+    let made = make_missing(alloc, store, old)?;
+    let count = resync_past(store, old, pairs)?;
+    Ok((made, count))
+}
+
+/// Closes the store, whose file then needs no log, and removes the log.
+fn close_alone(rt: &HostRuntime, store: FileBooks, file: &str) -> Result<(), Stop> {
     let _files = store.close()?;
-    let log = log_of(rt.alloc(), fresh)?;
-    remove(rt, log.as_str())?;
-    Ok((made, books))
+    remove_log(rt, file)
+}
+
+/// Renews the books of the new file, and folds the log into the file.
+fn renew(rt: &HostRuntime, fresh: &str, old: &[BookLine], pairs: u64) -> Result<Renewed, Stop> {
+    let mut store: FileBooks = SqlStore::open(rt, fresh, Limits::standard())?;
+    let renewed = renew_books(rt.alloc(), &mut store, old, pairs)?;
+    close_alone(rt, store, fresh)?;
+    Ok(renewed)
 }
 
 /// Makes the new file of the copy. After an error there is none.
@@ -136,112 +181,197 @@ fn make_new(
     rt: &HostRuntime,
     backup: &str,
     fresh: &str,
-    names: &[Text],
+    old: &[BookLine],
     pairs: u64,
-) -> Result<(Items<Text>, u64), Stop> {
-    let log = log_of(rt.alloc(), fresh)?;
+) -> Result<Renewed, Stop> {
     // What a restore left that was stopped.
-    remove(rt, fresh)?;
-    remove(rt, log.as_str())?;
+    remove_with_log(rt, fresh)?;
     let _books = SqlStore::copy_file(rt, backup, fresh)?;
-    let renewed = renew(rt, fresh, names, pairs);
+    let renewed = renew(rt, fresh, old, pairs);
     if renewed.is_err() {
-        let _removed = remove(rt, fresh);
-        let _removed_log = remove(rt, log.as_str());
+        let _removed = remove_with_log(rt, fresh);
     }
     renewed
 }
 
-// ---- putting it in place
+// ---- keeping the old file
 
-/// A name under which the file can be kept: neither it nor its log is there.
+/// The name of this number under which the file can be kept, if neither it nor its log is there.
+fn name_if_free(rt: &HostRuntime, file: &str, number: u32) -> Result<Option<String>, NoMemory> {
+    let name = format!(in rt.alloc(); "{file}.before-restore-{number}")?;
+    let log = log_of(rt.alloc(), name.as_str())?;
+    if is_there(rt, name.as_str()) || is_there(rt, log.as_str()) {
+        return Ok(None);
+    }
+    Ok(Some(name))
+}
+
+/// The first name under which the file can be kept.
 fn free_name(rt: &HostRuntime, file: &str) -> Result<String, Stop> {
-    let alloc = rt.alloc();
     for number in 1..KEPT_NAMES_MAX {
-        let name = format!(in alloc; "{file}.before-restore-{number}")?;
-        let log = log_of(alloc, name.as_str())?;
-        if !is_there(rt, name.as_str()) && !is_there(rt, log.as_str()) {
+        if let Some(name) = name_if_free(rt, file, number)? {
             return Ok(name);
         }
     }
     Err(Stop::Device)
 }
 
-/// Copies a file, and waits until the disk has the copy.
-fn keep_file(rt: &HostRuntime, path: &str, kept: &str) -> Result<(), Stop> {
-    let _octets = on_device(fs::copy(rt, path, kept))?;
-    let file = on_device(fs::open(rt, kept))?;
-    on_device(file.sync_all())
+/// Keeps what is at the path under the other name, unless it is nothing or has no octets.
+fn keep(rt: &HostRuntime, path: &str, kept: &str, names: &mut Vec<Text>) -> Result<(), Stop> {
+    match fs::metadata(rt, path) {
+        Ok(found) if found.len() == 0 => return Ok(()),
+        Ok(_) => {}
+        Err(error) if error.kind() == io::ErrorKind::NotFound => return Ok(()),
+        Err(_) => return Err(Stop::Device),
+    }
+    copy_synced(rt, path, kept)?;
+    add(names, Text::copy_of(rt.alloc(), kept)?)?;
+    Ok(())
 }
 
-/// Keeps what is at the name of the file, and its log if it has one, under new names.
-fn keep_old(rt: &HostRuntime, file: &str) -> Result<Items<Text>, Stop> {
-    let alloc = rt.alloc();
-    let mut names = Vec::new(alloc);
-    let name = free_name(rt, file)?;
-    let log = log_of(alloc, file)?;
-    keep_file(rt, file, name.as_str())?;
-    if fs::exists(rt, log.as_str()).unwrap_or(false) {
-        let kept_log = log_of(alloc, name.as_str())?;
-        keep_file(rt, log.as_str(), kept_log.as_str())?;
-        add(&mut names, Text::new(name))?;
-        add(&mut names, Text::new(kept_log))?;
-    } else {
-        add(&mut names, Text::new(name))?;
-    }
+/// Keeps the file and its log under this name.
+fn keep_as(rt: &HostRuntime, file: &str, name: &str) -> Result<Items<Text>, Stop> {
+    let mut names = Vec::new(rt.alloc());
+    let log = log_of(rt.alloc(), file)?;
+    let kept_log = log_of(rt.alloc(), name)?;
+    keep(rt, file, name, &mut names)?;
+    keep(rt, log.as_str(), kept_log.as_str(), &mut names)?;
     Ok(Items::from_vec(names))
 }
 
-/// Puts the new file in place of a store that was read. Its log was folded into it, so either file
-/// is whole without one.
+/// Keeps the file and its log under new names, which it returns. After an error nothing is kept.
+fn keep_old(rt: &HostRuntime, file: &str) -> Result<Items<Text>, Stop> {
+    let name = free_name(rt, file)?;
+    let kept = keep_as(rt, file, name.as_str());
+    if kept.is_err() {
+        let _removed = remove_with_log(rt, name.as_str());
+    }
+    kept
+}
+
+// ---- putting the new file in place
+
+/// Puts the new file in place of the old one, whose log is gone.
+fn put(rt: &HostRuntime, fresh: &str, file: &str) -> Result<(), Stop> {
+    on_device(fs::rename(rt, fresh, file))?;
+    sync_folder_of(rt, file);
+    Ok(())
+}
+
+/// Replaces a store that was read. Its log was folded into it, so either file is whole without one.
 fn replace_read(
     rt: &HostRuntime,
     store: FileBooks,
     fresh: &str,
     file: &str,
 ) -> Result<Items<Text>, Stop> {
-    let log = log_of(rt.alloc(), file)?;
     // Held until the new file is in its place, so that no server opens the old one.
-    let files = store.close()?;
-    remove(rt, log.as_str())?;
+    let _files = store.close()?;
+    remove_log(rt, file)?;
     let kept = keep_old(rt, file)?;
-    on_device(fs::rename(rt, fresh, file))?;
-    let _held = files;
+    put(rt, fresh, file)?;
     Ok(kept)
 }
 
-/// Puts the new file in place of one that can't be read. The log goes last of the old ones: a file
-/// without its log could be read as an older state.
+/// Writes over the first octets of the file, so that it is no store without its log either.
+fn spoil(rt: &HostRuntime, file: &str) -> io::Result<()> {
+    let mut opened = fs::File::options().write(true).open(rt, file)?;
+    opened.write_all(b"A restore was stopped here.\n")?;
+    opened.sync_all()
+}
+
+/// Replaces a file that can't be read. Without its log it could be read as an older state, so it is
+/// spoiled before that goes.
 fn replace_unread(rt: &HostRuntime, fresh: &str, file: &str) -> Result<Items<Text>, Stop> {
-    let log = log_of(rt.alloc(), file)?;
     let kept = keep_old(rt, file)?;
-    remove(rt, file)?;
-    remove(rt, log.as_str())?;
-    on_device(fs::rename(rt, fresh, file))?;
+    on_device(spoil(rt, file))?;
+    remove_log(rt, file)?;
+    put(rt, fresh, file)?;
     Ok(kept)
 }
 
-/// Puts the new file where there is none.
-fn put_new(rt: &HostRuntime, fresh: &str, file: &str) -> Result<Items<Text>, Stop> {
-    let log = log_of(rt.alloc(), file)?;
-    remove(rt, log.as_str())?;
-    on_device(fs::rename(rt, fresh, file))?;
-    Ok(Items::from_vec(Vec::new(rt.alloc())))
+/// Replaces a file without octets. A log without its file is kept as well.
+fn replace_vacant(rt: &HostRuntime, fresh: &str, file: &str) -> Result<Items<Text>, Stop> {
+    let kept = keep_old(rt, file)?;
+    remove_log(rt, file)?;
+    put(rt, fresh, file)?;
+    Ok(kept)
 }
 
+/// Puts the new file in place of the old one, and returns the names under which that is kept.
 fn put_in_place(rt: &HostRuntime, old: Old, fresh: &str, file: &str) -> Result<Items<Text>, Stop> {
     match old {
-        Old::Vacant => put_new(rt, fresh, file),
-        Old::Unread => replace_unread(rt, fresh, file),
-        Old::Read(store, _names) => replace_read(rt, store, fresh, file),
+        Old::Vacant(_held, _) => replace_vacant(rt, fresh, file),
+        Old::Unread(_held) => replace_unread(rt, fresh, file),
+        Old::Read(store, _books) => replace_read(rt, store, fresh, file),
     }
 }
 
-/// The names of the old file's books, if they are known.
-fn names_of(old: &Old) -> &[Text] {
-    match old {
-        Old::Read(_, names) => names.as_slice(),
-        _ => &[],
+/// Makes the new file and gives it the access of the old one, or of the copy if there is none.
+fn make_like_old(
+    rt: &HostRuntime,
+    backup: &str,
+    fresh: &str,
+    file: &str,
+    old: &Old,
+    pairs: u64,
+) -> Result<Renewed, Stop> {
+    let renewed = make_new(rt, backup, fresh, books_of(old), pairs)?;
+    if matches!(old, Old::Vacant(_, true)) {
+        return Ok(renewed);
+    }
+    match take_access(rt, file, fresh) {
+        Ok(()) => Ok(renewed),
+        Err(_) => {
+            let _removed = remove_with_log(rt, fresh);
+            Err(Stop::Device)
+        }
+    }
+}
+
+/// Removes the files that were made to be held, if nothing was put in their place.
+fn forget_vacant(rt: &HostRuntime, file: &str, old: &Old) {
+    if matches!(old, Old::Vacant(_, true)) {
+        let _removed = remove_if_empty(rt, file);
+        if let Ok(log) = log_of(rt.alloc(), file) {
+            let _removed_log = remove_if_empty(rt, log.as_str());
+        }
+    }
+}
+
+/// The name of the new file until it is in its place. The copy may have the first one, from a
+/// restore that was stopped.
+fn fresh_name(rt: &HostRuntime, backup: &str, file: &str) -> Result<String, NoMemory> {
+    let first = format!(in rt.alloc(); "{file}.restoring")?;
+    if first.as_str() == backup {
+        return Ok(format!(in rt.alloc(); "{file}.restoring-2")?);
+    }
+    Ok(first)
+}
+
+/// Restores the file that has no link in its name.
+fn restore_real(rt: &HostRuntime, backup: &str, file: &str, pairs: u64) -> Result<Restored, Stop> {
+    let fresh = fresh_name(rt, backup, file)?;
+    let old = look_at_old(rt, file)?;
+    let is_read = !matches!(&old, Old::Unread(_));
+    let (made, books) = match make_like_old(rt, backup, fresh.as_str(), file, &old, pairs) {
+        Ok(renewed) => renewed,
+        Err(stop) => {
+            forget_vacant(rt, file, &old);
+            return Err(stop);
+        }
+    };
+    match put_in_place(rt, old, fresh.as_str(), file) {
+        Ok(kept) => Ok(Restored {
+            kept,
+            is_read,
+            made,
+            books,
+        }),
+        Err(stop) => {
+            let _removed = remove_with_log(rt, fresh.as_str());
+            Err(stop)
+        }
     }
 }
 
@@ -249,26 +379,20 @@ fn names_of(old: &Old) -> &[Text] {
 /// not changed. The old file and its log are kept under names that are returned. Books that the old
 /// file has and the copy hasn't are made again, empty, in their order; so no later book gets their
 /// ids, and with them their tokens. At last every device is made to start again, with this many
-/// pairs of numbers.
+/// pairs of numbers, or more if the old file has higher ones. The new file has the mode of the old
+/// one, and its owner where the system allows that.
 ///
-/// Stops with `Open` if the copy can't be opened, or if the file can't be opened now, as while a
+/// Stops with `Open` if the copy can't be opened, or if the file can't be held now, as while a
 /// server has it open; with a refusal if a book would pass a limit; and with `Device` if the system
-/// refuses to copy, remove or rename a file. A stop leaves the file as it was.
+/// refuses to copy, remove or rename a file. A stop leaves the file as it was, but for one that
+/// can't be read: that may be spoiled, and is kept then.
 pub(crate) fn restore_file(
     rt: &HostRuntime,
     backup: &str,
     file: &str,
     pairs: u64,
 ) -> Result<Restored, Stop> {
-    let fresh = format!(in rt.alloc(); "{file}.restoring")?;
-    let old = look_at_old(rt, file)?;
-    let is_read = !matches!(&old, Old::Unread);
-    let (made, books) = make_new(rt, backup, fresh.as_str(), names_of(&old), pairs)?;
-    let kept = put_in_place(rt, old, fresh.as_str(), file)?;
-    Ok(Restored {
-        kept,
-        is_read,
-        made,
-        books,
-    })
+    let real_backup = real_name(rt, backup)?;
+    let real_file = real_name(rt, file)?;
+    restore_real(rt, real_backup.as_str(), real_file.as_str(), pairs)
 }

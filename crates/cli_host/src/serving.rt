@@ -77,7 +77,9 @@ fn serve_at<S, P: Endpoint, L, M: Host<S, P, L>, H: Handler + Drop, W: Write>(
 {
     let (endpoint, address) = host.listen(alloc, address, limits.together)?;
     let log = log_if(is_logged, &*host);
-    let mut logged = LoggedHandler::new(handler, log);
+    // At a port every local user can send a name; at the socket those that its group has.
+    let names_users = matches!(&address, Address::Socket(_));
+    let mut logged = LoggedHandler::new(handler, log, names_users);
     let mut connections = LoggedEndpoint::new(endpoint, log);
     let served = announce_and_serve(
         alloc,

@@ -4,6 +4,7 @@
 //! can't be made or written, it is lost.
 
 use crate::host::Host;
+use base_types::Text;
 use cli_orders::{FoundCause, OrderKind, OrderNames, Stop, stop_sentence};
 use std::alloc::Global;
 use store_schema::OpenFault;
@@ -92,16 +93,28 @@ fn say_sentence<S, P, L, M: Host<S, P, L>>(
     }
 }
 
+/// Whether the stop is that of a folder that can't be served, which was said when it was read.
+fn is_said<S, P, L, M: Host<S, P, L>>(host: &M, site: Option<&Text>, stop: Stop) -> bool {
+    match (site, stop) {
+        (Some(dir), Stop::Device) => !host.has_site(dir.as_str()),
+        _ => false,
+    }
+}
+
 /// Says what the stop is about, if the names are those of an order whose stop is told in words.
 pub(crate) fn say_why<S, P, L, M: Host<S, P, L>>(
     alloc: Global,
     host: &M,
     names: Option<OrderNames>,
+    site: Option<&Text>,
     stop: Stop,
 ) {
     let Some(names) = names else {
         return;
     };
+    if is_said(host, site, stop) {
+        return;
+    }
     let names = if is_about_other(names.kind, stop) {
         about_other(names)
     } else {

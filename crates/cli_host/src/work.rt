@@ -125,15 +125,19 @@ pub enum StoreWork {
     },
 }
 
-/// The limits of a server, with its patience in seconds.
-fn limits_of(connections: u64, together: u64, patience: u64) -> ServeLimits
-    ensures { result ≡ limits_of connections together patience }
+/// The octets of a MiB.
+const MEBIBYTE: u64 = 1_048_576;
+
+/// The limits of a server, with its patience in seconds, and in MiB what its connections may hold.
+fn limits_of(connections: u64, together: u64, patience: u64, held: u64) -> ServeLimits
+    ensures { result ≡ limits_of connections together patience held }
 {
     ServeLimits {
         connections,
         // The checker proves that this cast loses nothing.
         together: together as usize,
         patience: patience.saturating_mul(1_000),
+        held: held.saturating_mul(MEBIBYTE),
     }
 }
 
@@ -220,6 +224,7 @@ pub fn work_of(order: Order) -> Work
             names,
             max_open,
             idle_timeout,
+            max_held,
             creates,
             is_logged,
             site,
@@ -228,7 +233,7 @@ pub fn work_of(order: Order) -> Work
             creates,
             names,
             address: address_of(port, socket),
-            limits: limits_of(ENDLESS_CONNECTIONS, max_open, idle_timeout),
+            limits: limits_of(ENDLESS_CONNECTIONS, max_open, idle_timeout, max_held),
             is_logged,
             site,
         },

@@ -85,6 +85,7 @@ device_sentence names found.Unreadable = other_sentence names found.Unreadable
 device_sentence names found.NoFolder = other_sentence names found.NoFolder
 device_sentence names found.FolderDenied = other_sentence names found.FolderDenied
 device_sentence names found.SocketTaken = other_sentence names found.SocketTaken
+device_sentence names found.LongPath = other_sentence names found.LongPath
 device_sentence names found.NotSocket = other_sentence names found.NotSocket
 device_sentence names cause = device_words names.kind ++ line_feed ∷ []
 

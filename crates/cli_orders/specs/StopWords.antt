@@ -33,13 +33,15 @@ store_words found.DiskFull = codes "its disk is full; make room"
 store_words found.Taken = codes "another program has it open"
 store_words found.HasJournal =
     codes "a journal of SQLite is beside it; open it with sqlite3 first"
-store_words cause = codes "its disk failed, or what it holds can't be read"
+store_words cause = codes "its disk failed or is full, or what it holds can't be read"
 
--- which order helps: one that makes the file, if it is missing
+-- Which order helps: one that makes the file, if it is missing. Who looks for the books of a file has
+-- no use for an empty one.
 abbrev pub store_advice : OrderKind → FoundCause → Advice
 store_advice kind.Run found.Missing = advise.RunWithCreate
-store_advice kind.Restore found.Missing = advise.Nothing
-store_advice order found.Missing = advise.InitFile
+store_advice kind.Serve found.Missing = advise.InitFile
+store_advice kind.Import found.Missing = advise.InitFile
+store_advice kind.Other found.Missing = advise.InitFile
 store_advice order cause = advise.Nothing
 
 -- what a file of another schema is; this program's is 2
@@ -85,6 +87,7 @@ other_words found.TooLong =
 other_words found.NoFolder = codes "there is no folder for it; make that first"
 other_words found.FolderDenied = codes "you may not make files in its folder"
 other_words found.SocketTaken = codes "another program listens there"
+other_words found.LongPath = codes "a socket's path has at most 107 bytes; name a shorter one"
 other_words found.NotSocket =
     codes "something else is there; move it away, or name another path"
 other_words cause = codes "it can't be read"
@@ -116,7 +119,7 @@ refusal_words SameBook = codes "both books are the same"
 refusal_words (BadToken cause) = codes "the sync token isn't accepted"
 refusal_words BadLimit = codes "the limit may not be 0"
 refusal_words BookFull = codes "the book would have more cards than it may"
-refusal_words ChangesSpent = codes "the book has had as many changes as it may"
+refusal_words ChangesSpent = codes "the book would have more changes than it may"
 refusal_words (BadImport row cause) = codes "a row isn't accepted"
 refusal_words BadKey =
     codes "a key is 1 to 64 of A to Z, a to z, 0 to 9, dot, underscore and hyphen"

@@ -37,6 +37,8 @@ pub enum FoundCause {
     PortDenied,
     /// Another program listens at the socket.
     SocketTaken,
+    /// The system has no sockets of so long a path.
+    LongPath,
     /// Something else than a socket is where it should be made.
     NotSocket,
 }

@@ -136,6 +136,7 @@ fn device_sentence(alloc: Global, names: &OrderNames, cause: FoundCause) -> Resu
         | FoundCause::NoFolder
         | FoundCause::FolderDenied
         | FoundCause::SocketTaken
+        | FoundCause::LongPath
         | FoundCause::NotSocket => {
             about(
                 alloc,

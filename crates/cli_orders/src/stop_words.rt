@@ -26,7 +26,7 @@ pub(crate) fn store_words(cause: FoundCause) -> &'static str
         FoundCause::DiskFull => "its disk is full; make room",
         FoundCause::Taken => "another program has it open",
         FoundCause::HasJournal => "a journal of SQLite is beside it; open it with sqlite3 first",
-        _ => "its disk failed, or what it holds can't be read",
+        _ => "its disk failed or is full, or what it holds can't be read",
     }
 }
 
@@ -64,8 +64,8 @@ fn store_advice(kind: OrderKind, cause: FoundCause) -> Advice
     match cause {
         FoundCause::Missing => match kind {
             OrderKind::Run => Advice::RunWithCreate,
-            OrderKind::Restore => Advice::Nothing,
-            _ => Advice::InitFile,
+            OrderKind::Serve | OrderKind::Import | OrderKind::Other => Advice::InitFile,
+            _ => Advice::Nothing,
         },
         _ => Advice::Nothing,
     }
@@ -116,6 +116,7 @@ pub(crate) fn other_words(cause: FoundCause) -> &'static str
         FoundCause::NoFolder => "there is no folder for it; make that first",
         FoundCause::FolderDenied => "you may not make files in its folder",
         FoundCause::SocketTaken => "another program listens there",
+        FoundCause::LongPath => "a socket's path has at most 107 bytes; name a shorter one",
         FoundCause::NotSocket => "something else is there; move it away, or name another path",
         _ => "it can't be read",
     }
@@ -154,7 +155,7 @@ pub(crate) fn refusal_words(refusal: Refusal) -> &'static str
         Refusal::BadToken(_) => "the sync token isn't accepted",
         Refusal::BadLimit => "the limit may not be 0",
         Refusal::BookFull => "the book would have more cards than it may",
-        Refusal::ChangesSpent => "the book has had as many changes as it may",
+        Refusal::ChangesSpent => "the book would have more changes than it may",
         Refusal::BadImport { .. } => "a row isn't accepted",
         Refusal::BadKey => "a key is 1 to 64 of A to Z, a to z, 0 to 9, dot, underscore and hyphen",
         Refusal::BadForget => "the number is below the book's horizon or above its last change",

@@ -1,14 +1,15 @@
 -- A hub's operations are operations on the links of all connections.
 use Rattle.std.proofs.Common.{◌≡◌, ◌∙◌, ◌==◌, ◌≤◌, ◌<◌, ℕ, zero, suc, Bool, true, false, List, [], ◌∷◌, ◌++◌, Option, Some, None, refl, sym, ap, subst, length, slice_get, slice_set, replicate, arith, length-append, count_by, is_some}
 use Rattle.std.proofs.lemmas.Bool.{eqb-true}
-use Rattle.std.proofs.lemmas.List.{length-replicate}
+use Rattle.std.proofs.lemmas.List.{length-replicate, set-set}
 use Rattle.std.proofs.lemmas.List.Sums.{count_by-le-length}
 use Rattle.http_requests.specs.HandlerRuns.{HandlerRelation, FaultReplies}
+use Rattle.http_requests.proofs.PartLemmas.{part_of_piece}
 use Rattle.http_hub.specs.FedPieces.{new_sessions}
 use Rattle.http_hub.specs.HubRuns.{AreAllLinks, DoesStep, HubRuns, HubsSeparateConnections, HubStep, pieces_in, sessions_of}
-use Rattle.http_hub.specs.HubRuns.HubStep.{Opens, Receives, Fails, Sends, Ends}
+use Rattle.http_hub.specs.HubRuns.HubStep.{Opens, Receives, Fails, Refuses, Sends, Ends}
 use Rattle.http_hub.specs.Hubs.{HubValue, IsAt, new_hub, with_link, with_slot}
-use Rattle.http_hub.specs.Links.{LinkValue, link_after_failure, link_after_sent, new_link}
+use Rattle.http_hub.specs.Links.{LinkValue, link_after_failure, link_after_refusal, link_after_sent, new_link}
 use Rattle.http_hub.specs.declared.slot.Slot.{Slot}
 use Rattle.http_hub.proofs.FedPieceLemmas.{one_run}
 use Rattle.http_hub.proofs.LinkRunLemmas.{DoesLinkStep, LinkRuns, balance, fed_from, links_fed}
@@ -134,6 +135,17 @@ module _ (hub : HubValue) (links : List LinkValue) (is : AreAllLinks hub links) 
           (before_ended m two (written hub.slots place m (Some slot) None two (place == m) refl found at_two)) same;
     }
 
+-- a link that was changed and then refused was refused
+pub refused_link : (before full after : HubValue) (place : ℕ) (slot other : Slot) (next last : LinkValue) → IsAt before place slot → full ≡ with_link before place slot.serial next
+    → IsAt full place other → after ≡ with_link full place other.serial last → after ≡ with_link before place slot.serial last
+refused_link before full after place slot other next last found full_is at after_is =
+    let changed : Slot = record { serial = slot.serial; link = next } in
+    let here : slice_get full.slots place ≡ Some (Some changed) = ap (λ (h : HubValue). slice_get h.slots place) full_is ∙ set_same before.slots place (Some changed) (Some slot) found in
+    let is : other ≡ changed = cc (at, here) in
+    let hub_with : List (Option Slot) → HubValue = λ slots. record { slots = slots; opened = before.opened } in
+    after_is ∙ ap (λ (s : Slot). with_link full place s.serial last) is ∙ ap (λ (h : HubValue). with_link h place slot.serial last) full_is
+    ∙ ap hub_with (set-set before.slots place (Some changed) (Some (record { serial = slot.serial; link = last })))
+
 module _ {S : Type 0} (does : HandlerRelation S) (fault_reply : FaultReplies) where
   -- ---- operations are operations on all links
 
@@ -160,6 +172,19 @@ module _ {S : Type 0} (does : HandlerRelation S) (fault_reply : FaultReplies) wh
         slice_set links serial (link_after_failure failed.slot.link),
         record { link = failed.slot.link; found = link_at; feeds_in_part = failed.feeds_in_part; after_is = refl },
         subst (λ n. AreAllLinks after (slice_set links n (link_after_failure failed.slot.link))) serial_is all,
+      )
+  step_on_links (Refuses serial piece reply now) before after links w v is (place, refused, serial_is) =
+      let received = refused.received in
+      let last : LinkValue = link_after_refusal reply now in
+      let link_at : slice_get links serial ≡ Some received.slot.link = subst (λ n. slice_get links n ≡ Some received.slot.link) serial_is (is.are_open place received.slot received.found) in
+      let after_is : after ≡ with_link before place received.slot.serial last =
+      refused_link before refused.full after place received.slot refused.refused.slot received.next last received.found received.after_is refused.refused.found refused.refused.after_is in
+      let all : AreAllLinks after (slice_set links received.slot.serial last) =
+      subst (λ h. AreAllLinks h (slice_set links received.slot.serial last)) (sym after_is) (all_changed before links is place received.slot last received.found) in
+      let part = part_of_piece does fault_reply received.slot.link.session w v piece received.receives.replies received.receives.session received.receives.feeds in (
+        slice_set links serial last,
+        record { link = received.slot.link; found = link_at; feeds_in_part = part; none_pending = received.receives.none_pending; after_is = refl },
+        subst (λ n. AreAllLinks after (slice_set links n last)) serial_is all,
       )
   step_on_links (Sends serial octets now) before after links w v is (same, place, sends, serial_is, are) =
       let link_at : slice_get links serial ≡ Some sends.slot.link = subst (λ n. slice_get links n ≡ Some sends.slot.link) serial_is (is.are_open place sends.slot sends.found) in
@@ -189,6 +214,11 @@ module _ {S : Type 0} (does : HandlerRelation S) (fault_reply : FaultReplies) wh
       ap (λ (h : HubValue). length h.slots) received.after_is ∙ set_length before.slots place (Some (record { serial = received.slot.serial; link = received.next }))
   step_keeps_places (Fails serial piece) before after w v (place, failed, serial_is) =
       ap (λ (h : HubValue). length h.slots) failed.after_is ∙ set_length before.slots place (Some (record { serial = failed.slot.serial; link = link_after_failure failed.slot.link }))
+  step_keeps_places (Refuses serial piece reply now) before after w v (place, refused, serial_is) =
+      ap (λ (h : HubValue). length h.slots) refused.refused.after_is
+      ∙ set_length refused.full.slots place (Some (record { serial = refused.refused.slot.serial; link = link_after_refusal reply now }))
+      ∙ ap (λ (h : HubValue). length h.slots) refused.received.after_is
+      ∙ set_length before.slots place (Some (record { serial = refused.received.slot.serial; link = refused.received.next }))
   step_keeps_places (Sends serial octets now) before after w v (same, place, sends, serial_is, are) =
       ap (λ (h : HubValue). length h.slots) sends.after_is ∙ set_length before.slots place (Some (record { serial = sends.slot.serial; link = link_after_sent sends.slot.link (length octets) now }))
   step_keeps_places (Ends serial) before after w v (same, place, ends, serial_is) =

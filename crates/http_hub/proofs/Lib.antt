@@ -8,3 +8,4 @@ pub mod CallLemmas
 pub mod CountLemmas
 pub mod PlaceCountLemmas
 pub mod PieceRequestLemmas
+pub mod HoldingLemmas

@@ -5,9 +5,9 @@ use Rattle.std.proofs.lemmas.List.{append-nil, take-append-drop}
 use Rattle.std.proofs.lemmas.Bool.{eqb-true}
 use Rattle.http_requests.specs.HandlerRuns.{HandlerRelation, FaultReplies}
 use Rattle.http_requests.specs.SessionFeeding.{FeedsPiece, FeedsPieceInPart}
-use Rattle.http_hub.specs.HubRuns.{HubStep, pending_of, session_of, sessions_of, pieces_in, sent_to}
-use Rattle.http_hub.specs.HubRuns.HubStep.{Opens, Receives, Fails, Sends, Ends}
-use Rattle.http_hub.specs.Links.{LinkValue, ReceivesPiece, link_after_failure, link_after_sent, new_link}
+use Rattle.http_hub.specs.HubRuns.{HubStep, pending_of, refused_to, session_of, sessions_of, pieces_in, sent_to}
+use Rattle.http_hub.specs.HubRuns.HubStep.{Opens, Receives, Fails, Refuses, Sends, Ends}
+use Rattle.http_hub.specs.Links.{LinkValue, ReceivesPiece, link_after_failure, link_after_refusal, link_after_sent, new_link}
 use Rattle.http_hub.specs.FedPieces.{FedInTurn, FeedsOrFails, given_replies, Sessions, FedPiece, replies_in, replies_to, pieces_of, with_session}
 use Rattle.http_hub.proofs.PlaceLemmas.{shown, shown_same}
 
@@ -28,6 +28,14 @@ module _ {S : Type 0} (does : HandlerRelation S) (fault_reply : FaultReplies) wh
     pub feeds_in_part : FeedsPieceInPart does fault_reply link.session old piece new
     pub after_is : after ≡ slice_set before serial (link_after_failure link)
 
+  -- it received a piece, what it came to hold was dropped, and this reply is pending
+  pub record RefusesBySerial (serial : ℕ) (before : List LinkValue) (old : S) (piece reply : List ℕ) (now : ℕ) (new : S) (after : List LinkValue) : Type 0 where
+    pub link : LinkValue
+    pub found : slice_get before serial ≡ Some link
+    pub feeds_in_part : FeedsPieceInPart does fault_reply link.session old piece new
+    pub none_pending : link.pending ≡ []
+    pub after_is : after ≡ slice_set before serial (link_after_refusal reply now)
+
 pub record SendsBySerial (serial : ℕ) (before : List LinkValue) (count now : ℕ) (after : List LinkValue) : Type 0 where
   pub link : LinkValue
   pub found : slice_get before serial ≡ Some link
@@ -41,6 +49,7 @@ module _ {S : Type 0} (does : HandlerRelation S) (fault_reply : FaultReplies) wh
   DoesLinkStep before old (Receives serial piece replies now) new after =
       (received : ReceivesBySerial does fault_reply serial before old piece now new after) × (received.receives.replies ≡ replies)
   DoesLinkStep before old (Fails serial piece) new after = FailsBySerial does fault_reply serial before old piece new after
+  DoesLinkStep before old (Refuses serial piece reply now) new after = RefusesBySerial does fault_reply serial before old piece reply now new after
   DoesLinkStep before old (Sends serial octets now) new after =
       (old ≡ new) × (writes : SendsBySerial serial before (length octets) now after) × (octets ≡ take (length octets) writes.link.pending)
   DoesLinkStep before old (Ends serial) new after = (old ≡ new) × (before ≡ after)
@@ -109,6 +118,16 @@ module _ {S : Type 0} (does : HandlerRelation S) (fault_reply : FaultReplies) wh
         fed_from (pieces_in steps) (sessions_of between) (with_session (sessions_of before) place None) (sessions_of after) middle v
             (λ n. sym (ap (λ links. sessions_of links n) failed.after_is ∙ shown session_of before place n (link_after_failure failed.link) failed.link (place == n) refl failed.found)) rest,
       )
+  links_fed (Refuses place piece reply now ∷ steps) before after w v (between, middle, refused, runs) =
+      let rest = links_fed steps between after middle v runs in
+      let took : FeedsPieceInPart does fault_reply (sessions_of before place) w piece middle =
+      subst (λ o. FeedsPieceInPart does fault_reply (session_of o) w piece middle) (sym refused.found) refused.feeds_in_part in (
+        middle,
+        None,
+        (took, refl),
+        fed_from (pieces_in steps) (sessions_of between) (with_session (sessions_of before) place None) (sessions_of after) middle v
+            (λ n. sym (ap (λ links. sessions_of links n) refused.after_is ∙ shown session_of before place n (link_after_refusal reply now) refused.link (place == n) refl refused.found)) rest,
+      )
   links_fed (Sends place octets now ∷ steps) before after w v (between, middle, (same, writes, are), runs) =
       let rest = links_fed steps between after middle v runs in
       subst (λ s. FedInTurn does fault_reply (sessions_of before) s (pieces_in steps) v (sessions_of after)) (sym same)
@@ -122,17 +141,70 @@ module _ {S : Type 0} (does : HandlerRelation S) (fault_reply : FaultReplies) wh
 
   -- ---- what was sent
 
-  replies_on : (b : Bool) (fed_piece : FedPiece) (pieces : List FedPiece) (connection : ℕ) (pending : List ℕ) → (b ≡ true → pending ≡ []) → (fed_piece.connection == connection) ≡ b
-      → pending ++ replies_to connection (fed_piece ∷ pieces) ≡ cond b (given_replies fed_piece.replies) pending ++ replies_to connection pieces
-  replies_on true fed_piece pieces connection pending idle e =
-      subst (λ t. t ++ replies_to connection (fed_piece ∷ pieces) ≡ given_replies fed_piece.replies ++ replies_to connection pieces) (sym (idle refl))
-      (ap (λ c. flat_map (λ (t : List ℕ × Option (List ℕ)). given_replies t.1) (cond c ((fed_piece.octets, fed_piece.replies) ∷ pieces_of connection pieces) (pieces_of connection pieces))) e)
-  replies_on false fed_piece pieces connection pending idle e =
-      ap (λ c. pending ++ flat_map (λ (t : List ℕ × Option (List ℕ)). given_replies t.1) (cond c ((fed_piece.octets, fed_piece.replies) ∷ pieces_of connection pieces) (pieces_of connection pieces))) e
+  replies_on : (b : Bool) (fed_piece : FedPiece) (pieces : List FedPiece) (connection : ℕ) (pending more : List ℕ) → (b ≡ true → pending ≡ []) → (fed_piece.connection == connection) ≡ b
+      → pending ++ (replies_to connection (fed_piece ∷ pieces) ++ more) ≡ cond b (given_replies fed_piece.replies) pending ++ (replies_to connection pieces ++ more)
+  replies_on true fed_piece pieces connection pending more idle e =
+      subst (λ t. t ++ (replies_to connection (fed_piece ∷ pieces) ++ more) ≡ given_replies fed_piece.replies ++ (replies_to connection pieces ++ more)) (sym (idle refl))
+      (ap (λ c. flat_map (λ (t : List ℕ × Option (List ℕ)). given_replies t.1) (cond c ((fed_piece.octets, fed_piece.replies) ∷ pieces_of connection pieces) (pieces_of connection pieces)) ++ more) e
+      ∙ append_assoc (given_replies fed_piece.replies) (replies_to connection pieces) more)
+  replies_on false fed_piece pieces connection pending more idle e =
+      ap (λ c. pending ++ (flat_map (λ (t : List ℕ × Option (List ℕ)). given_replies t.1) (cond c ((fed_piece.octets, fed_piece.replies) ∷ pieces_of connection pieces) (pieces_of connection pieces)) ++ more)) e
 
   no_replies : (b : Bool) (piece : List ℕ) (pieces : List (List ℕ × Option (List ℕ))) → replies_in (cond b ((piece, None) ∷ pieces) pieces) ≡ replies_in pieces
   no_replies true piece pieces = refl
   no_replies false piece pieces = refl
+
+  -- a refusal's reply is pending in place of nothing, and no reply comes after it
+  refused_on : (b : Bool) (pending replies reply more : List ℕ) → (b ≡ true → pending ≡ []) → (b ≡ true → replies ≡ [])
+      → pending ++ (replies ++ cond b (reply ++ more) more) ≡ cond b reply pending ++ (replies ++ more)
+  refused_on true pending replies reply more idle closed =
+      subst (λ t. t ++ (replies ++ (reply ++ more)) ≡ reply ++ (replies ++ more)) (sym (idle refl))
+      (subst (λ t. t ++ (reply ++ more) ≡ reply ++ (t ++ more)) (sym (closed refl)) refl)
+  refused_on false pending replies reply more idle closed = refl
+
+  none_either : (b : Bool) (session : Option (List ℕ)) → session ≡ None → cond b None session ≡ None
+  none_either true session closed = refl
+  none_either false session closed = closed
+
+  -- a closed session gets no more replies
+  closed_gives_none : (connection : ℕ) (steps : List HubStep) (before after : List LinkValue) (w v : S) → LinkRuns does fault_reply before w steps v after
+      → session_of (slice_get before connection) ≡ None → replies_to connection (pieces_in steps) ≡ []
+  unfolding LinkRuns
+  closed_gives_none connection [] before after w v runs closed = refl
+  closed_gives_none connection (Opens now ∷ steps) before after w v (between, middle, (same, grown), runs) closed =
+      closed_gives_none connection steps between after middle v runs (ap (λ links. session_of (slice_get links connection)) grown ∙ new_session before now connection ∙ closed)
+  closed_gives_none connection (Receives place piece replies now ∷ steps) before after w v (between, middle, (received, replies_are), runs) closed = by_place (closed_gives_none connection steps between after middle v runs) (place == connection) refl
+    where
+      given : Bool → List ℕ
+      given c = replies_in (cond c ((piece, Some replies) ∷ pieces_of connection (pieces_in steps)) (pieces_of connection (pieces_in steps)))
+
+      by_place : (session_of (slice_get between connection) ≡ None → replies_to connection (pieces_in steps) ≡ []) → (b : Bool) → (place == connection) ≡ b → given (place == connection) ≡ []
+      by_place rest true e =
+          let was : received.link.session ≡ None = sym (ap session_of received.found) ∙ ap (λ n. session_of (slice_get before n)) (eqb-true place connection e) ∙ closed in
+          let fed : FeedsPiece does fault_reply None w piece received.receives.replies middle received.receives.session =
+          subst (λ s. FeedsPiece does fault_reply s w piece received.receives.replies middle received.receives.session) was received.receives.feeds in
+          let next : session_of (slice_get between connection) ≡ None = ap (λ links. session_of (slice_get links connection)) received.after_is
+          ∙ shown session_of before place connection received.next received.link true e received.found ∙ ap (λ (l : LinkValue). l.session) received.receives.after_is ∙ fed.2 in
+          ap given e ∙ ap (λ t. t ++ replies_to connection (pieces_in steps)) (sym replies_are ∙ fed.0) ∙ rest next
+      by_place rest false e =
+          let next : session_of (slice_get between connection) ≡ None = ap (λ links. session_of (slice_get links connection)) received.after_is
+          ∙ shown session_of before place connection received.next received.link false e received.found ∙ closed in
+          ap given e ∙ rest next
+  closed_gives_none connection (Fails place piece ∷ steps) before after w v (between, middle, failed, runs) closed =
+      no_replies (place == connection) piece (pieces_of connection (pieces_in steps))
+      ∙ closed_gives_none connection steps between after middle v runs (ap (λ links. session_of (slice_get links connection)) failed.after_is
+      ∙ shown session_of before place connection (link_after_failure failed.link) failed.link (place == connection) refl failed.found
+      ∙ none_either (place == connection) (session_of (slice_get before connection)) closed)
+  closed_gives_none connection (Refuses place piece reply now ∷ steps) before after w v (between, middle, refused, runs) closed =
+      no_replies (place == connection) piece (pieces_of connection (pieces_in steps))
+      ∙ closed_gives_none connection steps between after middle v runs (ap (λ links. session_of (slice_get links connection)) refused.after_is
+      ∙ shown session_of before place connection (link_after_refusal reply now) refused.link (place == connection) refl refused.found
+      ∙ none_either (place == connection) (session_of (slice_get before connection)) closed)
+  closed_gives_none connection (Sends place octets now ∷ steps) before after w v (between, middle, (same, writes, are), runs) closed =
+      closed_gives_none connection steps between after middle v runs (ap (λ links. session_of (slice_get links connection)) writes.after_is
+      ∙ shown_same session_of before place connection (link_after_sent writes.link (length octets) now) writes.link (place == connection) refl writes.found refl ∙ closed)
+  closed_gives_none connection (Ends place ∷ steps) before after w v (between, middle, (same, kept), runs) closed =
+      closed_gives_none connection steps between after middle v runs (ap (λ links. session_of (slice_get links connection)) (sym kept) ∙ closed)
 
   sent_on : (b : Bool) (octets old_pending rest replies written pending : List ℕ) → (b ≡ true → old_pending ≡ octets ++ rest) → cond b rest old_pending ++ replies ≡ written ++ pending
       → old_pending ++ replies ≡ cond b (octets ++ written) written ++ pending
@@ -141,35 +213,49 @@ module _ {S : Type 0} (does : HandlerRelation S) (fault_reply : FaultReplies) wh
   sent_on false octets old_pending rest replies written pending parts e = e
 
   pub balance : (connection : ℕ) (steps : List HubStep) (before after : List LinkValue) (w v : S) → LinkRuns does fault_reply before w steps v after
-      → pending_of (slice_get before connection) ++ replies_to connection (pieces_in steps) ≡ sent_to connection steps ++ pending_of (slice_get after connection)
+      → pending_of (slice_get before connection) ++ (replies_to connection (pieces_in steps) ++ refused_to connection steps) ≡ sent_to connection steps ++ pending_of (slice_get after connection)
   unfolding LinkRuns
   balance connection [] before after w v runs = append-nil (pending_of (slice_get before connection)) ∙ ap (λ links. pending_of (slice_get links connection)) runs.0
   balance connection (Opens now ∷ steps) before after w v (between, middle, (same, grown), runs) =
-      ap (λ t. t ++ replies_to connection (pieces_in steps)) (sym (ap (λ links. pending_of (slice_get links connection)) grown ∙ new_pending before now connection))
+      ap (λ t. t ++ (replies_to connection (pieces_in steps) ++ refused_to connection steps)) (sym (ap (λ links. pending_of (slice_get links connection)) grown ∙ new_pending before now connection))
       ∙ balance connection steps between after middle v runs
   balance connection (Receives place piece replies now ∷ steps) before after w v (between, middle, (received, replies_are), runs) =
       let fed_piece : FedPiece = record { connection = place; octets = piece; replies = Some replies } in
       let pending_now : pending_of (slice_get between connection) ≡ cond (place == connection) replies (pending_of (slice_get before connection)) =
       ap (λ links. pending_of (slice_get links connection)) received.after_is ∙ shown pending_of before place connection received.next received.link (place == connection) refl received.found
       ∙ ap (λ o. cond (place == connection) o (pending_of (slice_get before connection))) (ap (λ (l : LinkValue). l.pending) received.receives.after_is ∙ replies_are) in
-      replies_on (place == connection) fed_piece (pieces_in steps) connection (pending_of (slice_get before connection))
+      replies_on (place == connection) fed_piece (pieces_in steps) connection (pending_of (slice_get before connection)) (refused_to connection steps)
       (λ e. ap (λ m. pending_of (slice_get before m)) (sym (eqb-true place connection e)) ∙ ap pending_of received.found ∙ received.receives.none_pending) refl
-      ∙ ap (λ t. t ++ replies_to connection (pieces_in steps)) (sym pending_now)
+      ∙ ap (λ t. t ++ (replies_to connection (pieces_in steps) ++ refused_to connection steps)) (sym pending_now)
       ∙ balance connection steps between after middle v runs
   balance connection (Fails place piece ∷ steps) before after w v (between, middle, failed, runs) =
-      ap (λ t. t ++ replies_to connection (pieces_in (Fails place piece ∷ steps))) (sym (ap (λ links. pending_of (slice_get links connection)) failed.after_is
+      ap (λ t. t ++ (replies_to connection (pieces_in (Fails place piece ∷ steps)) ++ refused_to connection steps)) (sym (ap (λ links. pending_of (slice_get links connection)) failed.after_is
       ∙ shown_same pending_of before place connection (link_after_failure failed.link) failed.link (place == connection) refl failed.found refl))
-      ∙ ap (λ t. pending_of (slice_get between connection) ++ t) (no_replies (place == connection) piece (pieces_of connection (pieces_in steps)))
+      ∙ ap (λ t. pending_of (slice_get between connection) ++ (t ++ refused_to connection steps)) (no_replies (place == connection) piece (pieces_of connection (pieces_in steps)))
+      ∙ balance connection steps between after middle v runs
+  balance connection (Refuses place piece reply now ∷ steps) before after w v (between, middle, refused, runs) =
+      let more : List ℕ = refused_to connection steps in
+      let pending : List ℕ = pending_of (slice_get before connection) in
+      let pending_now : pending_of (slice_get between connection) ≡ cond (place == connection) reply pending =
+      ap (λ links. pending_of (slice_get links connection)) refused.after_is
+      ∙ shown pending_of before place connection (link_after_refusal reply now) refused.link (place == connection) refl refused.found in
+      ap (λ t. pending ++ (t ++ cond (place == connection) (reply ++ more) more)) (no_replies (place == connection) piece (pieces_of connection (pieces_in steps)))
+      ∙ refused_on (place == connection) pending (replies_to connection (pieces_in steps)) reply more
+      (λ e. ap (λ m. pending_of (slice_get before m)) (sym (eqb-true place connection e)) ∙ ap pending_of refused.found ∙ refused.none_pending)
+      (λ e. closed_gives_none connection steps between after middle v runs (ap (λ links. session_of (slice_get links connection)) refused.after_is
+      ∙ shown session_of before place connection (link_after_refusal reply now) refused.link true e refused.found))
+      ∙ ap (λ t. t ++ (replies_to connection (pieces_in steps) ++ more)) (sym pending_now)
       ∙ balance connection steps between after middle v runs
   balance connection (Sends place octets now ∷ steps) before after w v (between, middle, (same, writes, are), runs) =
       let rest : List ℕ = drop (length octets) writes.link.pending in
+      let replies : List ℕ = replies_to connection (pieces_in steps) ++ refused_to connection steps in
       let pending_now : pending_of (slice_get between connection) ≡ cond (place == connection) rest (pending_of (slice_get before connection)) =
       ap (λ links. pending_of (slice_get links connection)) writes.after_is
       ∙ shown pending_of before place connection (link_after_sent writes.link (length octets) now) writes.link (place == connection) refl writes.found in
-      sent_on (place == connection) octets (pending_of (slice_get before connection)) rest (replies_to connection (pieces_in steps)) (sent_to connection steps) (pending_of (slice_get after connection))
+      sent_on (place == connection) octets (pending_of (slice_get before connection)) rest replies (sent_to connection steps) (pending_of (slice_get after connection))
       (λ e. ap (λ m. pending_of (slice_get before m)) (sym (eqb-true place connection e)) ∙ ap pending_of writes.found
       ∙ sym (take-append-drop (length octets) writes.link.pending) ∙ ap (λ t. t ++ rest) (sym are))
-      (ap (λ t. t ++ replies_to connection (pieces_in steps)) (sym pending_now) ∙ balance connection steps between after middle v runs)
+      (ap (λ t. t ++ replies) (sym pending_now) ∙ balance connection steps between after middle v runs)
   balance connection (Ends place ∷ steps) before after w v (between, middle, (same, kept), runs) =
-      ap (λ links. pending_of (slice_get links connection) ++ replies_to connection (pieces_in steps)) kept
+      ap (λ links. pending_of (slice_get links connection) ++ (replies_to connection (pieces_in steps) ++ refused_to connection steps)) kept
       ∙ balance connection steps between after middle v runs

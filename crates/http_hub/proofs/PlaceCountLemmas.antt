@@ -59,7 +59,7 @@ later_end slots place end top free within is =
 -- fewer connections than places, while a place is free
 pub count_fits : (slots : List (Option Slot)) (count end place : ℕ) → CountsPlaces slots count end → slice_get slots place ≡ Some None → count < length slots
 count_fits slots count end place counts free =
-    let slot : Slot = record { serial = 0; link = record { session = None; pending = []; active_at = 0; request_since = None; request_length = 0 } } in
+    let slot : Slot = record { serial = 0; link = record { session = None; pending = []; reply_length = 0; active_at = 0; request_since = None; request_length = 0 } } in
     let changed = count_set slots place None (Some slot) free in
     let few : count_by is_some (slice_set slots place (Some slot)) ≤ length (slice_set slots place (Some slot)) = count_by-le-length is_some (slice_set slots place (Some slot)) in
     let same : length (slice_set slots place (Some slot)) ≡ length slots = set_length slots place (Some slot) in

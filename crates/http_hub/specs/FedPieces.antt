@@ -8,8 +8,8 @@ use Rattle.http_requests.specs.SessionFeeding.{FeedsSession, FeedsPiece, FeedsPi
 use Rattle.http_hub.specs.HandledRequests.{HandledInTurn, HandledRequest, ReplaysHandled}
 use Rattle.http_hub.specs.HandledRequests.{handled_for}
 
--- a piece, the number of its connection, and the replies to the piece, or `None` if the memory
--- ran out within the piece
+-- a piece, the number of its connection, and the replies to the piece, or `None` if they are lost:
+-- the memory ran out within the piece, or the connection came to hold too much and was refused
 pub record FedPiece : Type 0 where
   pub connection : ℕ
   pub octets : List ℕ
@@ -34,7 +34,7 @@ pieces_of connection (piece ∷ pieces) =
     cond (piece.connection == connection)
     ((piece.octets, piece.replies) ∷ pieces_of connection pieces) (pieces_of connection pieces)
 
--- the replies that are given; out of memory they are lost
+-- the replies that are given
 abbrev pub given_replies : Option (List ℕ) → List ℕ
 given_replies None = []
 given_replies (Some replies) = replies
@@ -47,7 +47,7 @@ octets_in pieces = flat_map (λ (piece : List ℕ × Option (List ℕ)). piece.0
 abbrev pub replies_in : List (List ℕ × Option (List ℕ)) → List ℕ
 replies_in pieces = flat_map (λ (piece : List ℕ × Option (List ℕ)). given_replies piece.1) pieces
 
--- the memory ran out within one of the pieces
+-- the replies to one of the pieces are lost
 abbrev pub HasFailure : List (List ℕ × Option (List ℕ)) → Type 0
 HasFailure [] = ⊥
 HasFailure (piece ∷ pieces) = (piece.1 ≡ None) ⊎ HasFailure pieces
@@ -63,8 +63,8 @@ AreForConnection connection (one ∷ more) =
     (one.connection ≡ connection) × AreForConnection connection more
 
 module _ {State : Type 0} (does : HandlerRelation State) (fault_reply : FaultReplies) where
-  -- the result of feeding a piece; out of memory some requests were handled and the session is
-  -- closed
+  -- the result of feeding a piece; if its replies are lost, some requests were handled and the
+  -- session is closed
   abbrev pub FeedsOrFails :
       Option (List ℕ) → State → List ℕ → Option (List ℕ) → State → Option (List ℕ) → Type 0
   FeedsOrFails before old piece (Some replies) new session =
@@ -84,7 +84,7 @@ module _ {State : Type 0} (does : HandlerRelation State) (fault_reply : FaultRep
     pub session_closed : session ≡ None
 
   -- the result of feeding pieces to a new session is that of feeding them joined; replies are lost
-  -- only if the memory ran out within one of them
+  -- only with the pieces whose replies are
   abbrev pub FeedsAlone :
       List (List ℕ × Option (List ℕ)) → State → State → Option (List ℕ) → Type 0
   FeedsAlone pieces old new session =
@@ -117,8 +117,8 @@ module _ {State : Type 0} (does : HandlerRelation State) (fault_reply : FaultRep
 
   -- The handler made one run of all requests. Each connection gets the replies that it would get
   -- alone from a handler that replays its own requests: all of its requests are replied to in
-  -- order, whatever other connections sent. Only if the memory ran out within one of its own
-  -- pieces, the last replies are lost.
+  -- order, whatever other connections sent. The last replies are lost only if those to one of its
+  -- own pieces are.
   pub record AreOneRun (old : State) (pieces : List FedPiece) (new : State) (after : Sessions)
       : Type 0 where
     pub handled : List HandledRequest

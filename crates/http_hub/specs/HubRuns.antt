@@ -1,10 +1,11 @@
 -- The effect of any list of a hub's operations. This project's own.
-use Rattle.std.specs.Prelude.{◌≡◌, ◌==◌, ◌≤◌, ℕ, List, [], ◌∷◌, ◌++◌, Option, Some, None, cond}
-use Rattle.std.specs.Prelude.{length, take, slice_get}
+use Rattle.std.specs.Prelude.{◌≡◌, ◌==◌, ◌≤◌, ◌⊎◌, ℕ, List, [], ◌∷◌, ◌++◌, Option, Some, None}
+use Rattle.std.specs.Prelude.{cond, length, take, slice_get}
 use Rattle.http_requests.specs.HandlerRuns.{HandlerRelation, FaultReplies, KeepsScreens}
+use Rattle.http_requests.specs.declared.head_fault.HeadFault.TheVariants.{Busy}
 use Rattle.http_hub.specs.FedPieces.{AreOneRun, FedPiece, Sessions, replies_to}
-use Rattle.http_hub.specs.Hubs.{EndsAt, FailsAt, HubValue, IsAt, OpensAt, ReceivesAt, SendsAt}
-use Rattle.http_hub.specs.Hubs.{new_hub, open_count}
+use Rattle.http_hub.specs.Hubs.{EndsAt, FailsAt, HubValue, IsAt, OpensAt, ReceivesAt, RefusesAt}
+use Rattle.http_hub.specs.Hubs.{SendsAt, new_hub, open_count}
 use Rattle.http_hub.specs.Links.{LinkValue}
 use Rattle.http_hub.specs.declared.slot.Slot.{Slot}
 
@@ -17,6 +18,9 @@ pub data HubStep : Type 0 where
   Receives : ℕ → List ℕ → List ℕ → ℕ → HubStep
   -- the memory runs out within a piece of the connection
   Fails : ℕ → List ℕ → HubStep
+  -- the connection sends a piece, what it comes to hold is dropped, and this is its last reply, at
+  -- this time
+  Refuses : ℕ → List ℕ → List ℕ → ℕ → HubStep
   -- these octets are sent to the connection, at this time
   Sends : ℕ → List ℕ → ℕ → HubStep
   -- the connection is ended, and its place is free
@@ -30,6 +34,8 @@ pieces_in (Receives serial piece replies now ∷ steps) =
     record { connection = serial; octets = piece; replies = Some replies } ∷ pieces_in steps
 pieces_in (Fails serial piece ∷ steps) =
     record { connection = serial; octets = piece; replies = None } ∷ pieces_in steps
+pieces_in (Refuses serial piece reply now ∷ steps) =
+    record { connection = serial; octets = piece; replies = None } ∷ pieces_in steps
 pieces_in (Sends serial octets now ∷ steps) = pieces_in steps
 pieces_in (Ends serial ∷ steps) = pieces_in steps
 
@@ -39,9 +45,22 @@ sent_to connection [] = []
 sent_to connection (Opens now ∷ steps) = sent_to connection steps
 sent_to connection (Receives serial piece replies now ∷ steps) = sent_to connection steps
 sent_to connection (Fails serial piece ∷ steps) = sent_to connection steps
+sent_to connection (Refuses serial piece reply now ∷ steps) = sent_to connection steps
 sent_to connection (Sends serial octets now ∷ steps) =
     cond (serial == connection) (octets ++ sent_to connection steps) (sent_to connection steps)
 sent_to connection (Ends serial ∷ steps) = sent_to connection steps
+
+-- the replies with which the connection was refused
+abbrev pub refused_to : ℕ → List HubStep → List ℕ
+refused_to connection [] = []
+refused_to connection (Opens now ∷ steps) = refused_to connection steps
+refused_to connection (Receives serial piece replies now ∷ steps) = refused_to connection steps
+refused_to connection (Fails serial piece ∷ steps) = refused_to connection steps
+refused_to connection (Refuses serial piece reply now ∷ steps) =
+    cond (serial == connection) (reply ++ refused_to connection steps)
+    (refused_to connection steps)
+refused_to connection (Sends serial octets now ∷ steps) = refused_to connection steps
+refused_to connection (Ends serial ∷ steps) = refused_to connection steps
 
 -- the session of a link; a connection without a link has a new session
 abbrev pub session_of : Option LinkValue → Option (List ℕ)
@@ -68,6 +87,17 @@ pub record AreAllLinks (hub : HubValue) (links : List LinkValue) : Type 0 where
       → slot.serial ≡ another.serial → place ≡ other
 
 module _ {State : Type 0} (does : HandlerRelation State) (fault_reply : FaultReplies) where
+  -- The connection at this place received a piece, and what it came to hold was dropped. This reply
+  -- is pending, that to a busy server's client, or none if memory ran out for it. No other place
+  -- changed.
+  pub record RefusesPieceAt
+      (place : ℕ) (before : HubValue) (old : State) (piece reply : List ℕ) (now : ℕ)
+      (new : State) (after : HubValue) : Type 0 where
+    pub full : HubValue
+    pub received : ReceivesAt does fault_reply place before old piece now new full
+    pub reply_is : (reply ≡ fault_reply Busy) ⊎ (reply ≡ [])
+    pub refused : RefusesAt place full reply now after
+
   -- the effect of one step, at some place
   abbrev pub DoesStep : HubValue → State → HubStep → State → HubValue → Type 0
   DoesStep before old (Opens now) new after =
@@ -78,6 +108,9 @@ module _ {State : Type 0} (does : HandlerRelation State) (fault_reply : FaultRep
   DoesStep before old (Fails serial piece) new after =
       (place : ℕ) × (failed : FailsAt does fault_reply place before old piece new after)
       × (failed.slot.serial ≡ serial)
+  DoesStep before old (Refuses serial piece reply now) new after =
+      (place : ℕ) × (refused : RefusesPieceAt place before old piece reply now new after)
+      × (refused.received.slot.serial ≡ serial)
   DoesStep before old (Sends serial octets now) new after =
       (old ≡ new) × (place : ℕ) × (sends : SendsAt place before (length octets) now after)
       × (sends.slot.serial ≡ serial) × (octets ≡ take (length octets) sends.slot.link.pending)
@@ -94,15 +127,16 @@ module _ {State : Type 0} (does : HandlerRelation State) (fault_reply : FaultRep
 
   -- The handler made one run of all requests, and each connection gets the replies to its own
   -- requests, as if it were alone. The octets sent to a connection, followed by those that are
-  -- pending, are these replies in order; what was sent to an ended connection is a prefix of them.
-  -- At most `limit` connections are open at once.
+  -- pending, are these replies in order, and after them that of a refusal, if it was refused; what
+  -- was sent to an ended connection is a prefix of them. At most `limit` connections are open at
+  -- once.
   pub record SeparatesConnections
       (limit : ℕ) (old : State) (steps : List HubStep) (new : State) (after : HubValue)
       : Type 0 where
     pub links : List LinkValue
     pub are_all : AreAllLinks after links
     pub one_run : AreOneRun does fault_reply old (pieces_in steps) new (sessions_of links)
-    pub sent : (serial : ℕ) → replies_to serial (pieces_in steps)
+    pub sent : (serial : ℕ) → replies_to serial (pieces_in steps) ++ refused_to serial steps
         ≡ sent_to serial steps ++ pending_of (slice_get links serial)
     pub within : open_count after ≤ limit
 

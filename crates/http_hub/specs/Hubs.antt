@@ -6,7 +6,7 @@ use Rattle.std.specs.List.{list_any}
 use Rattle.http_requests.specs.HandlerRuns.{HandlerRelation, FaultReplies}
 use Rattle.http_requests.specs.SessionFeeding.{FeedsPieceInPart}
 use Rattle.http_hub.specs.Links.{LinkValue, ReceivesPiece, has_expired, link_after_failure}
-use Rattle.http_hub.specs.Links.{link_after_sent, new_link}
+use Rattle.http_hub.specs.Links.{link_after_refusal, link_after_sent, new_link}
 use Rattle.http_hub.specs.declared.slot.Slot.{Slot}
 
 -- the places of a server, each with an open connection or none, and the number of connections that
@@ -95,6 +95,13 @@ module _ {State : Type 0} (does : HandlerRelation State) (fault_reply : FaultRep
     pub found : IsAt before place slot
     pub feeds_in_part : FeedsPieceInPart does fault_reply slot.link.session old piece new
     pub after_is : after ≡ with_link before place slot.serial (link_after_failure slot.link)
+
+-- what the connection at this place came to hold was dropped; no other place changed
+pub record RefusesAt (place : ℕ) (before : HubValue) (reply : List ℕ) (now : ℕ) (after : HubValue)
+    : Type 0 where
+  pub slot : Slot
+  pub found : IsAt before place slot
+  pub after_is : after ≡ with_link before place slot.serial (link_after_refusal reply now)
 
 -- the first pending octets of the connection at this place were sent; no other place changed
 pub record SendsAt (place : ℕ) (before : HubValue) (count now : ℕ) (after : HubValue)

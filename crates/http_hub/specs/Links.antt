@@ -6,11 +6,13 @@ use Rattle.http_requests.specs.HandlerRuns.{HandlerRelation, FaultReplies}
 use Rattle.http_requests.specs.HeldRequests.{IsHeldRequestLength, held_length}
 use Rattle.http_requests.specs.SessionFeeding.{FeedsPiece}
 
--- a connection: its session's value, the octets that are not sent yet, when it was last active,
--- since when the rest of a request is awaited, and how long that request is
+-- a connection: its session's value, the octets that are not sent yet, how many octets of replies it
+-- holds, when it was last active, since when the rest of a request is awaited, and how long that
+-- request is
 pub record LinkValue : Type 0 where
   pub session : Option (List ℕ)
   pub pending : List ℕ
+  pub reply_length : ℕ
   pub active_at : ℕ
   pub request_since : Option ℕ
   pub request_length : ℕ
@@ -20,6 +22,7 @@ abbrev pub new_link : ℕ → LinkValue
 new_link now = record {
   session = Some [];
   pending = [];
+  reply_length = 0;
   active_at = now;
   request_since = None;
   request_length = 0;
@@ -51,11 +54,18 @@ since_after_sent held pending now = if awaits_request held pending then Some now
 
 -- ---- operations
 
+-- how many octets of replies are held while these are pending: as many as before, sent or not, and
+-- none once all of them were sent
+abbrev pub reply_length_after : ℕ → List ℕ → ℕ
+reply_length_after before [] = 0
+reply_length_after before (octet ∷ pending) = before
+
 -- the first octets were sent, and the rest is pending
 abbrev pub link_after_sent : LinkValue → ℕ → ℕ → LinkValue
 link_after_sent link count now = record {
   session = link.session;
   pending = drop count link.pending;
+  reply_length = reply_length_after link.reply_length (drop count link.pending);
   active_at = now;
   request_since = since_after_sent (held_length link.session) (drop count link.pending) now;
   request_length = link.request_length;
@@ -66,9 +76,21 @@ abbrev pub link_after_failure : LinkValue → LinkValue
 link_after_failure link = record {
   session = None;
   pending = link.pending;
+  reply_length = link.reply_length;
   active_at = link.active_at;
   request_since = link.request_since;
   request_length = link.request_length;
+}
+
+-- what the connection came to hold was dropped: its session is closed, and this reply is pending
+abbrev pub link_after_refusal : List ℕ → ℕ → LinkValue
+link_after_refusal reply now = record {
+  session = None;
+  pending = reply;
+  reply_length = length reply;
+  active_at = now;
+  request_since = None;
+  request_length = 0;
 }
 
 -- the link after a piece, with these replies, this session, and a request of this length
@@ -77,6 +99,7 @@ abbrev pub link_after_piece :
 link_after_piece link piece replies session request_length now = record {
   session = session;
   pending = replies;
+  reply_length = length replies;
   active_at = now;
   request_since = since_after_piece link.request_since (held_length link.session) (length piece)
       (held_length session) replies now;

@@ -1,9 +1,10 @@
 //! The open connections of a server, without their sockets.
 ghost use Rattle.std.specs.Prelude.{◌≡◌, ◌↔◌, ◌≤◌, ◌<◌, [], length, None, Some};
 ghost use Rattle.std.specs.Prelude.{IfOk, OnErr, IsTrue};
+ghost use Rattle.http_hub.specs.Holdings.{large_part, load_of, most_load};
 ghost use Rattle.http_hub.specs.HubRuns.{pending_of, session_of};
 ghost use Rattle.http_hub.specs.Hubs.{EndsAt, FailsAt, IsAt, IsFreeAt, IsOpenAt, ReceivesAt};
-ghost use Rattle.http_hub.specs.Hubs.{SendsAt, link_at, new_hub, with_slot};
+ghost use Rattle.http_hub.specs.Hubs.{RefusesAt, SendsAt, link_at, new_hub, with_slot};
 ghost use Rattle.http_hub.specs.declared.slot.Slot.{Slot};
 
 use crate::places::last_end;
@@ -12,6 +13,17 @@ use base_types::NoMemory;
 use http_requests::Handler;
 use std::alloc::Global;
 use std::marker::Model;
+
+/// The most octets of a connection that counts as small.
+const SMALL_OCTETS_MAX: u128 = 16_384;
+
+/// This number of octets, or 0 if a small connection has as many.
+fn large_part(load: u128) -> u128
+    ensures octets { result ≡ large_part load }
+    ensures within { result ≤ load }
+{
+    if load <= SMALL_OCTETS_MAX { 0 } else { load }
+}
 
 /// The open connections of a server, at most as many as it has places. A place is used again once
 /// its connection was ended; each connection has a serial number of its own, which is the number of
@@ -148,6 +160,31 @@ impl Hub {
         let received = slot.link.receive(alloc, handler, piece, now);
         self.put_slot(place, slot);
         received
+    }
+
+    /// How many octets the connection at the place holds (`Link::load`), or 0 if they are at most
+    /// 16,384.
+    pub fn large_part(&self, place: usize) -> u128
+        requires { IsOpenAt self.now place }
+        ensures part { (slot : Slot) → IsAt self.now place slot
+            → result ≡ large_part (load_of slot.link) }
+        ensures within { result ≤ most_load }
+    {
+        let Some(slot) = &self.slots[place] else {
+            unreachable!()
+        };
+        large_part(slot.link.load())
+    }
+
+    /// Drops what the connection at the place holds. Its session is closed, and the reply is
+    /// pending.
+    pub fn refuse(&mut self, alloc: Global, place: usize, reply: Vec<u8>, now: u64)
+        requires { IsOpenAt self.old place }
+        ensures { RefusesAt place self.old reply.items now self.new }
+    {
+        let mut slot = self.take_slot(place);
+        slot.link.refuse(alloc, reply, now);
+        self.put_slot(place, slot);
     }
 
     /// Records that the first `count` pending octets were sent to the connection at the place.

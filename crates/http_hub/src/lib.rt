@@ -1,6 +1,7 @@
 //! Serves any number of connections with one handler, in any interleaving. It uses no socket.
 #![tactic(auto)]
 
+mod bounded;
 mod expiry;
 mod hub;
 pub mod laws;
@@ -8,6 +9,7 @@ mod link;
 mod places;
 mod slot;
 
+pub use bounded::BoundedHub;
 pub use expiry::earlier;
 pub use hub::Hub;
 pub use link::Link;

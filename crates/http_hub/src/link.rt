@@ -1,9 +1,12 @@
 //! One connection, without its socket.
-ghost use Rattle.std.specs.Prelude.{◌≡◌, ◌↔◌, ◌≤◌, ◌<◌, ◌+◌, [], None, length};
+ghost use Rattle.std.specs.Prelude.{◌≡◌, ◌↔◌, ◌≤◌, ◌<◌, ◌+◌, [], None, drop, length};
 ghost use Rattle.std.specs.Prelude.{IfOk, OnErr, IsTrue};
+ghost use Rattle.std.specs.Vec.{vec_capacity};
 ghost use Rattle.http_requests.specs.SessionFeeding.{FeedsPieceInPart};
+ghost use Rattle.http_hub.specs.Holdings.{load_of, most_load, request_load};
 ghost use Rattle.http_hub.specs.Links.{IsFirstTime, ReceivesPiece, extra_time, has_expired};
-ghost use Rattle.http_hub.specs.Links.{is_long_ago, link_after_failure, link_after_sent, new_link};
+ghost use Rattle.http_hub.specs.Links.{is_long_ago, link_after_failure, link_after_refusal};
+ghost use Rattle.http_hub.specs.Links.{link_after_sent, new_link, reply_length_after};
 ghost use Rattle.http_hub.specs.Links.{since_after_piece, since_after_sent};
 
 use crate::expiry::earlier;
@@ -28,7 +31,8 @@ pub struct Link {
 }
 
 impl Model for Link {
-    ghost use Rattle.std.specs.Prelude.{◌≤◌, drop, length};
+    ghost use Rattle.std.specs.Prelude.{◌≡◌, ◌≤◌, drop, length};
+    ghost use Rattle.std.specs.Vec.{vec_capacity};
     ghost use Rattle.http_hub.specs.Links.{LinkValue};
 
     ghost Value = { LinkValue };
@@ -36,12 +40,14 @@ impl Model for Link {
     ghost view = { λ link. record {
       session = link.session;
       pending = drop link.sent_count link.out.items;
+      reply_length = length link.out.items;
       active_at = link.active_at;
       request_since = link.request_since;
       request_length = link.request_len;
     } };
 
-    ghost invariant = { λ link. link.sent_count ≤ length link.out.items };
+    ghost invariant = { λ link. (link.sent_count ≤ length link.out.items)
+        × (link.sent_count ≡ length link.out.items → vec_capacity link.out ≡ 0) };
 }
 
 /// Since when the rest of a request is awaited, after a piece of `added` octets. The session held
@@ -109,6 +115,24 @@ fn first_after(time: Option<u64>, patience: u64, extra: u64) -> Option<u64>
         },
         None => None,
     }
+}
+
+/// Drops the octets once all of them were sent, so that a silent connection holds no reply. Returns
+/// how many of the octets that are left were sent.
+fn drop_if_sent(out: &mut Vec<u8>, sent_count: usize) -> usize
+    requires { sent_count ≤ length out.old.items }
+    ensures within { result ≤ length out.new.items }
+    ensures rest { drop result out.new.items ≡ drop sent_count out.old.items }
+    ensures held { length out.new.items
+        ≡ reply_length_after (length out.old.items) (drop sent_count out.old.items) }
+    ensures room { result ≡ length out.new.items → vec_capacity out.new ≡ 0 }
+{
+    if sent_count < out.len() {
+        return sent_count;
+    }
+    let alloc = *out.allocator();
+    *out = Vec::new(alloc);
+    0
 }
 
 impl Link {
@@ -198,18 +222,53 @@ impl Link {
         );
         self.request_len = self.session.held_request_len();
         self.out = replies;
-        self.sent_count = 0;
+        self.sent_count = drop_if_sent(&mut self.out, 0);
         self.active_at = now;
         Ok(())
     }
 
-    /// Records that the first `count` pending octets were sent.
+    /// The octets of its incomplete request, all of them once its head is complete.
+    fn request_load(&self) -> usize
+        ensures { result ≡ request_load self.now.session self.now.request_length }
+    {
+        if self.session.closed() {
+            0
+        } else if self.request_len == 0 {
+            self.session.held_len()
+        } else {
+            self.request_len
+        }
+    }
+
+    /// How many octets the connection holds: those of its incomplete request, all of them once its
+    /// head is complete, and those of its replies, all of them until the last is sent.
+    pub fn load(&self) -> u128
+        ensures octets { result ≡ load_of self.now }
+        ensures within { result ≤ most_load }
+    {
+        self.request_load() as u128 + self.out.len() as u128
+    }
+
+    /// Drops what the connection holds. Its session is closed, and the reply is pending.
+    pub fn refuse(&mut self, alloc: Global, reply: Vec<u8>, now: u64)
+        ensures { self.new ≡ link_after_refusal reply.items now }
+    {
+        self.session.close(alloc);
+        self.out = reply;
+        self.sent_count = drop_if_sent(&mut self.out, 0);
+        self.active_at = now;
+        self.request_since = None;
+        self.request_len = 0;
+    }
+
+    /// Records that the first `count` pending octets were sent. Once none is pending, the memory of
+    /// the replies is given back.
     pub fn mark_sent(&mut self, count: usize, now: u64)
         requires some { 0 < count }
         requires within { count ≤ length self.old.pending }
         ensures { self.new ≡ link_after_sent self.old count now }
     {
-        self.sent_count += count;
+        self.sent_count = drop_if_sent(&mut self.out, self.sent_count + count);
         self.active_at = now;
         let held = self.session.held_len();
         self.request_since = awaited_after_sent(held, &self.out[self.sent_count..], now);

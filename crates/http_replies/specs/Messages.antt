@@ -9,7 +9,7 @@ use Rattle.http_replies.specs.declared.message as code
 pub record Message : Type 0 where
   pub status : ℕ
   pub media_type : List ℕ
-  pub allow : Option (List ℕ)
+  pub more : Option (List ℕ × List ℕ)
   pub body : List ℕ
 
 -- a line of the head, with its end
@@ -28,10 +28,10 @@ status_line status =
 abbrev pub header_field : List ℕ → List ℕ → List ℕ
 header_field name value = name ++ codes ": " ++ value
 
--- the Allow field of a reply to a wrong method (RFC 9110, sections 10.2.1 and 15.5.6)
-abbrev pub allow_line : Option (List ℕ) → List ℕ
-allow_line None = []
-allow_line (Some methods) = head_line (header_field (codes "Allow") methods)
+-- the line of one more field, a name and a value, if there is one
+abbrev pub more_line : Option (List ℕ × List ℕ) → List ℕ
+more_line None = []
+more_line (Some field) = head_line (header_field field.0 field.1)
 
 -- the value of the Connection field (RFC 9110, section 7.6.1; RFC 9112, section 9.3)
 abbrev pub connection_option : Bool → List ℕ
@@ -43,7 +43,7 @@ unfoldable pub head_octets : Message → Bool → List ℕ
 head_octets message close =
     head_line (status_line message.status)
     ++ head_line (header_field (codes "Content-Type") message.media_type)
-    ++ allow_line message.allow
+    ++ more_line message.more
     ++ head_line (header_field (codes "Content-Length") (decimal (length message.body)))
     ++ head_line (header_field (codes "Connection") (connection_option close))
     ++ head_line []
@@ -57,6 +57,6 @@ abbrev pub message_value : code.Message.Message → Message
 message_value message = record {
   status = message.status;
   media_type = message.media_type.now;
-  allow = option_map (λ methods. methods.now) message.allow;
+  more = option_map (λ field. (field.name.now, field.value.now)) message.more;
   body = message.body.items;
 }

@@ -1,6 +1,6 @@
 -- The octets to send for each reply of the service and for each fault of a request. This project's
 -- own.
-use Rattle.std.specs.Prelude.{ℕ, Bool, true, List, codes, Option, None}
+use Rattle.std.specs.Prelude.{ℕ, Bool, true, List, codes, Option, Some, None, option_map}
 use Rattle.serde_json.specs.Data.{Data}
 use Rattle.serde_json.specs.Written.{compact_text}
 use Rattle.book_model.specs.RefusalNumbers.{book_fault_number, book_fault_text}
@@ -8,6 +8,11 @@ use Rattle.book_commands.specs.declared.reply.Reply.{Reply}
 use Rattle.book_commands.specs.declared.reply.Reply.TheVariants as reply
 use Rattle.http_requests.specs.HeadFaults as head
 use Rattle.http_requests.specs.declared.head_fault.HeadFault.{HeadFault}
+use Rattle.http_requests.specs.declared.head_fault.HeadFault.TheVariants.{BadHead, HeadTooLarge}
+use Rattle.http_requests.specs.declared.head_fault.HeadFault.TheVariants.{BadHost, TransferEncoding}
+use Rattle.http_requests.specs.declared.head_fault.HeadFault.TheVariants.{BadLength, BodyTooLarge}
+use Rattle.http_requests.specs.declared.head_fault.HeadFault.TheVariants.{ForeignHost, ForeignSite}
+use Rattle.http_requests.specs.declared.head_fault.HeadFault.TheVariants.{Precondition, Busy}
 use Rattle.http_routes.specs.RouteFaults as route
 use Rattle.http_routes.specs.declared.fault.RouteFault.{RouteFault}
 use Rattle.page_json.specs.PageValues.{page_value}
@@ -49,12 +54,12 @@ reply_body (reply.Refused refusal) = json (refusal_value refusal)
 reply_body (reply.Fault fault) =
     json (fault_value (book_fault_text fault) (book_fault_number fault))
 
--- the message with this status, these methods and this body
-abbrev pub message_of : ℕ → Option (List ℕ) → Body → Message
-message_of status allow body = record {
+-- the message with this status, this field more, if any, and this body
+abbrev pub message_of : ℕ → Option (List ℕ × List ℕ) → Body → Message
+message_of status more body = record {
   status = status;
   media_type = media_type body;
-  allow = allow;
+  more = more;
   body = body_octets body;
 }
 
@@ -63,14 +68,32 @@ abbrev pub reply_octets : Reply → Bool → List ℕ
 reply_octets reply_sent close =
     message_octets (message_of (reply_status reply_sent) None (reply_body reply_sent)) close
 
+-- when a client that was refused since the server is busy may come again, in seconds (RFC 9110,
+-- section 10.2.3)
+abbrev pub retry_field : HeadFault → Option (List ℕ × List ℕ)
+retry_field BadHead = None
+retry_field HeadTooLarge = None
+retry_field BadHost = None
+retry_field TransferEncoding = None
+retry_field BadLength = None
+retry_field BodyTooLarge = None
+retry_field ForeignHost = None
+retry_field ForeignSite = None
+retry_field Precondition = None
+retry_field Busy = Some (codes "Retry-After", codes "1")
+
 -- the octets for a fault of a head, which closes the connection
 abbrev pub head_fault_octets : HeadFault → List ℕ
 head_fault_octets fault =
-    message_octets (message_of (head.head_fault_status fault) None
+    message_octets (message_of (head.head_fault_status fault) (retry_field fault)
     (json (fault_value (head.head_fault_text fault) (head.head_fault_number fault)))) true
+
+-- the methods that are allowed in place of a wrong one (RFC 9110, section 10.2.1)
+abbrev pub allow_field : RouteFault → Option (List ℕ × List ℕ)
+allow_field fault = option_map (λ methods. (codes "Allow", methods)) (route.route_fault_allow fault)
 
 -- the octets for a request that asks for no command
 abbrev pub route_fault_octets : RouteFault → Bool → List ℕ
 route_fault_octets fault close =
-    message_octets (message_of (route.route_fault_status fault) (route.route_fault_allow fault)
+    message_octets (message_of (route.route_fault_status fault) (allow_field fault)
     (json (fault_value (route.route_fault_text fault) (route.route_fault_number fault)))) close

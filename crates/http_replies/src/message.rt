@@ -1,9 +1,9 @@
 //! Formats a reply: the status line, the fields and the body.
 ghost use Rattle.std.specs.Prelude.{◌≡◌, ◌++◌, IfOk, OnOk, decimal, length, option_map};
 ghost use Rattle.std.specs.Prelude.{string_bytes};
-ghost use Rattle.http_replies.specs.Messages.{allow_line, connection_option, header_field};
-ghost use Rattle.http_replies.specs.Messages.{head_octets, head_line, message_octets, phrase_of};
-ghost use Rattle.http_replies.specs.Messages.{status_line, message_value};
+ghost use Rattle.http_replies.specs.Messages.{connection_option, header_field, head_octets};
+ghost use Rattle.http_replies.specs.Messages.{head_line, message_octets, message_value, more_line};
+ghost use Rattle.http_replies.specs.Messages.{phrase_of, status_line};
 
 use base_types::NoMemory;
 use http::StatusCode;
@@ -12,12 +12,19 @@ use std::alloc::Global;
 /// Most heads are shorter. A longer one makes the octets of the reply grow.
 const HEAD_OCTETS: usize = 256;
 
-/// A reply before it is formatted.
+/// A field of a head (RFC 9110, section 5).
+#[derive(Clone, Copy)]
+pub(crate) struct Field {
+    pub(crate) name: &'static str,
+    pub(crate) value: &'static str,
+}
+
+/// A reply before it is formatted. It may have one field more than every reply has.
 #[derive(Drop)]
 pub(crate) struct Message {
     pub(crate) status: StatusCode,
     pub(crate) media_type: &'static str,
-    pub(crate) allow: Option<&'static str>,
+    pub(crate) more: Option<Field>,
     pub(crate) body: Vec<u8>,
 }
 
@@ -53,13 +60,13 @@ fn push_field(head: &mut String, name: &str, value: &str) -> Result<(), NoMemory
     Ok(())
 }
 
-/// Appends an Allow field, if there are methods (RFC 9110, section 10.2.1).
-fn push_allow(head: &mut String, allow: Option<&str>) -> Result<(), NoMemory>
+/// Appends one more field, if there is one.
+fn push_more(head: &mut String, more: Option<Field>) -> Result<(), NoMemory>
     ensures { OnOk result (string_bytes head.new ≡ string_bytes head.old
-        ++ allow_line (option_map (λ methods. methods.now) allow.entry)) }
+        ++ more_line (option_map (λ field. (field.name.now, field.value.now)) more)) }
 {
-    match allow {
-        Some(methods) => push_field(head, "Allow", methods),
+    match more {
+        Some(field) => push_field(head, field.name, field.value),
         None => Ok(()),
     }
 }
@@ -88,7 +95,7 @@ fn head_of(alloc: Global, message: &Message, close: bool) -> Result<String, NoMe
     let mut head = String::with_capacity(alloc, message.body.len() + HEAD_OCTETS)?;
     push_status(&mut head, message.status)?;
     push_field(&mut head, "Content-Type", message.media_type)?;
-    push_allow(&mut head, message.allow)?;
+    push_more(&mut head, message.more)?;
     push_field(&mut head, "Content-Length", length.as_str())?;
     push_field(&mut head, "Connection", connection_option(close))?;
     head.push_str("\r\n")?;

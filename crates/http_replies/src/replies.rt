@@ -1,9 +1,10 @@
 //! The octets to send for each reply and each fault.
-ghost use Rattle.std.specs.Prelude.{◌≡◌, IfOk};
-ghost use Rattle.http_replies.specs.Replies.{head_fault_octets, reply_octets, route_fault_octets};
+ghost use Rattle.std.specs.Prelude.{◌≡◌, IfOk, option_map};
+ghost use Rattle.http_replies.specs.Replies.{allow_field, head_fault_octets, reply_octets};
+ghost use Rattle.http_replies.specs.Replies.{retry_field, route_fault_octets};
 
 use crate::bodies::{JSON, body_of, fault_json, media_type_of};
-use crate::message::{Message, message_octets};
+use crate::message::{Field, Message, message_octets};
 use crate::statuses::reply_status;
 use book_commands::Reply;
 use http::StatusCode;
@@ -24,10 +25,37 @@ pub fn reply_bytes(alloc: Global, reply: Reply, close: bool) -> Result<Vec<u8>, 
     let message = Message {
         status,
         media_type,
-        allow: None,
+        more: None,
         body,
     };
     message_octets(alloc, &message, close)
+}
+
+/// When a client that was refused since the server is busy may come again, in seconds (RFC 9110,
+/// section 10.2.3).
+fn retry_field(fault: HeadFault) -> Option<Field>
+    ensures { option_map (λ field. (field.name.now, field.value.now)) result ≡ retry_field fault }
+{
+    match fault {
+        HeadFault::Busy => Some(Field {
+            name: "Retry-After",
+            value: "1",
+        }),
+        _ => None,
+    }
+}
+
+/// The methods that are allowed in place of a wrong one (RFC 9110, section 10.2.1).
+fn allow_field(fault: RouteFault) -> Option<Field>
+    ensures { option_map (λ field. (field.name.now, field.value.now)) result ≡ allow_field fault }
+{
+    match fault.allow() {
+        Some(methods) => Some(Field {
+            name: "Allow",
+            value: methods,
+        }),
+        None => None,
+    }
 }
 
 /// The octets to send for a fault of a head, which closes the connection. `NoMemory` if an
@@ -42,7 +70,7 @@ pub fn head_fault_bytes(alloc: Global, fault: HeadFault) -> Result<Vec<u8>, NoMe
     let message = Message {
         status,
         media_type: JSON,
-        allow: None,
+        more: retry_field(fault),
         body,
     };
     message_octets(alloc, &message, true)
@@ -60,7 +88,7 @@ pub fn route_fault_bytes(alloc: Global, fault: RouteFault, close: bool) -> Resul
     let message = Message {
         status,
         media_type: JSON,
-        allow: fault.allow(),
+        more: allow_field(fault),
         body,
     };
     message_octets(alloc, &message, close)

@@ -12,7 +12,7 @@ use Rattle.httparse.specs.declared.spans.HeaderSpan.{HeaderSpan}
 use Rattle.httparse.specs.declared.spans.RequestSpans.{RequestSpans}
 use Rattle.http_requests.specs.declared.head_fault.HeadFault.{HeadFault}
 use Rattle.http_requests.specs.HeadEnds.{EndsAtLastOctet}
-use Rattle.http_requests.specs.Fields.{fault_of_head, fault_in_fields, body_length, length_in_fields, closes, closes_by_fields, fields_of}
+use Rattle.http_requests.specs.Fields.{fault_of_head, fault_in_fields, body_length, length_in_fields, closes, closes_by_fields, fields_of, user_in_fields, user_of}
 use Rattle.http_requests.specs.Requests.{StartsWithHead, NeverHasHead}
 use Rattle.http_requests.proofs.EndLemmas.{ended_is}
 use Rattle.http_requests.specs.declared.head.Head.{Head}
@@ -55,8 +55,13 @@ pub close_is : (text : List ℕ) (spans : List HeaderSpan) (r : RequestSpans) (h
 unfolding closes
 close_is text spans r h b at is = is ∙ ap (closes_by_fields r.version) at.fields ∙ ap (λ k. closes_by_fields k (fields_of h)) at.version
 
-pub head_is : (head : Head) (h : RequestHead) → head.method ≡ h.method → head.target ≡ h.target → head.close ≡ closes h → head.length ≡ body_length h → head ≡ head_of h
-head_is head h m t c l = λ i. record { method = m i; target = t i; close = c i; length = l i }
+pub user_is : (text : List ℕ) (spans : List HeaderSpan) (r : RequestSpans) (h : RequestHead) (u : List ℕ) → IsRequestAt text spans r h
+    → u ≡ user_in_fields (map (header_bytes text) (take r.headers spans)) → u ≡ user_of h
+unfolding user_of
+user_is text spans r h u at is = is ∙ ap user_in_fields at.fields
+
+pub head_is : (head : Head) (h : RequestHead) → head.method ≡ h.method → head.target ≡ h.target → head.close ≡ closes h → head.length ≡ body_length h → head.user ≡ user_of h → head ≡ head_of h
+head_is head h m t c l u = λ i. record { method = m i; target = t i; close = c i; length = l i; user = u i }
 
 token_is_ascii : (b : ℕ) → is_token_byte b ≡ true → b < 128
 unfolding is_token_byte

@@ -8,4 +8,5 @@ pub mod StepLemmas
 pub mod FeedLemmas
 pub mod PieceLemmas
 pub mod HeldRequestLemmas
+pub mod PartLemmas
 pub mod AskingLemmas

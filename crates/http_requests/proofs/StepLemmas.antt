@@ -6,7 +6,7 @@ use Rattle.httparse.specs.Grammar.{RequestHead, print_request, MayBecomeRequest}
 use Rattle.httparse.proofs.GrammarLemmas.{ReadsRequest-append, request_unique}
 use Rattle.http_requests.specs.declared.head.Head.{Head}
 use Rattle.http_requests.specs.declared.head_fault.HeadFault.{HeadFault}
-use Rattle.http_requests.specs.declared.head_fault.HeadFault.TheVariants.{BadHead, HeadTooLarge, BadHost, TransferEncoding, BadLength, BodyTooLarge, ForeignHost, ForeignSite, Precondition}
+use Rattle.http_requests.specs.declared.head_fault.HeadFault.TheVariants.{BadHead, HeadTooLarge, BadHost, TransferEncoding, BadLength, BodyTooLarge, ForeignHost, ForeignSite, Precondition, Busy}
 use Rattle.http_requests.specs.declared.head_state.HeadState.{HeadState}
 use Rattle.http_requests.specs.declared.head_state.HeadState.TheVariants.{Blank, Ended}
 use Rattle.http_requests.specs.HeadEnds.{head_state_after, EndsAtLastOctet}
@@ -278,6 +278,7 @@ module _ {S : Type 0} (does : HandlerRelation S) (reply_to : FaultReplies) where
   bound_stop s w ForeignHost going long never = absurd never
   bound_stop s w ForeignSite going long never = absurd never
   bound_stop s w Precondition going long never = absurd never
+  bound_stop s w Busy going long never = absurd never
 
   -- the handler refused the head that was parsed again
   pub again_screened : (held : List ℕ) (start end : ℕ) (w : S) (is : HoldsBody held start end) (h : RequestHead) (f : HeadFault) → StartsWithHead (take start held) h [] → screened does w h ≡ Some f

@@ -1,9 +1,9 @@
--- The fields of a head: their first fault, the length of the body, and whether the connection
--- closes (RFC 9112, sections 3.2, 6.1, 6.2 and 9.3; RFC 9110, section 5.1). The bounds are this
--- project's own.
+-- The fields of a head: their first fault, the length of the body, whether the connection closes
+-- (RFC 9112, sections 3.2, 6.1, 6.2 and 9.3; RFC 9110, section 5.1), and the user. The bounds and
+-- the user are this project's own.
 use Rattle.std.specs.Prelude.{ℕ, Bool, ◌&&◌, ◌||◌, not, List, length, map, if◌then◌else◌, nat_lt}
 use Rattle.std.specs.Prelude.{nat_le, nat_eq, is_some, count_by, find, take, drop, ◌-◌, eqb, Option}
-use Rattle.std.specs.Prelude.{Some, None, codes}
+use Rattle.std.specs.Prelude.{Some, None, [], codes}
 use Rattle.std.specs.List.{list_all, list_any, slice_split, prefix_len, suffix_len}
 use Rattle.std.specs.Char.{is_ascii_digit, is_ascii_whitespace, to_ascii_lowercase}
 use Rattle.std.specs.Cmp.Lexicographic.{pointwise}
@@ -98,6 +98,16 @@ asks_close field = field_is_named (codes "connection") field && has_close field.
 abbrev pub closes_by_fields : ℕ → List (List ℕ × List ℕ) → Bool
 closes_by_fields minor fields = nat_eq minor 0 || list_any asks_close fields
 
+-- ---- the user
+
+-- the value of the first X-Remote-User, by which a front server names the user; nothing without one
+abbrev pub user_of_field : Option (List ℕ × List ℕ) → List ℕ
+user_of_field None = []
+user_of_field (Some field) = field.1
+
+abbrev pub user_in_fields : List (List ℕ × List ℕ) → List ℕ
+user_in_fields fields = user_of_field (first_field_named (codes "x-remote-user") fields)
+
 -- ---- of a head
 
 -- the first fault of its fields
@@ -111,6 +121,10 @@ body_length head = length_in_fields head.minor (fields_of head)
 -- the connection is closed after the reply
 unfoldable pub closes : RequestHead → Bool
 closes head = closes_by_fields head.minor (fields_of head)
+
+-- the user that it names
+unfoldable pub user_of : RequestHead → List ℕ
+user_of head = user_in_fields (fields_of head)
 
 -- no request follows this one on the connection
 unfoldable pub is_last_request : RequestHead → Bool

@@ -6,7 +6,7 @@ use Rattle.http_requests.specs.declared.head_fault.HeadFault.TheVariants.{BadHea
 use Rattle.http_requests.specs.declared.head_fault.HeadFault.TheVariants.{BadHost, TransferEncoding}
 use Rattle.http_requests.specs.declared.head_fault.HeadFault.TheVariants.{BadLength, BodyTooLarge}
 use Rattle.http_requests.specs.declared.head_fault.HeadFault.TheVariants.{ForeignHost, ForeignSite}
-use Rattle.http_requests.specs.declared.head_fault.HeadFault.TheVariants.{Precondition}
+use Rattle.http_requests.specs.declared.head_fault.HeadFault.TheVariants.{Precondition, Busy}
 
 abbrev pub head_fault_number : HeadFault → ℕ
 head_fault_number BadHead = 21
@@ -18,6 +18,7 @@ head_fault_number BodyTooLarge = 26
 head_fault_number ForeignHost = 31
 head_fault_number ForeignSite = 32
 head_fault_number Precondition = 33
+head_fault_number Busy = 34
 
 abbrev pub head_fault_status : HeadFault → ℕ
 head_fault_status BadHead = 400
@@ -29,6 +30,7 @@ head_fault_status BodyTooLarge = 413
 head_fault_status ForeignHost = 421
 head_fault_status ForeignSite = 403
 head_fault_status Precondition = 501
+head_fault_status Busy = 503
 
 abbrev pub head_fault_text : HeadFault → List ℕ
 head_fault_text BadHead = codes "bad-head"
@@ -40,3 +42,4 @@ head_fault_text BodyTooLarge = codes "body-too-large"
 head_fault_text ForeignHost = codes "foreign-host"
 head_fault_text ForeignSite = codes "foreign-site"
 head_fault_text Precondition = codes "precondition"
+head_fault_text Busy = codes "busy"

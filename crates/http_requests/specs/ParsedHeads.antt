@@ -2,14 +2,14 @@
 use Rattle.std.specs.Prelude.{◌≡◌, ◌≤◌, ℕ, List, [], Option, Some, None}
 use Rattle.httparse.specs.Grammar.{RequestHead, MayBecomeRequest}
 use Rattle.httparse.specs.Spans.{RequestOverflows}
-use Rattle.http_requests.specs.Fields.{fault_of_head, body_length, closes, longest_body}
+use Rattle.http_requests.specs.Fields.{fault_of_head, body_length, closes, longest_body, user_of}
 use Rattle.http_requests.specs.Requests.{StartsWithHead, most_fields}
 use Rattle.http_requests.specs.declared.head_fault.HeadFault.{HeadFault}
 use Rattle.http_requests.specs.declared.head_fault.HeadFault.TheVariants.{BadHead, HeadTooLarge}
 use Rattle.http_requests.specs.declared.head_fault.HeadFault.TheVariants.{BadHost, TransferEncoding}
 use Rattle.http_requests.specs.declared.head_fault.HeadFault.TheVariants.{BadLength, BodyTooLarge}
 use Rattle.http_requests.specs.declared.head_fault.HeadFault.TheVariants.{ForeignHost, ForeignSite}
-use Rattle.http_requests.specs.declared.head_fault.HeadFault.TheVariants.{Precondition}
+use Rattle.http_requests.specs.declared.head_fault.HeadFault.TheVariants.{Precondition, Busy}
 use Rattle.http_requests.specs.declared.head.Head.{Head}
 use Rattle.http_requests.specs.declared.head.ParsedHead.{ParsedHead}
 use Rattle.http_requests.specs.declared.head.ParsedHead.TheVariants.{Good, Faulty, Screened}
@@ -22,6 +22,7 @@ head_of head = record {
   target = head.target;
   close = closes head;
   length = body_length head;
+  user = user_of head;
 }
 
 -- whatever follows, the octets start with no head of 64 fields or fewer
@@ -39,6 +40,7 @@ IsBoundFault octets BodyTooLarge = ⊥
 IsBoundFault octets ForeignHost = ⊥
 IsBoundFault octets ForeignSite = ⊥
 IsBoundFault octets Precondition = ⊥
+IsBoundFault octets Busy = ⊥
 
 -- the whole text is a good head that isn't refused, one that is, a head with this fault, or no head
 abbrev pub IsParsedHead : (RequestHead → Option HeadFault) → List ℕ → ParsedHead → Type 0

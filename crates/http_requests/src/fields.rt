@@ -9,7 +9,7 @@ ghost use Rattle.base_types.specs.Octets.{comma};
 ghost use Rattle.http_requests.specs.Fields.{field_is_named, count_fields_named, first_field_named};
 ghost use Rattle.http_requests.specs.Fields.{is_length, fault_in_fields, length_in_fields};
 ghost use Rattle.http_requests.specs.Fields.{longest_body, is_close, has_close, asks_close};
-ghost use Rattle.http_requests.specs.Fields.{closes_by_fields};
+ghost use Rattle.http_requests.specs.Fields.{closes_by_fields, user_in_fields};
 
 use crate::head_fault::HeadFault;
 use httparse::spans::{HeaderSpan, Span};
@@ -54,6 +54,17 @@ pub(crate) fn first_field_named(
         }
     }
     None
+}
+
+/// The user that the first X-Remote-User names; nothing without one.
+pub(crate) fn user_in_fields<'a>(text: &'a [u8], fields: &[HeaderSpan]) -> &'a [u8]
+    requires { All (IsHeaderWithin (length text.now)) fields.now }
+    ensures { result.now ≡ user_in_fields (map (header_bytes text.now) fields.now) }
+{
+    match first_field_named(text, fields, "x-remote-user") {
+        Some(field) => field.value.of(text),
+        None => &[],
+    }
 }
 
 pub(crate) fn all_digits(value: &[u8]) -> bool

@@ -5,10 +5,10 @@ ghost use Rattle.http_requests.specs.HandlerRuns.{screened};
 ghost use Rattle.http_requests.specs.HeadEnds.{EndsAtLastOctet};
 ghost use Rattle.http_requests.specs.Requests.{longest_head};
 
-use crate::fields::{closes, length_or_fault};
+use crate::fields::{closes, length_or_fault, user_in_fields};
 use crate::handler::Handler;
 use crate::head_fault::HeadFault;
-use base_types::{NoMemory, Text};
+use base_types::{Items, NoMemory, Text};
 use httparse::Status;
 use httparse::spans::{EMPTY_HEADER_SPAN, RequestSpans, parse_request};
 use std::alloc::Global;
@@ -24,6 +24,9 @@ pub struct Head {
     pub close: bool,
     /// The length of the body in octets, at most 8,388,608.
     pub length: u64,
+    /// The value of the first X-Remote-User, by which a front server names the user. Anyone who
+    /// can connect may send it.
+    pub user: Items<u8>,
 }
 
 /// The result of parsing octets that end where a head ends.
@@ -65,11 +68,13 @@ pub fn read_head<H: Handler>(
                     let close = closes(parts.version, text, fields);
                     let method = String::from_utf8_lossy(alloc, parts.method.of(text))?;
                     let target = String::from_utf8_lossy(alloc, parts.path.of(text))?;
+                    let user = user_in_fields(text, fields).to_vec(alloc)?;
                     Ok(ParsedHead::Good(Head {
                         method: Text::new(method),
                         target: Text::new(target),
                         close,
                         length,
+                        user: Items::from_vec(user),
                     }))
                 }
             }

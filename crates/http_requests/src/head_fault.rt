@@ -3,7 +3,8 @@ ghost use Rattle.std.specs.Prelude.{◌≡◌};
 ghost use Rattle.http_requests.specs.HeadFaults.{head_fault_number, head_fault_status};
 ghost use Rattle.http_requests.specs.HeadFaults.{head_fault_text};
 
-/// Why a request is refused before its body is read. Each fault closes the connection.
+/// Why a request is refused before its body is read, or its reply isn't sent (`Busy`). Each fault
+/// closes the connection.
 #[derive(Clone, Copy, Debug, PartialEq, Eq)]
 pub enum HeadFault {
     /// The octets are no head, or a head with more than 64 fields.
@@ -24,10 +25,12 @@ pub enum HeadFault {
     ForeignSite,
     /// A field has a precondition, which this server doesn't evaluate.
     Precondition,
+    /// All connections together hold as much as they may.
+    Busy,
 }
 
 impl HeadFault {
-    /// The number of the fault: 21 to 26, and 31 to 33, in the order of the variants.
+    /// The number of the fault: 21 to 26, and 31 to 34, in the order of the variants.
     pub fn number(self) -> u8
         ensures { result ≡ head_fault_number self }
     {
@@ -41,6 +44,7 @@ impl HeadFault {
             HeadFault::ForeignHost => 31,
             HeadFault::ForeignSite => 32,
             HeadFault::Precondition => 33,
+            HeadFault::Busy => 34,
         }
     }
 
@@ -58,6 +62,7 @@ impl HeadFault {
             HeadFault::ForeignHost => 421,
             HeadFault::ForeignSite => 403,
             HeadFault::Precondition => 501,
+            HeadFault::Busy => 503,
         }
     }
 
@@ -75,6 +80,7 @@ impl HeadFault {
             HeadFault::ForeignHost => "foreign-host",
             HeadFault::ForeignSite => "foreign-site",
             HeadFault::Precondition => "precondition",
+            HeadFault::Busy => "busy",
         }
     }
 }

@@ -1,6 +1,7 @@
 //! The state of a session: the octets of the incomplete request at the front.
 ghost use Rattle.std.specs.Prelude.{◌≡◌, ◌≢◌, ◌≤◌, ◌<◌, ◌-◌, ◌↔◌, ◌⊎◌, [], ◌++◌, length, take};
 ghost use Rattle.std.specs.Prelude.{IfOk, OnErr, IsTrue};
+ghost use Rattle.std.specs.Vec.{vec_capacity};
 ghost use Rattle.http_requests.specs.HeadEnds.{head_state_after, EndsAtLastOctet};
 ghost use Rattle.http_requests.specs.HeldRequests.{IsHeldRequestLength, held_length};
 ghost use Rattle.http_requests.specs.SessionFeeding.{HandlesSomePrefix, FeedsPieceInPart};
@@ -87,11 +88,25 @@ fn append_reply(out: &mut Vec<u8>, reply: Vec<u8>) -> Result<(), NoMemory>
     Ok(())
 }
 
+/// Empties the octets of a request. Room for more than a head is given back, so that a silent
+/// connection holds little, however long its last request was.
+fn empty(held: &mut Vec<u8>, alloc: Global)
+    ensures emptied { held.new.items ≡ [] }
+    ensures room { vec_capacity held.new ≤ longest_head }
+{
+    if held.capacity() > HEAD_OCTETS_MAX {
+        *held = Vec::new(alloc);
+    } else {
+        held.clear();
+    }
+}
+
 impl Progress {
     pub(crate) fn new(alloc: Global) -> Progress
         ensures holds { MatchesStage result.held.items result.stage }
         ensures is_open { IsOpen result.stage }
         ensures nothing { result.held.items ≡ [] }
+        ensures room { vec_capacity result.held ≤ longest_head }
     {
         Progress {
             held: Vec::new(alloc),
@@ -160,10 +175,11 @@ impl Progress {
             handler.old handler.new) }
         ensures err_closed { OnErr result (IsClosed self.new.stage) }
         ensures over { IfOk result (λ _. AwaitsBody self.new.stage → ⊥) }
+        ensures room { IfOk result (λ _. vec_capacity self.new.held ≤ longest_head) }
     {
         let reply = handler.handle(alloc, head, &self.held[start..])?;
         append_reply(out, reply)?;
-        self.held.clear();
+        empty(&mut self.held, alloc);
         if head.close {
             Ok(false)
         } else {
@@ -350,16 +366,29 @@ impl Progress {
         }
     }
 
-    /// Drops the octets that a closed session still holds.
-    pub(crate) fn release_if_closed(&mut self, alloc: Global)
+    /// Closes the session, and drops what it holds.
+    pub(crate) fn close(&mut self, alloc: Global)
+        ensures holds { MatchesStage self.new.held.items self.new.stage }
+        ensures is_closed { IsClosed self.new.stage }
+        ensures released { HoldsNoneIfClosed self.new.held.items self.new.stage }
+        ensures room { vec_capacity self.new.held ≤ longest_head }
+    {
+        self.held = Vec::new(alloc);
+        self.stage = Stage::Closed;
+    }
+
+    /// Drops the octets that a closed session still holds. Without octets it has room for no more
+    /// than a head.
+    pub(crate) fn release(&mut self, alloc: Global)
         requires holds { MatchesStage self.old.held.items self.old.stage }
         ensures holds { MatchesStage self.new.held.items self.new.stage }
         ensures same_value { open_octets self.new.held.items self.new.stage
             ≡ open_octets self.old.held.items self.old.stage }
         ensures released { HoldsNoneIfClosed self.new.held.items self.new.stage }
+        ensures room { self.new.held.items ≡ [] → vec_capacity self.new.held ≤ longest_head }
     {
-        if self.is_closed() {
-            self.held = Vec::new(alloc);
+        if self.is_closed() || self.held.is_empty() {
+            empty(&mut self.held, alloc);
         }
     }
 

@@ -10,15 +10,17 @@ use std::alloc::Global;
 use std::marker::Model;
 
 /// The requests of one connection. It holds the octets of at most one incomplete request, and none
-/// once it is closed. In contracts its value is those octets while it is open, and `None` once it
-/// is closed.
+/// once it is closed. While it holds none, it has room for no more than a head. In contracts its
+/// value is those octets while it is open, and `None` once it is closed.
 #[derive(Debug, Drop)]
 pub struct Session {
     progress: Progress,
 }
 
 impl Model for Session {
-    ghost use Rattle.std.specs.Prelude.{ℕ, List, Option};
+    ghost use Rattle.std.specs.Prelude.{◌≡◌, ◌≤◌, ℕ, List, [], Option};
+    ghost use Rattle.std.specs.Vec.{vec_capacity};
+    ghost use Rattle.http_requests.specs.Requests.{longest_head};
     ghost use Rattle.http_requests.specs.internal.Progress.{HoldsNoneIfClosed, MatchesStage};
     ghost use Rattle.http_requests.specs.internal.Progress.{open_octets};
 
@@ -28,7 +30,9 @@ impl Model for Session {
 
     ghost invariant = { λ session.
         MatchesStage session.progress.held.items session.progress.stage
-        × HoldsNoneIfClosed session.progress.held.items session.progress.stage };
+        × HoldsNoneIfClosed session.progress.held.items session.progress.stage
+        × (session.progress.held.items ≡ []
+        → vec_capacity session.progress.held ≤ longest_head) };
 }
 
 impl Session {
@@ -46,6 +50,13 @@ impl Session {
         ensures { IsTrue result ↔ (self.now ≡ None) }
     {
         self.progress.is_closed()
+    }
+
+    /// Closes the session, and drops what it holds.
+    pub fn close(&mut self, alloc: Global)
+        ensures { self.new ≡ None }
+    {
+        self.progress.close(alloc);
     }
 
     /// The number of octets of the incomplete request that the session holds. It is 0 between
@@ -85,7 +96,7 @@ impl Session {
         ensures no_memory_closes { OnErr result (self.new ≡ None) }
     {
         let fed = self.progress.feed(alloc, handler, piece);
-        self.progress.release_if_closed(alloc);
+        self.progress.release(alloc);
         fed
     }
 }

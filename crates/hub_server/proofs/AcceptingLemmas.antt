@@ -1,8 +1,8 @@
 -- Accepting a connection at a free place.
-use Rattle.std.proofs.Common.{◌≡◌, ◌∙◌, ◌<◌, ◌≤◌, ◌+◌, ◌-◌, ◌&&◌, ◌||◌, ℕ, zero, suc, Bool, true, false, List, [], ◌∷◌, Option, Some, None, refl, sym, ap, subst, arith, is_some, length, nat_eq, nat_le, nat_lt, not, slice_get, slice_set}
-use Rattle.std.proofs.lemmas.Bool.{and_parts, and_right, eqb-false, le-ltb, lt-leb, ltb-true, not-true, or_parts}
+use Rattle.std.proofs.Common.{◌≡◌, ◌∙◌, ◌<◌, ◌≤◌, ◌+◌, ◌-◌, ◌&&◌, ◌||◌, ℕ, zero, suc, Bool, true, false, List, [], ◌∷◌, Option, Some, None, refl, sym, ap, subst, arith, is_some, length, nat_le, nat_lt, slice_get, slice_set}
+use Rattle.std.proofs.lemmas.Bool.{and_right, le-ltb, lt-leb}
 use Rattle.std.proofs.lemmas.List.Sums.{count_by-le-length}
-use Rattle.http_hub.specs.Hubs.{HubValue, IsAt, OpensAt, is_full, most_opened, open_count}
+use Rattle.http_hub.specs.Hubs.{HubValue, IsAt, OpensAt, open_count}
 use Rattle.http_hub.specs.Links.{has_expired, new_link}
 use Rattle.http_hub.specs.declared.slot.Slot.{Slot}
 use Rattle.http_hub.proofs.CountLemmas.{count_opened}
@@ -14,7 +14,7 @@ use Rattle.hub_server.specs.Expiries.{KeepsNoneExpired, KeepsTurnsOver}
 use Rattle.hub_server.specs.Needs.{KeepsOthers}
 use Rattle.hub_server.specs.Seats.{IsTurnOver, SeatValue, new_seat}
 use Rattle.hub_server.specs.ServerActs.ServerAct.{AcceptsAt, DefersAccepting, FindsNoConnection}
-use Rattle.hub_server.specs.Servers.{IsSeatedAt, ServerValue, accepts_at, has_room, is_listener_due, later_milliseconds, with_listener, with_seat}
+use Rattle.hub_server.specs.Servers.{IsSeatedAt, ServerValue, accepts_at, has_room, later_milliseconds, with_listener, with_seat}
 use Rattle.hub_server.specs.declared.endpoint_fault.EndpointFault.{EndpointFault}
 use Rattle.hub_server.specs.declared.limits.ServeLimits.{ServeLimits}
 use Rattle.hub_server.specs.declared.listener_state.ListenerState.{ListenerState}

@@ -1,6 +1,6 @@
 -- When a wait ends.
-use Rattle.std.proofs.Common.{◌≡◌, ◌∙◌, ◌==◌, ◌<◌, ◌+◌, ◌&&◌, ◌||◌, ℕ, Bool, true, false, List, Option, Some, refl, sym, ap, subst, arith, get_or, length, slice_get, IsTrue}
-use Rattle.std.proofs.lemmas.Bool.{eqb-false, eqb-true, le-leb}
+use Rattle.std.proofs.Common.{◌≡◌, ◌∙◌, ◌==◌, ◌<◌, ◌+◌, ◌&&◌, ◌||◌, ℕ, Bool, true, false, List, Option, Some, refl, ap, subst, arith, get_or, length, slice_get, IsTrue}
+use Rattle.std.proofs.lemmas.Bool.{eqb-false, eqb-true}
 use Rattle.http_hub.specs.Hubs.{IsAt, IsOpenAt, any_expired}
 use Rattle.http_hub.specs.Links.{IsFirstTime}
 use Rattle.http_hub.specs.declared.slot.Slot.{Slot}

@@ -4,7 +4,6 @@ use Rattle.std.proofs.lemmas.Bool.{false_from_ne_true}
 use Rattle.http_hub.specs.Hubs.{IsAt, IsOpenAt}
 use Rattle.http_hub.specs.Links.{has_expired}
 use Rattle.http_hub.specs.declared.slot.Slot.{Slot}
-use Rattle.http_hub.proofs.PlaceLemmas.{found_within}
 use Rattle.hub_server.specs.EndpointRuns.{EndpointRelation, ReachesByActs}
 use Rattle.hub_server.specs.Endpoints.EndpointEvent.{CloseEvent}
 use Rattle.hub_server.specs.Expiries.{ExpiresAt, HasExpiredAt, KeepsTurnsOver}

@@ -10,3 +10,4 @@ pub mod AcceptingLemmas
 pub mod ServingLemmas
 pub mod NumberLemmas
 pub mod ServerLawLemmas
+pub mod BoundLemmas

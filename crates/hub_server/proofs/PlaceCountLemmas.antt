@@ -2,7 +2,7 @@
 use Rattle.std.proofs.Common.{◌≡◌, ◌∙◌, ℕ, suc, Bool, List, [], ◌∷◌, refl, sym, ap, drop, length}
 use Rattle.http_hub.proofs.PlaceLemmas.{set_length}
 use Rattle.http_requests.specs.HandlerRuns.{HandlerRelation, FaultReplies}
-use Rattle.hub_server.specs.EndpointRuns.{ActRuns, EndpointRelation, ReachesByActs}
+use Rattle.hub_server.specs.EndpointRuns.{ActRuns, EndpointRelation}
 use Rattle.hub_server.specs.Seats.{SeatValue, new_seat, seat_after_step, seat_asleep, seats_after_wait}
 use Rattle.hub_server.specs.ServerActs.{DoesAct, ServerAct}
 use Rattle.hub_server.specs.ServerActs.ServerAct.{Awaits, AcceptsAt, FindsNoConnection, DefersAccepting, ReadsFrom, FindsNoInput, WritesTo, FindsNoOutput, ClosesAt}

@@ -1,11 +1,12 @@
 -- The steps of the connection at one place.
-use Rattle.std.proofs.Common.{◌≡◌, ◌∙◌, ◌⊎◌, ◌<◌, ◌≤◌, ℕ, true, List, Option, Some, None, Result, Ok, Err, refl, sym, ap, subst, inl, inr, arith, drop, length, slice_get}
-use Rattle.std.specs.Prelude.{IfOk, OnErr}
+use Rattle.std.proofs.Common.{◌≡◌, ◌∙◌, ◌⊎◌, ◌<◌, ◌≤◌, ℕ, true, List, Option, Some, None, refl, sym, ap, subst, inl, inr, arith, drop, length, slice_get}
 use Rattle.std.proofs.lemmas.List.{set-set}
 use Rattle.http_requests.specs.HandlerRuns.{HandlerRelation, FaultReplies}
-use Rattle.http_hub.specs.Hubs.{FailsAt, HubValue, ReceivesAt, SendsAt, with_slot}
-use Rattle.http_hub.specs.Links.{has_expired, link_after_failure, link_after_sent}
+use Rattle.http_hub.specs.BoundedHubs.{ReceivesWithin}
+use Rattle.http_hub.specs.Hubs.{HubValue, SendsAt, with_slot}
+use Rattle.http_hub.specs.Links.{LinkValue, has_expired, link_after_failure, link_after_refusal, link_after_sent}
 use Rattle.http_hub.specs.declared.slot.Slot.{Slot}
+use Rattle.http_hub.proofs.HubLemmas.{refused_link}
 use Rattle.http_hub.proofs.PlaceLemmas.{set_same, set_other}
 use Rattle.hub_server.specs.EndpointRuns.{EndpointRelation, ReachesByActs}
 use Rattle.hub_server.specs.Endpoints.EndpointEvent.{CloseEvent, ReadEvent, ReadNone, ReadEnd, ReadFault, WriteEvent, WriteNone, WriteFault}
@@ -282,24 +283,26 @@ piece_given seat read piece same is some = subst (λ (t : List ℕ). 0 < length 
 pub piece_fits : (first second : SeatValue) (piece : List ℕ) → first ≡ second → piece ≡ next_piece first.unfed → length piece ≤ length second.unfed
 piece_fits first second piece same is = subst (λ (t : List ℕ). length t ≤ length second.unfed) (sym (is ∙ ap (λ (x : SeatValue). next_piece x.unfed) same)) (piece_within second.unfed)
 
-pub either_by : {A E : Type 0} (P Q : Type 0) (result : Result A E) → IfOk result (λ _. P) → OnErr result Q → P ⊎ Q
-either_by P Q (Ok value) p q = inl p
-either_by P Q (Err error) p q = inr q
-
 module _ {S : Type 0} (does : HandlerRelation S) (fault_reply : FaultReplies) where
-  fed_slot : (a : ServerValue) (place : ℕ) (piece : List ℕ) (w v : S) (hub : HubValue) → ReceivesAt does fault_reply place a.hub w piece a.time v hub ⊎ FailsAt does fault_reply place a.hub w piece v hub
+  fed_slot : (most : ℕ) (a : ServerValue) (place : ℕ) (piece : List ℕ) (w v : S) (hub : HubValue) → ReceivesWithin does fault_reply most place a.hub w piece a.time v hub
       → (slot : Option Slot) × (hub ≡ with_slot a.hub place slot)
-  fed_slot a place piece w v hub (inl received) = (Some (record { serial = received.slot.serial; link = received.next }), received.after_is)
-  fed_slot a place piece w v hub (inr failed) = (Some (record { serial = failed.slot.serial; link = link_after_failure failed.slot.link }), failed.after_is)
+  fed_slot most a place piece w v hub (inl fits) = (Some (record { serial = fits.received.slot.serial; link = fits.received.next }), fits.received.after_is)
+  fed_slot most a place piece w v hub (inr (inl failed)) = (Some (record { serial = failed.slot.serial; link = link_after_failure failed.slot.link }), failed.after_is)
+  fed_slot most a place piece w v hub (inr (inr large)) =
+      let last : LinkValue = link_after_refusal large.reply a.time in
+      let r = large.refused in (
+        Some (record { serial = r.received.slot.serial; link = last }),
+        refused_link a.hub r.full hub place r.received.slot r.refused.slot r.received.next last r.received.found r.received.after_is r.refused.found r.refused.after_is,
+      )
 
-  pub feeds_piece : (a b : ServerValue) (place : ℕ) (piece : List ℕ) (w v : S) (hub : HubValue) (old : SeatValue) (needs : NeedsFeeding a place) → slice_get a.seats place ≡ Some old → piece ≡ next_piece old.unfed
-      → ReceivesAt does fault_reply place a.hub w piece a.time v hub ⊎ FailsAt does fault_reply place a.hub w piece v hub
-      → b ≡ with_seat a place hub (seat_after_step old (drop (length piece) old.unfed)) → FeedsNext does fault_reply a w place needs.slot.serial piece v b × StepsAt place a b
-  feeds_piece a b place piece w v hub old needs found piece_is fed is =
+  pub feeds_piece : (most : ℕ) (a b : ServerValue) (place : ℕ) (piece : List ℕ) (w v : S) (hub : HubValue) (old : SeatValue) (needs : NeedsFeeding a place) → slice_get a.seats place ≡ Some old → piece ≡ next_piece old.unfed
+      → ReceivesWithin does fault_reply most place a.hub w piece a.time v hub
+      → b ≡ with_seat a place hub (seat_after_step old (drop (length piece) old.unfed)) → FeedsNext does fault_reply most a w place needs.slot.serial piece v b × StepsAt place a b
+  feeds_piece most a b place piece w v hub old needs found piece_is fed is =
       let same : old ≡ needs.seat = same_seat a.seats place old needs.seat found needs.seated.at_seat in
       let now_is : b ≡ with_seat a place hub (seat_after_step needs.seat (drop (length piece) needs.seat.unfed)) =
       is ∙ ap (λ (x : SeatValue). with_seat a place hub (seat_after_step x (drop (length piece) x.unfed))) same in
-      let there = fed_slot a place piece w v hub fed in (
+      let there = fed_slot most a place piece w v hub fed in (
         record {
           slot = needs.slot;
           seat = needs.seat;

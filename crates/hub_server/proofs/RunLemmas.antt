@@ -121,7 +121,7 @@ module _ {Endpoint : Type 0} (calls : EndpointRelation Endpoint) where
       waits_are = waits_of_map reached.acts ∙ reached.no_wait;
     }
 
-    pub steps_of_feed : (limits : ServeLimits) (place serial : ℕ) (piece : List ℕ) (a b : ServerValue) (w v : S) (s : Endpoint) → FeedsNext does fault_reply a w place serial piece v b
+    pub steps_of_feed : (limits : ServeLimits) (place serial : ℕ) (piece : List ℕ) (a b : ServerValue) (w v : S) (s : Endpoint) → FeedsNext does fault_reply limits.held a w place serial piece v b
         → ReachesBySteps does fault_reply calls limits 0 a w s b v s
     unfolding ServerRuns EndpointRuns
     steps_of_feed limits place serial piece a b w v s fed =

@@ -1,15 +1,16 @@
 -- Every run of a server is a run of its hub.
-use Rattle.std.proofs.Common.{◌≡◌, ◌∙◌, ◌==◌, ◌⊎◌, ◌<◌, ◌≤◌, ℕ, zero, suc, Bool, true, false, List, [], ◌∷◌, ◌++◌, Option, Some, None, refl, sym, ap, subst, inl, inr, append_assoc, arith, cond, drop, length, slice_get, slice_set, take}
+use Rattle.std.proofs.Common.{◌≡◌, ◌∙◌, ◌==◌, ◌<◌, ◌≤◌, ℕ, zero, suc, Bool, true, false, List, [], ◌∷◌, ◌++◌, Option, Some, None, refl, sym, ap, subst, inl, inr, append_assoc, arith, cond, drop, length, slice_get, slice_set, take}
 use Rattle.std.proofs.lemmas.Bool.{eqb-false, eqb-true, eq-eqb, ne_eqb}
 use Rattle.std.proofs.lemmas.List.{append-nil, length-take-le, take-append-drop}
 use Rattle.http_requests.specs.HandlerRuns.{HandlerRelation, FaultReplies}
 use Rattle.http_hub.specs.FedPieces.{FedPiece, octets_in, pieces_of}
-use Rattle.http_hub.specs.HubRuns.{DoesStep, HubRuns, HubStep, pieces_in, sent_to}
-use Rattle.http_hub.specs.HubRuns.HubStep.{Opens, Receives, Fails, Sends, Ends}
+use Rattle.http_hub.specs.BoundedHubs.{ReceivesWithin}
+use Rattle.http_hub.specs.HubRuns.{DoesStep, HubRuns, HubStep, RefusesPieceAt, pieces_in, sent_to}
+use Rattle.http_hub.specs.HubRuns.HubStep.{Opens, Receives, Fails, Refuses, Sends, Ends}
 use Rattle.http_hub.specs.Hubs.{EndsAt, FailsAt, HubValue, IsAt, OpensAt, ReceivesAt, SendsAt, with_link, with_slot}
-use Rattle.http_hub.specs.Links.{LinkValue, link_after_failure, link_after_sent, new_link}
+use Rattle.http_hub.specs.Links.{LinkValue, link_after_failure, link_after_refusal, link_after_sent, new_link}
 use Rattle.http_hub.specs.declared.slot.Slot.{Slot}
-use Rattle.http_hub.proofs.HubLemmas.{hubs_separate_connections}
+use Rattle.http_hub.proofs.HubLemmas.{hubs_separate_connections, refused_link}
 use Rattle.http_hub.proofs.PlaceLemmas.{set_other, set_same}
 use Rattle.hub_server.specs.Seats.{SeatValue, new_seat, next_piece, seat_after_step, seat_asleep}
 use Rattle.hub_server.specs.ServerActs.{AcceptsConnection, ClosesConnection, DoesAct, EndCause, ReadsOctets, ServerAct, WritesOctets}
@@ -308,6 +309,18 @@ module _ {S : Type 0} (does : HandlerRelation S) (fault_reply : FaultReplies) wh
       written = λ connection. run.written connection;
     }
 
+    refuses_on : (reply : List ℕ) (refused : RefusesPieceAt does fault_reply place a.hub w piece reply a.time v b.hub) → refused.received.slot.serial ≡ serial → IsHubRun a w held (Feeds place serial piece ∷ steps) x c
+    unfolding HubRuns
+    refuses_on reply refused serial_is = record {
+      hub_steps = Refuses serial piece reply a.time ∷ run.hub_steps;
+      runs = (b.hub, v, (place, refused, serial_is), run.runs);
+      rest = run.rest;
+      fed = λ connection.
+          fed_by (serial == connection) piece left (held connection) (input_of connection steps) None (pieces_of connection (pieces_in run.hub_steps)) (run.rest connection)
+          (λ e. ap held (sym (eqb-true serial connection e)) ∙ parts) (run.fed connection);
+      written = λ connection. run.written connection;
+    }
+
   -- other octets that are the same
   held_as : (a c : ServerValue) (w v : S) (held other : ℕ → List ℕ) (steps : List ServerStep) → ((connection : ℕ) → other connection ≡ held connection) → IsHubRun a w other steps v c → IsHubRun a w held steps v c
   held_as a c w v held other steps same run = record {
@@ -436,9 +449,28 @@ module _ {S : Type 0} (does : HandlerRelation S) (fault_reply : FaultReplies) wh
         fails_on place serial piece (drop (length piece) seat.unfed) a b c w v x held steps (parts_of a held unfed place serial piece slot seat seated serial_is piece_is)
         (continues (link_after_failure failed.slot.link) (failed.after_is ∙ ap (λ n. with_link a.hub place n (link_after_failure failed.slot.link)) serials)) there (serials ∙ serial_is)
 
-    on_fed : ReceivesAt does fault_reply place a.hub w piece a.time v hub ⊎ FailsAt does fault_reply place a.hub w piece v hub → IsHubRun a w held (Feeds place serial piece ∷ steps) x c
-    on_fed (inl received) = on_received received
-    on_fed (inr failed) = on_failed failed
+    on_refused : (reply : List ℕ) → RefusesPieceAt does fault_reply place a.hub w piece reply a.time v hub → IsHubRun a w held (Feeds place serial piece ∷ steps) x c
+    on_refused reply refused =
+        let received = refused.received in
+        let last : LinkValue = link_after_refusal reply a.time in
+        let same : received.slot ≡ slot = same_slot a.hub place received.slot slot received.found seated.at_slot in
+        let serials : received.slot.serial ≡ slot.serial = ap (λ (s : Slot). s.serial) same in
+        let hub_is : b.hub ≡ hub = ap (λ (y : ServerValue). y.hub) is in
+        let link_is : hub ≡ with_link a.hub place received.slot.serial last =
+        refused_link a.hub refused.full hub place received.slot refused.refused.slot received.next last received.found received.after_is refused.refused.found refused.refused.after_is in
+        let there : RefusesPieceAt does fault_reply place a.hub w piece reply a.time v b.hub = record {
+          full = refused.full;
+          received = received;
+          reply_is = refused.reply_is;
+          refused = record { slot = refused.refused.slot; found = refused.refused.found; after_is = hub_is ∙ refused.refused.after_is };
+        } in
+        refuses_on place serial piece (drop (length piece) seat.unfed) a b c w v x held steps (parts_of a held unfed place serial piece slot seat seated serial_is piece_is)
+        (continues last (link_is ∙ ap (λ n. with_link a.hub place n last) serials)) reply there (serials ∙ serial_is)
+
+    on_fed : (most : ℕ) → ReceivesWithin does fault_reply most place a.hub w piece a.time v hub → IsHubRun a w held (Feeds place serial piece ∷ steps) x c
+    on_fed most (inl fits) = on_received fits.received
+    on_fed most (inr (inl failed)) = on_failed failed
+    on_fed most (inr (inr large)) = on_refused large.reply large.refused
 
   -- ---- all steps
 
@@ -450,7 +482,7 @@ module _ {S : Type 0} (does : HandlerRelation S) (fault_reply : FaultReplies) wh
       on_act limits act a b c w x held steps unfed done (λ held_now unfed_now. law_from limits steps b c w x held_now unfed_now here)
   law_from limits (Feeds place serial piece ∷ steps) a c w x held unfed (b, v, done, runs) =
       on_fed place serial piece a b c w v x held steps unfed done.slot done.seat done.seated done.serial_is done.piece_is done.hub done.after_is
-      (λ held_now unfed_now. law_from limits steps b c v x held_now unfed_now runs) done.fed
+      (λ held_now unfed_now. law_from limits steps b c v x held_now unfed_now runs) limits.held done.fed
 
   pub server_runs_are_hub_runs : ServerRunsAreHubRuns does fault_reply
   server_runs_are_hub_runs keeps limits old new steps after runs =

@@ -47,44 +47,44 @@ new_places limit = length-replicate limit new_seat
 module _ {S Endpoint : Type 0} (does : HandlerRelation S) (fault_reply : FaultReplies) (calls : EndpointRelation Endpoint) where
   -- ---- one place
 
-  pub record ServesPlace (place : ℕ) (a : ServerValue) (w : S) (s : Endpoint) (b : ServerValue) (v : S) (t : Endpoint) : Type 0 where
-    pub steps : (limits : ServeLimits) → ReachesBySteps does fault_reply calls limits 0 a w s b v t
+  pub record ServesPlace (limits : ServeLimits) (place : ℕ) (a : ServerValue) (w : S) (s : Endpoint) (b : ServerValue) (v : S) (t : Endpoint) : Type 0 where
+    pub steps : ReachesBySteps does fault_reply calls limits 0 a w s b v t
     pub others : KeepsOthers place a b
 
-  pub place_none : (place : ℕ) (a : ServerValue) (w : S) (s : Endpoint) → ServesPlace place a w s a w s
-  place_none place a w s = record { steps = λ limits. steps_none calls does fault_reply limits a w s; others = keeps_none place a }
+  pub place_none : (limits : ServeLimits) (place : ℕ) (a : ServerValue) (w : S) (s : Endpoint) → ServesPlace limits place a w s a w s
+  place_none limits place a w s = record { steps = steps_none calls does fault_reply limits a w s; others = keeps_none place a }
 
-  pub place_on : (place : ℕ) (a b c : ServerValue) (w v x : S) (s t u : Endpoint) → ServesPlace place a w s b v t → ((limits : ServeLimits) → ReachesBySteps does fault_reply calls limits 0 b v t c x u) → KeepsOthers place b c
-      → ServesPlace place a w s c x u
-  place_on place a b c w v x s t u far steps others = record {
-    steps = λ limits. steps_on calls does fault_reply limits 0 0 a b c w v x s t u (far.steps limits) (steps limits);
+  pub place_on : (limits : ServeLimits) (place : ℕ) (a b c : ServerValue) (w v x : S) (s t u : Endpoint) → ServesPlace limits place a w s b v t → ReachesBySteps does fault_reply calls limits 0 b v t c x u → KeepsOthers place b c
+      → ServesPlace limits place a w s c x u
+  place_on limits place a b c w v x s t u far steps others = record {
+    steps = steps_on calls does fault_reply limits 0 0 a b c w v x s t u far.steps steps;
     others = keeps_on place a b c far.others others;
   }
 
   -- ---- all places in order
 
-  pub record ServesBelow (end count : ℕ) (a : ServerValue) (w : S) (s : Endpoint) (b : ServerValue) (v : S) (t : Endpoint) : Type 0 where
-    pub steps : (limits : ServeLimits) → ReachesBySteps does fault_reply calls limits 0 a w s b v t
+  pub record ServesBelow (limits : ServeLimits) (end count : ℕ) (a : ServerValue) (w : S) (s : Endpoint) (b : ServerValue) (v : S) (t : Endpoint) : Type 0 where
+    pub steps : ReachesBySteps does fault_reply calls limits 0 a w s b v t
     pub below : (place : ℕ) → place < count → HasTurnAt b place → ⊥
     pub seated : AreSeatedBelow b end
 
-  pub places_none : (end : ℕ) (a : ServerValue) (w : S) (s : Endpoint) → AreSeatedBelow a end → ServesBelow end 0 a w s a w s
-  places_none end a w s seated = record {
-    steps = λ limits. steps_none calls does fault_reply limits a w s;
+  pub places_none : (limits : ServeLimits) (end : ℕ) (a : ServerValue) (w : S) (s : Endpoint) → AreSeatedBelow a end → ServesBelow limits end 0 a w s a w s
+  places_none limits end a w s seated = record {
+    steps = steps_none calls does fault_reply limits a w s;
     below = λ place within has. let no : place < 0 = within in omega (arith, no);
     seated = seated;
   }
 
-  pub places_more : (end place : ℕ) (a b c : ServerValue) (w v x : S) (s t u : Endpoint) → place < end → ServesBelow end place a w s b v t → ((limits : ServeLimits) → ReachesBySteps does fault_reply calls limits 0 b v t c x u) → KeepsOthers place b c
-      → (HasTurnAt c place → ⊥) → ServesBelow end (place + 1) a w s c x u
-  places_more end place a b c w v x s t u within far steps others here = record {
-    steps = λ limits. steps_on calls does fault_reply limits 0 0 a b c w v x s t u (far.steps limits) (steps limits);
+  pub places_more : (limits : ServeLimits) (end place : ℕ) (a b c : ServerValue) (w v x : S) (s t u : Endpoint) → place < end → ServesBelow limits end place a w s b v t → ReachesBySteps does fault_reply calls limits 0 b v t c x u → KeepsOthers place b c
+      → (HasTurnAt c place → ⊥) → ServesBelow limits end (place + 1) a w s c x u
+  places_more limits end place a b c w v x s t u within far steps others here = record {
+    steps = steps_on calls does fault_reply limits 0 0 a b c w v x s t u far.steps steps;
     below = no_turn_more place b c others far.below here;
     seated = seated_kept place end b c others within far.seated;
   }
 
-  pub places_over : (end count : ℕ) (a b : ServerValue) (w v : S) (s t : Endpoint) → end ≤ count → ServesBelow end count a w s b v t → AreTurnsOver b
-  places_over end count a b w v s t all far = turns_over b count (seated_more b end count far.seated all) far.below
+  pub places_over : (limits : ServeLimits) (end count : ℕ) (a b : ServerValue) (w v : S) (s t : Endpoint) → end ≤ count → ServesBelow limits end count a w s b v t → AreTurnsOver b
+  places_over limits end count a b w v s t all far = turns_over b count (seated_more b end count far.seated all) far.below
 
   -- ---- a round
 

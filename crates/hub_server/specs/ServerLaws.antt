@@ -3,6 +3,7 @@ use Rattle.std.specs.Prelude.{◌≡◌, ◌==◌, ℕ, List, [], ◌∷◌, ◌
 use Rattle.http_requests.specs.HandlerRuns.{HandlerRelation, FaultReplies, KeepsScreens}
 use Rattle.http_hub.specs.FedPieces.{octets_in, pieces_of}
 use Rattle.http_hub.specs.HubRuns.{HubRuns, HubStep, SeparatesConnections, pieces_in, sent_to}
+use Rattle.http_hub.specs.Holdings.{AreWithin}
 use Rattle.http_hub.specs.Hubs.{new_hub}
 use Rattle.hub_server.specs.ServerActs.{ServerAct}
 use Rattle.hub_server.specs.ServerActs.ServerAct.{Awaits, AcceptsAt, FindsNoConnection}
@@ -55,7 +56,8 @@ output_of connection (Feeds place serial piece ∷ steps) = output_of connection
 module _ {State : Type 0} (does : HandlerRelation State) (fault_reply : FaultReplies) where
   -- The run is a run of the hub. The pieces fed for a connection are, joined, the octets read from
   -- it, or the first of them, and what the hub sends to it is what was written. So what was written
-  -- to each connection, followed by what is pending, is the replies to its own requests in order.
+  -- to each connection, followed by what is pending, is the replies to its own requests in order, and
+  -- after them that to a busy server's client, if it was refused.
   pub record IsRunOfHub
       (limits : ServeLimits) (old : State) (steps : List ServerStep)
       (new : State) (after : ServerValue) : Type 0 where
@@ -66,6 +68,14 @@ module _ {State : Type 0} (does : HandlerRelation State) (fault_reply : FaultRep
         ≡ octets_in (pieces_of connection (pieces_in hub_steps)) ++ rest connection
     pub written : (connection : ℕ) → output_of connection steps ≡ sent_to connection hub_steps
     pub separate : SeparatesConnections does fault_reply limits.together old hub_steps new after.hub
+
+  -- After every run of a server from its start on, the large connections together hold no more than
+  -- the bound, or only one is large.
+  abbrev pub ServersHoldWithin : Type 0
+  ServersHoldWithin = (limits : ServeLimits) (old new : State) (steps : List ServerStep)
+      → (after : ServerValue)
+      → ServerRuns does fault_reply limits (new_server limits.together) old steps new after
+      → AreWithin limits.held after.hub.slots
 
   -- every run of a server from its start on is such a run
   abbrev pub ServerRunsAreHubRuns : Type 0

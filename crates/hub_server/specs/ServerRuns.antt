@@ -1,7 +1,8 @@
 -- Runs of a server: what it does at its endpoint and with its handler. This project's own.
-use Rattle.std.specs.Prelude.{◌≡◌, ◌⊎◌, ◌+◌, ℕ, List, [], ◌∷◌, ◌++◌, drop, length}
+use Rattle.std.specs.Prelude.{◌≡◌, ◌+◌, ℕ, List, [], ◌∷◌, ◌++◌, drop, length}
 use Rattle.http_requests.specs.HandlerRuns.{HandlerRelation, FaultReplies}
-use Rattle.http_hub.specs.Hubs.{FailsAt, HubValue, ReceivesAt}
+use Rattle.http_hub.specs.BoundedHubs.{ReceivesWithin}
+use Rattle.http_hub.specs.Hubs.{HubValue}
 use Rattle.http_hub.specs.declared.slot.Slot.{Slot}
 use Rattle.hub_server.specs.Endpoints.{EndpointEvent}
 use Rattle.hub_server.specs.EndpointRuns.{EndpointRelation, EndpointRuns, wait_count_of_act}
@@ -34,10 +35,10 @@ wait_count (Acts act ∷ steps) = wait_count_of_act act + wait_count steps
 wait_count (Feeds place serial piece ∷ steps) = wait_count steps
 
 module _ {State : Type 0} (does : HandlerRelation State) (fault_reply : FaultReplies) where
-  -- the next piece of the octets read was fed to the session of its connection; out of memory the
-  -- session is closed
+  -- the next piece of the octets read was fed to the session of its connection; out of memory, or if
+  -- the connection then held more than it may beside the others, the session is closed
   pub record FeedsNext
-      (before : ServerValue) (old : State) (place serial : ℕ) (piece : List ℕ)
+      (most : ℕ) (before : ServerValue) (old : State) (place serial : ℕ) (piece : List ℕ)
       (new : State) (after : ServerValue) : Type 0 where
     pub slot : Slot
     pub seat : SeatValue
@@ -47,8 +48,7 @@ module _ {State : Type 0} (does : HandlerRelation State) (fault_reply : FaultRep
     pub wanted : WantsFeeding slot.link seat
     pub piece_is : piece ≡ next_piece seat.unfed
     pub hub : HubValue
-    pub fed : ReceivesAt does fault_reply place before.hub old piece before.time new hub
-        ⊎ FailsAt does fault_reply place before.hub old piece new hub
+    pub fed : ReceivesWithin does fault_reply most place before.hub old piece before.time new hub
     pub after_is : after ≡
         with_seat before place hub (seat_after_step seat (drop (length piece) seat.unfed))
 
@@ -58,7 +58,7 @@ module _ {State : Type 0} (does : HandlerRelation State) (fault_reply : FaultRep
   DoesServerStep limits before old (Acts act) new after =
       (old ≡ new) × DoesAct limits before act after
   DoesServerStep limits before old (Feeds place serial piece) new after =
-      FeedsNext before old place serial piece new after
+      FeedsNext limits.held before old place serial piece new after
 
   -- the effect of these steps in turn
   unfoldable pub ServerRuns :

@@ -8,15 +8,16 @@ ghost use Rattle.hub_server.specs.Needs.{NeedsClosing, NeedsFeeding, NeedsInput,
 ghost use Rattle.hub_server.specs.Needs.{steps_left};
 ghost use Rattle.hub_server.specs.ServerRuns.{FeedsNext};
 ghost use Rattle.hub_server.specs.Servers.{AreSeatedBelow, new_server};
-ghost use Rattle.hub_server.specs.declared.limits.ServeLimits.{ServeLimits};
+ghost use Rattle.hub_server.specs.declared.limits.ServeLimits.{ServeLimits as TheLimits};
 
 use crate::endpoint::Endpoint;
+use crate::limits::ServeLimits;
 use crate::listener_state::ListenerState;
 use crate::need::Need;
 use crate::outcome::{Received, Sent};
 use crate::seat::Seat;
 use base_types::NoMemory;
-use http_hub::Hub;
+use http_hub::BoundedHub;
 use http_requests::Handler;
 use std::alloc::Global;
 use std::marker::Model;
@@ -25,7 +26,7 @@ use std::marker::Model;
 /// time of the last wait in milliseconds.
 #[derive(Debug, Drop)]
 pub struct Server {
-    pub(crate) hub: Hub,
+    pub(crate) hub: BoundedHub,
     pub(crate) seats: Vec<Seat>,
     pub(crate) listener: ListenerState,
     pub(crate) time: u64,
@@ -49,7 +50,7 @@ impl Server {
     pub fn new(alloc: Global, limit: usize) -> Result<Server, NoMemory>
         ensures { IfOk result (λ server. server ≡ new_server limit) }
     {
-        let hub = Hub::new(alloc, limit)?;
+        let hub = BoundedHub::new(alloc, limit)?;
         let mut seats = Vec::new(alloc);
         for _place in 0..limit {
             seats.push(Seat::new(alloc)?)?;
@@ -109,7 +110,7 @@ impl Server {
     /// closed.
     pub fn read<E: Endpoint>(&mut self, endpoint: &mut E, place: usize)
         requires { NeedsInput self.old place }
-        ensures acts { (limits : ServeLimits) →
+        ensures acts { (limits : TheLimits) →
             ReachesByActs E.calls limits self.old endpoint.old self.new endpoint.new }
         ensures others { KeepsOthers place self.old self.new }
         ensures less { steps_left self.new place < steps_left self.old place }
@@ -123,7 +124,7 @@ impl Server {
     /// Writes pending octets to the connection at the place. If writing fails, it is closed.
     pub fn write<E: Endpoint>(&mut self, endpoint: &mut E, place: usize)
         requires { NeedsOutput self.old place }
-        ensures acts { (limits : ServeLimits) →
+        ensures acts { (limits : TheLimits) →
             ReachesByActs E.calls limits self.old endpoint.old self.new endpoint.new }
         ensures others { KeepsOthers place self.old self.new }
         ensures less { steps_left self.new place < steps_left self.old place }
@@ -141,7 +142,7 @@ impl Server {
     /// Closes the connection at the place, whose session is closed.
     pub fn finish<E: Endpoint>(&mut self, endpoint: &mut E, place: usize)
         requires { NeedsClosing self.old place }
-        ensures acts { (limits : ServeLimits) →
+        ensures acts { (limits : TheLimits) →
             ReachesByActs E.calls limits self.old endpoint.old self.new endpoint.new }
         ensures others { KeepsOthers place self.old self.new }
         ensures less { steps_left self.new place < steps_left self.old place }
@@ -150,17 +151,24 @@ impl Server {
     }
 
     /// Feeds the next piece of what was read to the session of the connection at the place. Out of
-    /// memory the session is closed.
-    pub fn feed<H: Handler>(&mut self, alloc: Global, handler: &mut H, place: usize)
+    /// memory, or if the connection then holds more than it may, the session is closed.
+    pub fn feed<H: Handler>(
+        &mut self,
+        alloc: Global,
+        handler: &mut H,
+        place: usize,
+        limits: ServeLimits,
+    )
         requires { NeedsFeeding self.old place }
-        ensures fed { (serial : ℕ) × (piece : List ℕ) × FeedsNext H.does H.fault_reply
+        ensures fed { (serial : ℕ) × (piece : List ℕ) × FeedsNext H.does H.fault_reply limits.held
             self.old handler.old place serial piece handler.new self.new }
         ensures others { KeepsOthers place self.old self.new }
         ensures less { steps_left self.new place < steps_left self.old place }
     {
         let piece = self.seats[place].piece();
         let count = piece.len();
-        let _fed = self.hub.receive(alloc, handler, place, piece, self.time);
+        self.hub
+            .receive(alloc, handler, place, piece, self.time, limits.held);
         self.seats[place].mark_fed(count);
     }
 }

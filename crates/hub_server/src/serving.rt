@@ -6,7 +6,6 @@ ghost use Rattle.hub_server.specs.Rounds.{FailsInRound, ServesRound};
 ghost use Rattle.hub_server.specs.ServedEndpoints.{ServesAll, StopsAtEndpoint};
 ghost use Rattle.hub_server.specs.ServerRuns.{ReachesBySteps};
 ghost use Rattle.hub_server.specs.Servers.{AreTurnsOver, IsReadyToWait, IsServerDone};
-ghost use Rattle.hub_server.specs.declared.limits.ServeLimits.{ServeLimits};
 
 use crate::endpoint::Endpoint;
 use crate::endpoint_fault::EndpointFault;
@@ -34,10 +33,10 @@ impl Server {
         handler: &mut H,
         endpoint: &mut E,
         place: usize,
+        limits: ServeLimits,
     )
         requires { HasTurnAt self.old place }
-        ensures steps { (limits : ServeLimits) →
-            ReachesBySteps H.does H.fault_reply E.calls limits 0
+        ensures steps { ReachesBySteps H.does H.fault_reply E.calls limits 0
             self.old handler.old endpoint.old self.new handler.new endpoint.new }
         ensures others { KeepsOthers place self.old self.new }
         ensures less { steps_left self.new place < steps_left self.old place }
@@ -45,7 +44,7 @@ impl Server {
         match self.need(place) {
             Need::Input => self.read(endpoint, place),
             Need::Output => self.write(endpoint, place),
-            Need::Feeding => self.feed(alloc, handler, place),
+            Need::Feeding => self.feed(alloc, handler, place, limits),
             Need::Closing => self.finish(endpoint, place),
         }
     }
@@ -57,15 +56,15 @@ impl Server {
         handler: &mut H,
         endpoint: &mut E,
         place: usize,
+        limits: ServeLimits,
     )
-        ensures steps { (limits : ServeLimits) →
-            ReachesBySteps H.does H.fault_reply E.calls limits 0
+        ensures steps { ReachesBySteps H.does H.fault_reply E.calls limits 0
             self.old handler.old endpoint.old self.new handler.new endpoint.new }
         ensures others { KeepsOthers place self.old self.new }
         ensures over { HasTurnAt self.new place → ⊥ }
     {
         while self.has_turn(place) {
-            self.step(alloc, handler, endpoint, place);
+            self.step(alloc, handler, endpoint, place, limits);
         }
     }
 
@@ -75,14 +74,14 @@ impl Server {
         alloc: Global,
         handler: &mut H,
         endpoint: &mut E,
+        limits: ServeLimits,
     )
-        ensures steps { (limits : ServeLimits) →
-            ReachesBySteps H.does H.fault_reply E.calls limits 0
+        ensures steps { ReachesBySteps H.does H.fault_reply E.calls limits 0
             self.old handler.old endpoint.old self.new handler.new endpoint.new }
         ensures over { AreTurnsOver self.new }
     {
         for place in 0..self.places_end() {
-            self.serve_place(alloc, handler, endpoint, place);
+            self.serve_place(alloc, handler, endpoint, place, limits);
         }
     }
 
@@ -105,7 +104,7 @@ impl Server {
             fault self.old handler.old endpoint.old self.new handler.new endpoint.new) }
     {
         self.wait(endpoint, limits, ready)?;
-        self.serve_ready(alloc, handler, endpoint);
+        self.serve_ready(alloc, handler, endpoint, limits);
         self.expire(endpoint, limits);
         self.accept_all(alloc, endpoint, limits)
     }
@@ -121,18 +120,28 @@ impl Server {
 /// Accepts `limits.connections` connections, at most `limits.together` of them open at once, and
 /// serves them together, each until it ends.
 ///
-/// A connection is served when the endpoint reports it, until it isn't ready any more; after 32
-/// steps the others have their turn. A step reads at most 16,384 octets, feeds one piece of them to
-/// the session, or writes pending octets. Nothing is read or fed while octets are pending. A
-/// connection is closed once its session is closed and all replies were written, when its input
-/// ends or it fails, and when it has expired. With `limits.together` open connections accepting
-/// waits. If accepting fails for want of descriptors, it is tried again after 100 milliseconds.
+/// A connection that the endpoint reports is served until it isn't ready any more, but has at most
+/// 32 steps between two waits. The next wait comes once each that is ready has had its steps, in
+/// whatever order, and is asked to end at once if one of them was cut off. A step reads at most
+/// 16,384 octets, feeds one piece of them to the session, or writes pending octets. Nothing is read
+/// or fed while octets are pending.
 ///
-/// It allocates 16,384 octets for each place before the first wait.
+/// A connection is closed only if its session is closed and all replies were written, if its input
+/// has ended, if reading or writing failed, or if it has expired by the time of the last wait. When
+/// the next wait begins, none has. With `limits.together` open connections accepting waits. If the
+/// endpoint answers `Later`, it is tried again after 100 milliseconds, or before if the listener is
+/// reported.
+///
+/// The connections that hold more than 16,384 octets of an incomplete request or of pending replies
+/// hold at most `limits.held` together, or there is only one of them. One that would hold more is
+/// refused (`HeadFault::Busy`, or without a reply if there is no memory for it) and closed.
 ///
 /// `Wait` or `Accept` at once if the endpoint fails; `TooManyWaits` after 2^64 - 1 waits; `Memory`
-/// if an allocation fails before the first wait. Later only the connection within which memory runs
-/// out is closed.
+/// if an allocation fails before the first wait, and nothing was done. Later only the connection
+/// within which memory runs out is closed.
+///
+/// By reading alone, since no clause says it: it allocates 16,384 octets for each place before the
+/// first wait, and nothing when it accepts a connection.
 pub fn serve_endpoint<H: Handler, E: Endpoint>(
     alloc: Global,
     handler: &mut H,

@@ -8,8 +8,9 @@ use Rattle.std.proofs.lemmas.List.Elements.{All-from_get_or}
 use Rattle.std.proofs.lemmas.List.Sums.{list_all-from_AllPass}
 use Rattle.http_requests.specs.HeadFaults.{head_fault_number, head_fault_text}
 use Rattle.http_requests.specs.declared.head_fault.HeadFault.{HeadFault}
-use Rattle.http_requests.specs.declared.head_fault.HeadFault.TheVariants.{BadHead, HeadTooLarge, BadHost, TransferEncoding, BadLength, BodyTooLarge, ForeignHost, ForeignSite, Precondition}
-use Rattle.request_log.specs.LogLines.{IsLogLine, answered_line, cut_mark, escaped, escaped_octet, hex_digit, is_plain, is_printable, lost_line, refused_line, reply_words, request_words, shown, status_code, time_words}
+use Rattle.http_requests.specs.declared.head_fault.HeadFault.TheVariants.{BadHead, HeadTooLarge, BadHost, TransferEncoding, BadLength, BodyTooLarge, ForeignHost, ForeignSite, Precondition, Busy}
+use Rattle.request_log.specs.LogLines.{IsLogLine, answered_line, cut_mark, escaped, escaped_octet, hex_digit, is_plain, is_printable, lost_line, refused_line, reply_words, request_words, shown, status_code, time_words, user_words, change_words, json_of}
+use Rattle.http_requests.specs.Guards.{writes}
 
 -- the text is printable
 abbrev Printable : List ℕ → Type 0
@@ -89,14 +90,34 @@ assoc2 (x ∷ a) b c = ap (λ t. x ∷ t) (assoc2 a b c)
 line_of : (words line : List ℕ) → line ≡ words ++ 10 ∷ [] → Printable words → IsLogLine line
 line_of words line same is = record { words = words; line_is = same; printable = is }
 
-pub answered_is : (method target reply : List ℕ) (micros : ℕ) → length reply < 2 ^ 64 → micros < 2 ^ 64
-    → IsLogLine (answered_line method target reply micros)
-answered_is method target reply micros small short =
-    line_of (request_words method target ++ (reply_words reply ++ time_words micros)) (answered_line method target reply micros)
-    (ap (λ t. request_words method target ++ t) (assoc2 (reply_words reply) (time_words micros) (10 ∷ []))
-    ∙ assoc2 (request_words method target) (reply_words reply ++ time_words micros) (10 ∷ []))
-    (join (request_words method target) (reply_words reply ++ time_words micros) (request_is method target)
-    (join (reply_words reply) (time_words micros) (reply_is reply small) (time_is micros short)))
+user_is : (user : List ℕ) → Printable (user_words user)
+user_is [] = refl
+user_is (octet ∷ octets) = join (codes " user ") (shown 100 (octet ∷ octets)) refl (cut 100 (octet ∷ octets))
+
+change_on : (b : Bool) (reply : List ℕ) → Printable (if b then codes " reply " ++ shown 200 (json_of reply) else [])
+change_on true reply = join (codes " reply ") (shown 200 (json_of reply)) refl (cut 200 (json_of reply))
+change_on false reply = refl
+
+change_is : (method reply : List ℕ) → Printable (change_words method reply)
+change_is method reply = change_on (writes method) reply
+
+pub answered_is : (method target user reply : List ℕ) (micros : ℕ) → length reply < 2 ^ 64 → micros < 2 ^ 64
+    → IsLogLine (answered_line method target user reply micros)
+answered_is method target user reply micros small short =
+    let request = request_words method target in
+    let status = reply_words reply in
+    let time = time_words micros in
+    let who = user_words user in
+    let change = change_words method reply in
+    line_of (request ++ (status ++ (time ++ (who ++ change)))) (answered_line method target user reply micros)
+    (ap (λ t. request ++ (status ++ (time ++ t))) (assoc2 who change (10 ∷ []))
+    ∙ ap (λ t. request ++ (status ++ t)) (assoc2 time (who ++ change) (10 ∷ []))
+    ∙ ap (λ t. request ++ t) (assoc2 status (time ++ (who ++ change)) (10 ∷ []))
+    ∙ assoc2 request (status ++ (time ++ (who ++ change))) (10 ∷ []))
+    (join request (status ++ (time ++ (who ++ change))) (request_is method target)
+    (join status (time ++ (who ++ change)) (reply_is reply small)
+    (join time (who ++ change) (time_is micros short)
+    (join who change (user_is user) (change_is method reply)))))
 
 pub lost_is : (method target : List ℕ) → IsLogLine (lost_line method target)
 lost_is method target =
@@ -114,6 +135,7 @@ text_is BodyTooLarge = refl
 text_is ForeignHost = refl
 text_is ForeignSite = refl
 text_is Precondition = refl
+text_is Busy = refl
 
 number_small : (fault : HeadFault) → head_fault_number fault < 2 ^ 64
 number_small BadHead = omega arith
@@ -125,6 +147,7 @@ number_small BodyTooLarge = omega arith
 number_small ForeignHost = omega arith
 number_small ForeignSite = omega arith
 number_small Precondition = omega arith
+number_small Busy = omega arith
 
 pub refused_is : (fault : HeadFault) (reply : List ℕ) → length reply < 2 ^ 64 → IsLogLine (refused_line fault reply)
 refused_is fault reply small =

@@ -1,9 +1,10 @@
 -- The lines that a server prints about requests. This project's own.
 use Rattle.std.specs.Prelude.{ℕ, ◌≡◌, ◌+◌, ◌/◌, ◌%◌, ◌==◌, ◌&&◌, Bool, true, not, nat_le, nat_lt}
 use Rattle.std.specs.Prelude.{List, [], ◌∷◌, ◌++◌, codes, decimal, drop, flat_map, length, take}
-use Rattle.std.specs.Prelude.{if◌then◌else◌}
-use Rattle.std.specs.List.{list_all}
+use Rattle.std.specs.Prelude.{if◌then◌else◌, eqb, Option, Some, None}
+use Rattle.std.specs.List.{list_all, position}
 use Rattle.base_types.specs.Octets.{backslash, line_feed, space}
+use Rattle.http_requests.specs.Guards.{writes}
 use Rattle.http_requests.specs.HeadFaults.{head_fault_number, head_fault_text}
 use Rattle.http_requests.specs.declared.head_fault.HeadFault.{HeadFault}
 
@@ -33,6 +34,18 @@ target_octets_max = 200
 -- a visible ASCII character other than the backslash
 abbrev pub is_plain : ℕ → Bool
 is_plain octet = nat_lt space octet && nat_lt octet 127 && not (octet == backslash)
+
+-- the most octets of a user that are printed
+abbrev pub user_octets_max : ℕ
+user_octets_max = 100
+
+-- the most octets of a reply's JSON that are printed
+abbrev pub json_octets_max : ℕ
+json_octets_max = 200
+
+-- the octet with which JSON begins
+abbrev pub brace : ℕ
+brace = 123
 
 -- the hexadecimal digit of a number below 16: 48 is the digit 0, and 97 the letter a
 abbrev pub hex_digit : ℕ → ℕ
@@ -75,10 +88,30 @@ abbrev pub request_words : List ℕ → List ℕ → List ℕ
 request_words method target = codes "request " ++ (shown method_octets_max method
     ++ (codes " " ++ shown target_octets_max target))
 
+-- the user that a front server names
+abbrev pub user_words : List ℕ → List ℕ
+user_words [] = []
+user_words (octet ∷ octets) = codes " user " ++ shown user_octets_max (octet ∷ octets)
+
+-- the text from the place on; nothing without a place
+abbrev pub from_place : Option ℕ → List ℕ → List ℕ
+from_place None text = []
+from_place (Some place) text = drop place text
+
+-- the JSON of a reply: what begins with its first brace, since no head of a reply has one
+abbrev pub json_of : List ℕ → List ℕ
+json_of reply = from_place (position (λ octet. eqb octet brace) reply) reply
+
+-- what a change came to, as its book's number or the card's version
+abbrev pub change_words : List ℕ → List ℕ → List ℕ
+change_words method reply =
+    if writes method then codes " reply " ++ shown json_octets_max (json_of reply) else []
+
 -- the line of a request that was answered
-abbrev pub answered_line : List ℕ → List ℕ → List ℕ → ℕ → List ℕ
-answered_line method target reply micros = request_words method target
-    ++ (reply_words reply ++ (time_words micros ++ line_feed ∷ []))
+abbrev pub answered_line : List ℕ → List ℕ → List ℕ → List ℕ → ℕ → List ℕ
+answered_line method target user reply micros = request_words method target
+    ++ (reply_words reply ++ (time_words micros
+    ++ (user_words user ++ (change_words method reply ++ line_feed ∷ []))))
 
 -- the line of a request for whose reply memory ran out
 abbrev pub lost_line : List ℕ → List ℕ → List ℕ

@@ -15,6 +15,7 @@ use std::marker::Model;
 pub struct LoggedHandler<'a, H, L> {
     handler: H,
     log: Option<&'a L>,
+    names_users: bool,
 }
 
 impl<'a, H, L> Model for LoggedHandler<'a, H, L> {
@@ -26,11 +27,25 @@ impl<'a, H, L> Model for LoggedHandler<'a, H, L> {
 }
 
 impl<'a, H, L> LoggedHandler<'a, H, L> {
-    /// The handler with this log, or without one.
-    pub fn new(handler: H, log: Option<&'a L>) -> LoggedHandler<'a, H, L>
+    /// The handler with this log, or without one. Its lines name the user of a request if they may:
+    /// where whoever can connect may be believed.
+    pub fn new(handler: H, log: Option<&'a L>, names_users: bool) -> LoggedHandler<'a, H, L>
         ensures { result ≡ handler }
     {
-        LoggedHandler { handler, log }
+        LoggedHandler {
+            handler,
+            log,
+            names_users,
+        }
+    }
+}
+
+/// The user that a front server names, if it is to be believed.
+fn user_of(head: &Head, names_users: bool) -> &[u8] {
+    if names_users {
+        head.user.as_slice()
+    } else {
+        &[]
     }
 }
 
@@ -45,7 +60,8 @@ impl<'a, H: Handler, L: RequestLog> Handler for LoggedHandler<'a, H, L> {
         };
         let start = log.now();
         let handled = self.handler.handle(alloc, head, body);
-        note_handled(alloc, log, start, head, &handled);
+        let user = user_of(head, self.names_users);
+        note_handled(alloc, log, start, head, user, &handled);
         handled
     }
 

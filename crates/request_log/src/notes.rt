@@ -13,10 +13,11 @@ pub(crate) fn note_handled<L: RequestLog>(
     log: &L,
     start: Option<Instant>,
     head: &Head,
+    user: &[u8],
     handled: &Result<Vec<u8>, NoMemory>,
 ) {
     let line = match handled {
-        Ok(reply) => answered_text(alloc, head, reply.as_slice(), log.micros_since(start)),
+        Ok(reply) => answered_text(alloc, head, user, reply.as_slice(), log.micros_since(start)),
         Err(NoMemory) => lost_text(alloc, head),
     };
     if let Ok(line) = line {

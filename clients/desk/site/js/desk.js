@@ -8,7 +8,7 @@ import { Faces } from "./faces.js";
 import { Frame } from "./frame.js";
 import { History } from "./history.js";
 import { pageKey } from "./keys.js";
-import { emptyWays, emptyWords, titleOf } from "./listing.js";
+import { emptySign, emptyWays, emptyWords, titleOf } from "./listing.js";
 import { Lists } from "./lists.js";
 import { Memory } from "./memory.js";
 import { Outbox } from "./outbox.js";
@@ -63,7 +63,7 @@ export class Desk {
     this.chosen = "";
     this.mayList = true;
     this.later = new Set(); // questions that somebody put off
-    this.asked = null; // the entry about which somebody is asked now
+    this.asked = null; // the entry about which somebody is asked now, and what ends that
     this.drawing = 0;
     this.showing = 0;
     this.tabs = new BroadcastChannel("desk");
@@ -253,8 +253,8 @@ export class Desk {
     const { withBooks } = this;
     this.list.show(rows, { withBooks, keep, isFirst, heads: this.letters.places });
     this.frame.showCount(titleOf(this), rows.length, text !== "");
-    this.frame.showEmpty(rows.length ? null : text !== "" ? t("noCards") : emptyWords(this),
-      rows.length ? [] : emptyWays(this));
+    if (rows.length) this.frame.showEmpty("", null, []);
+    else this.frame.showEmpty(emptySign(this), emptyWords(this), emptyWays(this));
   }
 
   draw() {
@@ -395,6 +395,7 @@ export class Desk {
     this.showRows(rows, text === "" ? this.pane.cardKey : null, isFirst);
     if (isFirst) this.list.select(0);
     else if (!isForm && !rows.length) this.pane.clear();
+    else if (!this.pane.cardKey && !this.pane.missing) this.pane.blank();
     this.mark();
   }
 

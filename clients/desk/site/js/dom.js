@@ -7,7 +7,9 @@ const ATTRIBUTES = new Set([
   "placeholder", "autocomplete", "spellcheck", "inputmode", "accept", "maxlength", "download",
   "alt", "rel", "target", "max", "enterkeyhint", "autocapitalize", "scope", "colspan",
 ]);
-const STATES = new Set(["disabled", "checked", "required", "hidden", "open", "selected"]);
+const STATES = new Set([
+  "disabled", "checked", "required", "hidden", "open", "selected", "multiple",
+]);
 
 /** An element. `on` has listeners, `href` and `src` are tested; children are nodes or strings. */
 export function el(name, attributes = {}, ...children) {

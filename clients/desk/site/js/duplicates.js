@@ -93,7 +93,7 @@ export class Duplicates {
       theirs: t("joinOther"), leave: t("cancel"), taken: t("joinTaken"),
       by: ["joinByFirst", "joinByOther"],
     };
-    const choices = await askBoth(first.name, both, nameOfMember, words);
+    const choices = await askBoth(first.name, both, nameOfMember, { words });
     if (!choices) return true;
     const text = both.text(choices);
     const edit = { book, uid: first.uid, base: one.text, version: one.version, text };

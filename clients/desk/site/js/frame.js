@@ -110,16 +110,16 @@ export class Frame {
   }
 
   /**
-   * In place of an empty list: `words`, and `ways` to go on, `[text, run, kind]` each. If `words`
-   * is null, the list has cards.
+   * In place of an empty list: a drawing, `words`, and `ways` to go on, `[text, run, kind]` each.
+   * If `words` is null, the list has cards.
    */
-  showEmpty(words, ways) {
+  showEmpty(sign, words, ways) {
     const empty = by("empty");
     empty.hidden = words === null;
     const drawn = JSON.stringify([words, by("list-title").textContent, ways.map((it) => it[0])]);
     if (words === null || drawn === this.emptyDrawn) return;
     this.emptyDrawn = drawn;
-    fill(empty, el("p", {}, words), ways.length > 0 && el("div", { class: "bar" },
+    fill(empty, icon(sign), el("p", {}, words), ways.length > 0 && el("div", { class: "bar" },
       ways.map(([text, run, kind]) => button(text, run, { class: kind ?? null }))));
   }
 

@@ -5,6 +5,10 @@ const WORDS = {
   favourites: "noFavourites", recent: "noRecent", group: "noMembers", category: "noCategory",
 };
 
+const SIGNS = {
+  book: "book", favourites: "star", recent: "recent", group: "people", category: "tag",
+};
+
 /** The title of the list. */
 export function titleOf({ filter, chosen, books, shelf }) {
   if (!filter) return chosen || t(books.length > 1 ? "allBooks" : "listLabel");
@@ -17,8 +21,16 @@ function isWhole({ chosen, books }) {
   return books.every((it) => it.synced || (chosen && it.name !== chosen));
 }
 
-/** What is said where the list has no card, though nothing is searched. */
+const isSearch = (desk) => desk.frame.search.value.trim() !== "";
+
+/** The drawing above what is said where the list has no card. */
+export function emptySign(desk) {
+  return isSearch(desk) ? "search" : SIGNS[desk.filter?.kind ?? "book"];
+}
+
+/** What is said there. */
 export function emptyWords(desk) {
+  if (isSearch(desk)) return t("noCards");
   if (!desk.books.length) return t("noBooks");
   if (!isWhole(desk)) return t("notHereYet");
   return t(desk.filter ? WORDS[desk.filter.kind] : "emptyBook");
@@ -26,8 +38,8 @@ export function emptyWords(desk) {
 
 /** What can be done there: `[text, run, kind]` each. */
 export function emptyWays(desk) {
-  const { books, chosen, filter, frame } = desk;
-  if (frame.search.value.trim() !== "") return [[t("clearSearch"), () => desk.searchAnew()]];
+  const { books, chosen, filter } = desk;
+  if (isSearch(desk)) return [[t("clearSearch"), () => desk.searchAnew()]];
   if (!books.length) return desk.mayList ? [[t("addBook"), () => desk.addBook()]] : [];
   const book = chosen || (books.length === 1 ? books[0].name : "");
   if (filter || !isWhole(desk) || !desk.mayChange(book)) return [];

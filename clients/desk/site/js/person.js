@@ -7,7 +7,7 @@ import {
   telText, unescapeText,
 } from "./values.js";
 import { ownLabel } from "./labels.js";
-import { fold, spellOut } from "./search.js";
+import { fold, searchText, spellOut } from "./search.js";
 
 // Lines that `describe` shows, or that mean nothing to people.
 const SHOWN = new Set([
@@ -112,6 +112,13 @@ function searched(texts, most) {
   return words.size ? ` ${[...words].join(" ")}`.slice(0, most) : "";
 }
 
+/** A row that an older desk kept, as rows are now. */
+export function rowNow(row) {
+  if (row.search !== undefined) return row;
+  const { names = "", words = "", more = "", ...rest } = row;
+  return { ...rest, search: searchText(names, words, more) };
+}
+
 /** The row of a card: what the list shows, and folded texts for the search. */
 export function rowOf(book, uid, version, text) {
   const card = readCard(text);
@@ -137,9 +144,11 @@ export function rowOf(book, uid, version, text) {
     phone: phones.length ? clip(telText(phones[0])) : "",
     label: phones.length ? labelOf(card, phones[0]) : null,
     face: photoOf(lines("PHOTO")[0] ?? null) ? 1 : 0,
-    names: searched([name, ...nicks, ...parts.slice(0, 3)], 2000),
-    words: searched([...orgs, ...titles, ...mails, ...categories], 2000),
-    more: searched([...lines("ADR").flatMap(addressOf), ...textsOf(card, "NOTE")], 600),
+    search: searchText(
+      searched([name, ...nicks, ...parts.slice(0, 3)], 2000),
+      searched([...orgs, ...titles, ...mails, ...categories], 2000),
+      searched([...lines("ADR").flatMap(addressOf), ...textsOf(card, "NOTE")], 600),
+    ),
     cats: categories.length ? categories.map((it) => clip(it, 60)) : null,
     digits: phones.map((it) => digitsOf(telText(it)).slice(0, 40)).join(" "),
   };

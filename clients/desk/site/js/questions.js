@@ -22,10 +22,10 @@ export function namer(desk, book) {
  * Puts two edits of a card together, and asks where they clash. Answers the text, or null if
  * somebody puts the question off.
  */
-export async function chooseBoth(desk, book, base, mine, theirs) {
+export async function chooseBoth(desk, book, base, mine, theirs, signal = null) {
   const both = merge3(base, mine, theirs);
   if (!both.clashes.length) return both.text();
-  const choices = await askBoth(nameIn(theirs), both, namer(desk, book));
+  const choices = await askBoth(nameIn(theirs), both, namer(desk, book), { signal });
   return choices && both.text(choices);
 }
 
@@ -34,11 +34,9 @@ function isSame(entry, entries) {
   return entries.some((it) => JSON.stringify(it) === text);
 }
 
-/** Closes the question that is asked if it was answered in another tab. */
+/** Ends the question that is asked if its entry is another by now, as another tab answered it. */
 export function closeAnswered(desk) {
-  if (!desk.asked || isSame(desk.asked, desk.entries)) return;
-  desk.asked = null;
-  document.querySelector("dialog[open]")?.close();
+  if (desk.asked && !isSame(desk.asked.entry, desk.entries)) desk.asked.end.abort();
 }
 
 /** Asks the first question that waits, unless somebody is at something else. */
@@ -51,50 +49,64 @@ export async function askNext(desk) {
 
 /** Asks what to do with an entry of the queue, and does it. */
 export async function decide(desk, entry) {
-  const { queue } = desk;
-  desk.asked = entry;
-  const answer = await answerFor(desk, entry);
-  desk.asked = null;
-  if (!isSame(entry, await queue.all())) return; // another tab has answered it
+  const asked = { entry, end: new AbortController() };
+  const { signal } = asked.end;
+  desk.asked = asked;
+  const answer = await answerFor(desk, entry, signal);
+  if (desk.asked === asked) desk.asked = null;
+  if (!isSame(entry, await desk.queue.all())) {
+    // It was answered or changed elsewhere. If it is still a question, it is asked anew.
+    if (answer !== null || signal.aborted) sayUnused(desk, entry, answer);
+    await desk.queued();
+    return;
+  }
   if (answer === null) {
     desk.later.add(keyOf(entry));
     return;
   }
   desk.later.delete(keyOf(entry));
-  const { book, uid } = entry;
-  if (answer === "drop") {
-    await queue.drop(book, uid);
-    const change = entry.theirs
-      ? await desk.store.keepCard(book, uid, entry.theirs.version, entry.theirs.text)
-      : await desk.store.dropCard(book, uid);
-    desk.arrived(book, change);
-  } else if (answer === "again") {
-    await queue.rebase(entry, { text: "", version: 0 }, entry.text);
-  } else if (answer === "remove") {
-    await queue.rebase(entry, entry.theirs, "");
-  } else {
-    await queue.rebase(entry, entry.theirs, answer.text);
-  }
+  if (!(await settleAs(desk, entry, answer))) sayUnused(desk, entry, answer);
   await desk.changed();
-  desk.follow(book);
+  desk.follow(entry.book);
+}
+
+/** No answer is dropped without a word. */
+function sayUnused(desk, { kind, text, base }, answer) {
+  const name = nameIn(kind === "remove" ? base : text);
+  desk.frame.toast(t(answer === null ? "questionOver" : "answerUnused", { name }));
+}
+
+/** Does what was answered, if the entry is as it was when it was asked. Answers whether it was. */
+async function settleAs(desk, entry, answer) {
+  const { queue } = desk;
+  const { book, uid, theirs } = entry;
+  if (answer === "again") return queue.rebase(entry, { text: "", version: 0 }, entry.text);
+  if (answer === "remove") return queue.rebase(entry, theirs, "");
+  if (answer !== "drop") return queue.rebase(entry, theirs, answer.text);
+  if (!(await queue.drop(entry))) return false;
+  const change = theirs
+    ? await desk.store.keepCard(book, uid, theirs.version, theirs.text)
+    : await desk.store.dropCard(book, uid);
+  desk.arrived(book, change);
+  return true;
 }
 
 /** "drop", "again", "remove", a text, or null for later. */
-async function answerFor(desk, entry) {
+async function answerFor(desk, entry, signal) {
   if (entry.kind === "remove") {
     const name = nameIn(entry.theirs.text);
     return ask(t("removeChangedTitle", { name }), [t("removeChangedText")], [
       [t("keepCard"), "drop", "main"], [t("removeAnyway"), "remove", "danger"],
       [t("later"), null],
-    ]);
+    ], signal);
   }
   if (!entry.theirs) {
     return ask(t("goneTitle", { name: nameIn(entry.text) }), [t("goneText")], [
       [t("storeAgain"), "again", "main"], [t("letGo"), "drop"], [t("later"), null],
-    ]);
+    ], signal);
   }
   const { base, text, theirs } = entry;
-  const chosen = await chooseBoth(desk, entry.book, base, text, theirs.text);
+  const chosen = await chooseBoth(desk, entry.book, base, text, theirs.text, signal);
   if (chosen === null) return null;
   // What is moved has to be sent in any case.
   return sameCard(chosen, theirs.text) && !entry.from ? "drop" : { text: chosen };
@@ -138,8 +150,12 @@ export async function giveUp(desk, entry) {
     desk.frame.toast(t("moveStayed", { name: nameIn(entry.text), book: from }));
     return;
   }
-  await desk.queue.drop(book, uid);
+  const isDropped = await desk.queue.drop(entry);
   await desk.changed();
+  if (!isDropped) {
+    sayUnused(desk, entry, "drop");
+    return;
+  }
   if (!(await desk.queue.seen(book, uid))) desk.pane.clear();
   if (entry.kind === "remove") return;
   desk.frame.toast(t("givenUp", { name: nameIn(entry.text) }), {

@@ -195,25 +195,35 @@ export class Queue {
     });
   }
 
-  /** Gives a change up, after a question. Its text goes into the trash. */
-  drop(book, uid) {
+  /**
+   * Gives a change up, after a question, if it is still as it was then. Its text goes into the
+   * trash. Answers whether it was.
+   */
+  drop(asked) {
     return this.change(async (entries) => {
-      const entry = await entries.entry(book, uid);
-      if (!entry) return;
-      if (entry.kind === "save") {
-        keepInTrash(entries.at("trash"), book, uid, entry.text, "dropped");
+      const now = await unchanged(entries, asked);
+      if (!now) return false;
+      if (now.kind === "save") {
+        keepInTrash(entries.at("trash"), now.book, now.uid, now.text, "dropped");
       }
-      entries.delete(entry);
+      entries.delete(now);
+      return true;
     });
   }
 }
 
-async function revise(entries, sent, change) {
+/** The entry, if it has the change that it had in `sent`; null otherwise. */
+async function unchanged(entries, sent) {
   const now = await entries.entry(sent.book, sent.uid);
   const isSame = now && now.kind === sent.kind && now.text === sent.text
     && (now.from ?? null) === (sent.from ?? null);
-  if (isSame) entries.put({ ...now, ...change });
-  return Boolean(isSame);
+  return isSame ? now : null;
+}
+
+async function revise(entries, sent, change) {
+  const now = await unchanged(entries, sent);
+  if (now) entries.put({ ...now, ...change });
+  return Boolean(now);
 }
 
 function dropCard(tx, book, uid) {

@@ -39,26 +39,39 @@ export function readQuery(text) {
   return { words, begins, digits, trunk, end: trunk.length < LONG ? "" : trunk.slice(-LONG) };
 }
 
+/**
+ * What a row has for the search: folded texts of its names, of other words, and of what is looked
+ * through last. It is one text, as most rows don't match, and one look is enough to see that.
+ */
+export function searchText(names, words, more) {
+  return `${names}\n${words}\n${more}`;
+}
+
 /** 0 for the best match, higher for a lesser one, -1 for none. */
 export function rank(row, query) {
   if (query.digits && row.digits && hasNumber(row.digits, query)) return 0;
   if (!query.words.length) return -1;
-  const { names } = row;
   let worst = 0;
   for (let at = 0; at < query.words.length; at += 1) {
-    const word = query.words[at];
-    const begin = query.begins[at];
-    const place = names ? names.indexOf(begin) : -1;
-    let found = 5;
-    if (place === 0) found = 0;
-    else if (place > 0) found = 1;
-    else if (row.words?.includes(begin)) found = 2;
-    else if (names?.includes(word)) found = 3;
-    else if (row.words?.includes(word)) found = 4;
-    else if (!row.more?.includes(begin)) return -1;
+    const place = row.search.indexOf(query.words[at]);
+    const found = place < 0 ? -1 : rankAt(row.search, place, query.begins[at]);
+    if (found < 0) return -1;
     if (found > worst) worst = found;
   }
   return worst;
+}
+
+/** The rank of one word, which is first at `place`; `begin` is the word as one begins. */
+function rankAt(text, place, begin) {
+  const start = text.indexOf(begin, place - 1);
+  if (start === 0) return 0;
+  const names = text.indexOf("\n");
+  if (start > 0 && start < names) return 1;
+  const words = text.indexOf("\n", names + 1);
+  if (start > 0 && start < words) return 2;
+  if (place < names) return 3;
+  if (place < words) return 4;
+  return start < 0 ? -1 : 5;
 }
 
 // A number may be stored as +353 20 911 0177 and typed as 020 911 0177, or the other way round: so
@@ -104,7 +117,7 @@ export class Searcher {
       matches.push(row);
     }
     Object.assign(this, { rows, typed, query, matches });
-    return ranked.flat();
+    return [].concat(...ranked);
   }
 }
 

@@ -1,7 +1,7 @@
 // The desk's copy: books with their tokens, cards, and rows for the list and the search. Pages and
 // their token are written in one transaction, so the copy is always that of its token, wherever
 // the desk was stopped.
-import { rowOf } from "./person.js";
+import { rowNow, rowOf } from "./person.js";
 import { done, emptyBook, ended, ofBook, openTables, RELAXED } from "./tables.js";
 
 const LONG_LOG = 60;
@@ -67,7 +67,7 @@ export class Store {
     }
     const all = [];
     for (const [book, { rows, parts }] of books) {
-      for (const row of rows.values()) all.push(row);
+      for (const row of rows.values()) all.push(rowNow(row));
       if (parts > LONG_LOG) this.shorten(book);
     }
     return all;

@@ -174,8 +174,8 @@ export const TEXTS = {
   selectAll: "All",
   forSelected: "With these…",
   sort: "Sort",
-  sort_name: "By given name",
-  sort_family: "By family name",
+  sort_name: "Sort by given name",
+  sort_family: "Sort by family name",
   listMenu: "Sort and select",
   favourites: "Favourites",
   recent: "Recently opened",
@@ -306,6 +306,8 @@ export const TEXTS = {
   changedBy_mine: "by you",
   changedBy_theirs: "by them",
   chooseAll: "Choose one for each.",
+  questionOver: "The question about {name} is closed: it was answered or changed elsewhere.",
+  answerUnused: "Your answer about {name} wasn’t used: it was answered or changed elsewhere.",
   saveChosen: "Save what is chosen",
   keepTheirs: "Take theirs",
   goneTitle: "Somebody deleted or moved {name}",
@@ -364,7 +366,8 @@ export const TEXTS = {
   // Files
   importTitle: "Import into {book}",
   importText:
-    "All cards of the file are imported, or none. You can choose a CSV file or vCards (.vcf).",
+    "All cards are imported, or none. You can choose a CSV file, or one or more files of vCards " +
+    "(.vcf).",
   dropTitle: "Which book shall this file go into?",
   importFile: "File",
   importNow: "Import",
@@ -379,6 +382,7 @@ export const TEXTS = {
   fileNotUtf8: "The file isn’t in UTF-8. Save it again as UTF-8.",
   fileTooLarge: "The file is too large: at most 8 MB can be imported at once. Cut it into several.",
   fileWithoutCards: "There is no card in this file.",
+  fileSeveral: "Several files are imported together only if all of them are vCards (.vcf).",
   fileSemicolons:
     "The columns of this file are separated by semicolons. Save it again with commas: {header}",
   fileHeader: "The first line of a CSV file has to be exactly: {header}",
@@ -470,6 +474,7 @@ export const COUNTS = {
   groupSome: { one: "Add {n} card to a group", other: "Add {n} cards to a group" },
   markedCount: { one: "{n} selected", other: "{n} selected" },
   moreChanges: { one: "and {n} more change", other: "and {n} more changes" },
+  showMore: { one: "Show {n} more", other: "Show {n} more" },
   membersCount: { one: "{n} member", other: "{n} members" },
   peopleCount: { one: "{n} person", other: "{n} people" },
   missingCount: { one: "{n} member names no card", other: "{n} members name no card" },

@@ -143,7 +143,8 @@ export function newUid() {
 export function splitCards(text) {
   const cards = [];
   let lines = null;
-  for (const line of text.replace(/^\uFEFF/, "").split(/\r?\n/)) {
+  // Each of several files may begin with a mark of its order of octets.
+  for (const line of text.replace(/^\uFEFF/gm, "").split(/\r?\n/)) {
     if (/^BEGIN:VCARD\s*$/i.test(line) && lines === null) lines = [];
     if (lines === null) continue;
     lines.push(line);

@@ -32,11 +32,17 @@ export function bookQuestion(add) {
     el("div", { class: "bar" }, el("button", { type: "submit", class: "main" }, t("openBook"))));
 }
 
+/** What is in a file, or in several one after another. */
+async function octets(files) {
+  const whole = files.length > 1 ? new Blob(files.flatMap((it) => [it, "\r\n"])) : files[0];
+  return new Uint8Array(await whole.arrayBuffer());
+}
+
 /** Asks what to import. Answers the file's name and octets, or null. */
 export function askFile(book, run, files = null) {
   return dialog(t("importTitle", { book }), (close) => {
     const accept = ".csv,.vcf,text/csv,text/vcard";
-    const file = el("input", { type: "file", accept, id: newId("file") });
+    const file = el("input", { type: "file", accept, multiple: true, id: newId("file") });
     const said = el("div", { class: "import", "aria-live": "polite" });
     const go = button(t("importNow"), () => work(), { class: "main", disabled: true });
     const end = button(t("close"), () => close(null));
@@ -44,9 +50,13 @@ export function askFile(book, run, files = null) {
     file.addEventListener("change", async () => {
       go.disabled = true;
       fill(said);
-      const [chosen] = file.files;
-      if (!chosen) return;
-      ready = run.read(chosen.name, new Uint8Array(await chosen.arrayBuffer()));
+      const chosen = [...file.files];
+      if (!chosen.length) return;
+      if (chosen.length > 1 && !chosen.every((it) => /\.vcf$/i.test(it.name))) {
+        fill(said, el("p", { class: "error" }, t("fileSeveral")));
+        return;
+      }
+      ready = run.read(chosen[0].name, await octets(chosen));
       fill(said, ready.words);
       go.disabled = !ready.file;
     });

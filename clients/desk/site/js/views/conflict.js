@@ -16,9 +16,10 @@ function ofTwo(name) {
 
 /**
  * Asks about the clashes of two edits (`merge3`). Answers a list with "mine" or "theirs" for each,
- * or null to decide later. `nameOf` gives the name of a member; `words` are others for two cards.
+ * or null to decide later. `nameOf` gives the name of a member; `words` are others for two cards;
+ * `signal` ends the question.
  */
-export function askBoth(name, both, nameOf, words = ofTwo(name)) {
+export function askBoth(name, both, nameOf, { words = ofTwo(name), signal = null } = {}) {
   const choices = both.clashes.map(() => null);
   const error = el("p", { class: "error", role: "alert" });
   return dialog(words.title, (close, box) => {
@@ -32,10 +33,8 @@ export function askBoth(name, both, nameOf, words = ofTwo(name)) {
     };
     return [
       both.clashes.length ? el("p", {}, words.text) : null,
-      both.clashes.length ? el("div", { class: "scroll" }, el("table", { class: "conflict" },
-        el("thead", {}, el("tr", {}, el("td", {}),
-          el("th", { scope: "col" }, words.mine), el("th", { scope: "col" }, words.theirs))),
-        el("tbody", {}, both.clashes.map((it, at) => row(it, at, choices, nameOf))))) : null,
+      both.clashes.length ? table(words, both.clashes.map((it, at) =>
+        row(it, at, choices, nameOf))) : null,
       taken(both.changes, nameOf, words),
       error,
       el("div", { class: "bar" },
@@ -43,7 +42,16 @@ export function askBoth(name, both, nameOf, words = ofTwo(name)) {
         words.all && button(words.all, () => close(choices.map(() => "theirs"))),
         button(words.leave, () => close(null))),
     ];
-  }, "wide");
+  }, "wide", signal);
+}
+
+// The roles are said, as a narrow page shows the table as blocks.
+function table(words, rows) {
+  const column = (text) => el("th", { scope: "col", role: "columnheader" }, text);
+  return el("div", { class: "scroll" }, el("table", { class: "conflict", role: "table" },
+    el("thead", { role: "rowgroup" }, el("tr", { role: "row" }, el("td", { role: "cell" }),
+      column(words.mine), column(words.theirs))),
+    el("tbody", { role: "rowgroup" }, rows)));
 }
 
 function row(clash, at, choices, nameOf) {
@@ -55,13 +63,14 @@ function row(clash, at, choices, nameOf) {
       on: { change: () => { choices[at] = which; } },
     });
     const shown = el("div", {}, side(clash[which], nameOf));
-    return el("td", {}, el("label", { for: id, class: "pick" }, radio, shown));
+    return el("td", { role: "cell" }, el("label", { for: id, class: "pick" }, radio, shown));
   };
   const was = clash.was
     ? el("small", {}, t("was"), " ", lineShown(clash.was, nameOf))
     : null;
-  return el("tr", { class: "clash" },
-    el("th", { scope: "row" }, propertyText(clash.name), was), cell("mine"), cell("theirs"));
+  return el("tr", { class: "clash", role: "row" },
+    el("th", { scope: "row", role: "rowheader" }, propertyText(clash.name), was),
+    cell("mine"), cell("theirs"));
 }
 
 function side(item, nameOf) {

@@ -2,8 +2,11 @@
 import { button, el, fill, newId } from "../dom.js";
 import { t } from "../say.js";
 
-/** Shows a dialog and waits. `make(close)` gives its content; a dialog that is left gives null. */
-export function dialog(title, make, kind = "") {
+/**
+ * Shows a dialog and waits. `make(close)` gives its content; a dialog that is left gives null, and
+ * so does one that `signal` ends.
+ */
+export function dialog(title, make, kind = "", signal = null) {
   return new Promise((resolve) => {
     const id = newId("dialog");
     const box = el("dialog", { class: kind, "aria-labelledby": id });
@@ -12,7 +15,10 @@ export function dialog(title, make, kind = "") {
       answer = value;
       box.close();
     };
+    const end = () => close(null);
+    signal?.addEventListener("abort", end);
     box.addEventListener("close", () => {
+      signal?.removeEventListener("abort", end);
       box.remove();
       resolve(answer);
     });
@@ -25,13 +31,13 @@ export function dialog(title, make, kind = "") {
 }
 
 /** Asks with some buttons, each `[text, answer, kind]`. */
-export function ask(title, texts, choices) {
+export function ask(title, texts, choices, signal = null) {
   return dialog(title, (close) => [
     texts.map((text) => el("p", {}, text)),
     el("div", { class: "bar" }, choices.map(([text, answer, kind]) =>
       button(text, () => close(answer), { class: kind ?? null }),
     )),
-  ]);
+  ], "", signal);
 }
 
 /** Asks for one line of text. `test` says what is wrong with it, or "". */

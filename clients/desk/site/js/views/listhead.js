@@ -15,8 +15,10 @@ export class ListHead {
 
   showMenu() {
     const { desk } = this;
-    const sort = (by) => [`${desk.shelf.by === by ? "✓ " : ""}${t(`sort_${by}`)}`,
-      () => desk.sortBy(by)];
+    const sort = (by) => [
+      [t(`sort_${by}`), desk.shelf.by === by && el("span", { class: "now" }, "✓")],
+      () => desk.sortBy(by),
+    ];
     this.fill(menuButton(icon("more"), () => [
       sort("name"), sort("family"),
       [t("select"), () => desk.list.marking(true)],

@@ -1,29 +1,31 @@
 // The side bar: books, lists of one's own, groups.
 import { bdi, button, el, fill } from "../dom.js";
 import { icon } from "../icons.js";
-import { number, t } from "../say.js";
+import { count, number, t } from "../say.js";
 
-const MOST_GROUPS = 60;
-const MOST_CATEGORIES = 40;
+// More than these are shown when they are asked for.
+const FIRST = { groups: 60, categories: 40 };
 
 export class SideBar {
   constructor(desk) {
     this.desk = desk;
     this.root = document.getElementById("books");
     this.drawn = "";
+    this.all = { groups: false, categories: false }; // which lists are shown as a whole
   }
 
   show() {
     const { desk } = this;
     const { books, chosen, filter, shelf } = desk;
     const mayAdd = books.some((it) => it.rights !== "read");
-    const groups = shelf.groups(chosen).slice(0, MOST_GROUPS);
-    const categories = shelf.categories(chosen).slice(0, MOST_CATEGORIES);
+    const [groups, moreGroups] = this.part("groups", shelf.groups(chosen));
+    const [categories, moreCategories] = this.part("categories", shelf.categories(chosen));
     const states = books.map((it) => [
       it.name, it.rights, desk.frame.states.get(it.name)?.state, shelf.count(it.name),
     ]);
     const drawn = JSON.stringify([
       chosen, filter, states, groups.map((it) => [it.book, it.uid, it.name]), categories,
+      moreGroups?.textContent, moreCategories?.textContent,
     ]);
     if (drawn === this.drawn) return;
     this.drawn = drawn;
@@ -47,15 +49,27 @@ export class SideBar {
       groups.length ? el("ul", {}, groups.map((it) => this.list(
         { kind: "group", book: it.book, uid: it.uid }, it.name || t("nameless"), "people",
       ))) : null,
+      moreGroups,
       mayAdd ? button([icon("add"), el("span", {}, t("newGroup"))], () => this.newGroup(), {
         class: "quiet add",
       }) : null,
       categories.length ? [el("h2", {}, t("categories")), el("ul", {},
         categories.map(([name, many]) => this.list(
           { kind: "category", book: chosen, name }, name, "tag", many,
-        )))] : null,
+        ))), moreCategories] : null,
     );
     if (place >= 0) this.root.querySelectorAll("button")[place]?.focus();
+  }
+
+  /** The first of a long list, and a button for the others; or all of it, and null. */
+  part(kind, all) {
+    const rest = this.all[kind] ? 0 : all.length - FIRST[kind];
+    if (rest <= 0) return [all, null];
+    const more = button(count("showMore", rest), () => {
+      this.all[kind] = true;
+      this.show();
+    }, { class: "quiet add" });
+    return [all.slice(0, FIRST[kind]), more];
   }
 
   book(name, text) {

@@ -46,6 +46,10 @@ pub returns-clause-limits : goal.returns-clause-limits
 unfolding clap_on_literals
 returns-clause-limits c = (refl, refl, refl, refl, refl)
 
+pub returns-clause-holds : goal.returns-clause-holds
+unfolding clap_on_literals
+returns-clause-holds c = (refl, refl, refl, refl, refl)
+
 pub returns-clause-logs : goal.returns-clause-logs
 unfolding clap_on_literals
 returns-clause-logs c = (refl, refl, refl, refl)

@@ -13,7 +13,7 @@ returns c =
       c.as_str.ensures.value,
       c.in_ok-length.ensures,
       c.as_slice.ensures.value,
-      c.in_ok-push_allow.ensures,
+      c.in_ok-push_more.ensures,
       c.in_ok-push_field.ensures,
       c.in_ok-push_status.ensures,
       c.in_ok-head.ensures.bytes,

@@ -1,6 +1,6 @@
 use Rattle.std.proofs.Common.{◌≡◌, ◌∙◌, ◌≤◌, sym, subst, arith, length, Some, None, IsUtf8}
 use Rattle.http_requests.proofs.EndLemmas.{none_after_end}
-use Rattle.http_requests.proofs.HeadLemmas.{starts_with_head, fault_is, screens_is, length_is, close_is, head_is, token_text}
+use Rattle.http_requests.proofs.HeadLemmas.{starts_with_head, fault_is, screens_is, length_is, close_is, head_is, token_text, user_is}
 use Rattle.http_requests.proofs.head.read_head.Goals as goal
 
 pub returns-in-Err-length_or_fault : goal.returns-in-Err-length_or_fault
@@ -14,8 +14,8 @@ returns-in-Err-length_or_fault g c =
       fault_is c.args.text.now c.parse_request.new.headers c.in-Ok-Complete.parts of.0 (Some c.in-Err-length_or_fault.fault) of.1 c.in-Err-length_or_fault.ensures,
     )
 
-pub returns-in_ok-target-in-Ok : goal.returns-in_ok-target-in-Ok
-returns-in_ok-target-in-Ok g c =
+pub returns-in_ok-user-in-Ok : goal.returns-in_ok-user-in-Ok
+returns-in_ok-user-in-Ok g c =
     let of = rw c.in-Ok-Complete.field-0-is at c.in-Ok-Complete.ensures.complete in
     let within = rw c.in-Ok-Complete.field-0-is at c.in-Ok-Complete.ensures.within in
     let room : length c.parse_request.new.headers ≡ 64 = c.parse_request.auto.headers in
@@ -31,7 +31,8 @@ returns-in_ok-target-in-Ok g c =
       screens_is g.H.Handler.does c.args.handler.now c.args.text.now c.parse_request.new.headers c.in-Ok-Complete.parts of.0 c.of.result.now c.screen.result None of.1 (c.of.ensures ∙ of.1.method) c.screen.ensures c.in_default.is,
       head_is _ of.0
           (c.new.ensures ∙ c.in_ok-method-in-Ok.ensures.ok method_text ∙ method_is) (c.new-in-Ok.ensures ∙ c.in_ok-target-in-Ok.ensures.ok target_text ∙ target_is)
-          (close_is c.args.text.now c.parse_request.new.headers c.in-Ok-Complete.parts of.0 c.closes-close.result of.1 c.closes-close.ensures) (sym size),
+          (close_is c.args.text.now c.parse_request.new.headers c.in-Ok-Complete.parts of.0 c.closes-close.result of.1 c.closes-close.ensures) (sym size)
+          (user_is c.args.text.now c.parse_request.new.headers c.in-Ok-Complete.parts of.0 _ of.1 (c.from_vec.ensures ∙ c.in_ok-user-in-Ok.ensures.items_if_clones_equal (λ x y e. e) ∙ c.user_in_fields.ensures)),
       omega (arith, size, c.in-Ok.ensures.2),
     )
 

@@ -1,4 +1,4 @@
-use Rattle.std.proofs.Common.{◌≡◌, ◌∙◌, ◌+◌, ◌||◌, ℕ, Some, ap, arith, drop, subst, sym}
+use Rattle.std.proofs.Common.{◌≡◌, ◌∙◌, ◌+◌, ◌||◌, ℕ, Some, ap, arith, drop, length, subst, sym}
 use Rattle.http_hub.specs.Links.{IsFirstTime, LinkValue, extra_time, has_expired, is_long_ago}
 use Rattle.http_hub.proofs.ExpiryLemmas.{first_time_as}
 use Rattle.http_hub.proofs.link.Link.expiry.Goals as goal
@@ -14,6 +14,7 @@ returns c =
     let seen : LinkValue = record {
       session = c.self.inside.session;
       pending = drop c.self.inside.sent_count c.self.inside.out.items;
+      reply_length = length c.self.inside.out.items;
       active_at = active;
       request_since = since;
       request_length = c.self.inside.request_len;

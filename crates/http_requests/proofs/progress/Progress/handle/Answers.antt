@@ -26,11 +26,11 @@ returns-then-head-clause-ok g c = record {
 
 pub returns-else-head-clause-ok : goal.returns-else-head-clause-ok
 returns-else-head-clause-ok g c = record {
-  holds = fresh c.clear.new.self.items c.clear.ensures.items;
+  holds = fresh c.empty.new.held.items c.empty.ensures.emptied;
   is_open = λ h. h;
   added = c.in_ok-reply.reply.items;
   out_is = c.in_ok-append_reply.ensures;
-  runs = going_run g.H.Handler.does g.H.Handler.fault_reply c.args.self.now.held.items c.args.handler.now c.in_ok-reply.reply.items c.handle.new.self c.args.head.now.close [] c.clear.new.self.items
+  runs = going_run g.H.Handler.does g.H.Handler.fault_reply c.args.self.now.held.items c.args.handler.now c.in_ok-reply.reply.items c.handle.new.self c.args.head.now.close [] c.empty.new.held.items
       (whole_run g.H.Handler.does g.H.Handler.fault_reply c.args.self.now.held.items c.args.head.now c.args.start c.deref.result.now c.args.handler.now c.requires.whole c.deref.ensures.value
-      c.in_ok-reply.reply.items c.handle.new.self c.in_ok-reply.ensures.done) c.if-head.false (sym c.clear.ensures.items);
+      c.in_ok-reply.reply.items c.handle.new.self c.in_ok-reply.ensures.done) c.if-head.false (sym c.empty.ensures.emptied);
 }

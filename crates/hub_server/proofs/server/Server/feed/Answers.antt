@@ -1,14 +1,14 @@
-use Rattle.std.proofs.Common.{◌≡◌, ◌∙◌, ◌⊎◌, ◌<◌, Some, ap, arith, length, slice_get, subst}
+use Rattle.std.proofs.Common.{◌≡◌, ◌∙◌, ◌<◌, Some, ap, arith, length, slice_get, subst}
 use Rattle.http_hub.proofs.PlaceLemmas.{found_within}
-use Rattle.http_hub.specs.Hubs.{FailsAt, ReceivesAt}
+use Rattle.http_hub.specs.BoundedHubs.{ReceivesWithin}
 use Rattle.hub_server.specs.Seats.{HasTurn, SeatValue, next_piece}
 use Rattle.hub_server.specs.Servers.{ServerValue, with_seat}
 use Rattle.hub_server.proofs.NeedLemmas.{read_at, same_seat}
-use Rattle.hub_server.proofs.PlaceStepLemmas.{either_by, feeds_piece, piece_fits, piece_given}
+use Rattle.hub_server.proofs.PlaceStepLemmas.{feeds_piece, piece_fits, piece_given}
 use Rattle.hub_server.proofs.server.Server.feed.Goals as goal
 
-pub receive-fed-requires-clause-some : goal.receive-fed-requires-clause-some
-receive-fed-requires-clause-some g c =
+pub receive-requires-clause-some : goal.receive-requires-clause-some
+receive-requires-clause-some g c =
     let seen : ServerValue = record { hub = c.self.inside.hub; seats = c.self.inside.seats.items; listener = c.self.inside.listener; time = c.self.inside.time } in
     let found : slice_get c.args.self.now.seats c.args.place ≡ Some c.index.result.now =
     read_at seen c.args.self.now c.args.place c.requires.seat c.index.result.now c.self.view_is c.requires.seated.at_seat c.index.ensures in
@@ -42,22 +42,17 @@ mark_fed-requires-clause-within g c =
 pub returns : goal.returns
 returns g c =
     let seen : ServerValue = record { hub = c.self.inside.hub; seats = c.self.inside.seats.items; listener = c.self.inside.listener; time = c.self.inside.time } in
-    let after : ServerValue = with_seat seen c.args.place c.receive-fed.new.self c.mark_fed.new.self in
+    let after : ServerValue = with_seat seen c.args.place c.receive.new.self c.mark_fed.new.self in
     let found : slice_get c.args.self.now.seats c.args.place ≡ Some c.index_mut.result.now =
     read_at seen c.args.self.now c.args.place c.requires.seat c.index_mut.result.now c.self.view_is c.requires.seated.at_seat c.index_mut.ensures.value in
     let first : slice_get c.args.self.now.seats c.args.place ≡ Some c.index.result.now =
     read_at seen c.args.self.now c.args.place c.requires.seat c.index.result.now c.self.view_is c.requires.seated.at_seat c.index.ensures in
     let same : c.index.result.now ≡ c.index_mut.result.now = same_seat c.args.self.now.seats c.args.place c.index.result.now c.index_mut.result.now first found in
     let piece_is : c.piece-piece.result.now ≡ next_piece c.index_mut.result.now.unfed = c.piece-piece.ensures ∙ ap (λ (x : SeatValue). next_piece x.unfed) same in
-    let at_seen = either_by
-    (ReceivesAt g.H.Handler.does g.H.Handler.fault_reply c.args.place c.self.inside.hub c.args.handler.now c.piece-piece.result.now c.self.inside.time c.receive-fed.new.handler c.receive-fed.new.self)
-    (FailsAt g.H.Handler.does g.H.Handler.fault_reply c.args.place c.self.inside.hub c.args.handler.now c.piece-piece.result.now c.receive-fed.new.handler c.receive-fed.new.self)
-    c.receive-fed.result c.receive-fed.ensures.received c.receive-fed.ensures.no_memory in
     let fed = subst (λ (x : ServerValue).
-    ReceivesAt g.H.Handler.does g.H.Handler.fault_reply c.args.place x.hub c.args.handler.now c.piece-piece.result.now x.time c.receive-fed.new.handler c.receive-fed.new.self
-    ⊎ FailsAt g.H.Handler.does g.H.Handler.fault_reply c.args.place x.hub c.args.handler.now c.piece-piece.result.now c.receive-fed.new.handler c.receive-fed.new.self) c.self.view_is at_seen in
-    let after_is = ap (λ (x : ServerValue). with_seat x c.args.place c.receive-fed.new.self c.mark_fed.new.self) c.self.view_is
-    ∙ ap (λ (x : SeatValue). with_seat c.args.self.now c.args.place c.receive-fed.new.self x) c.mark_fed.ensures in
-    let done = feeds_piece g.H.Handler.does g.H.Handler.fault_reply c.args.self.now after c.args.place c.piece-piece.result.now c.args.handler.now c.receive-fed.new.handler c.receive-fed.new.self c.index_mut.result.now
+    ReceivesWithin g.H.Handler.does g.H.Handler.fault_reply c.args.limits.held c.args.place x.hub c.args.handler.now c.piece-piece.result.now x.time c.receive.new.handler c.receive.new.self) c.self.view_is c.receive.ensures in
+    let after_is = ap (λ (x : ServerValue). with_seat x c.args.place c.receive.new.self c.mark_fed.new.self) c.self.view_is
+    ∙ ap (λ (x : SeatValue). with_seat c.args.self.now c.args.place c.receive.new.self x) c.mark_fed.ensures in
+    let done = feeds_piece g.H.Handler.does g.H.Handler.fault_reply c.args.limits.held c.args.self.now after c.args.place c.piece-piece.result.now c.args.handler.now c.receive.new.handler c.receive.new.self c.index_mut.result.now
     c.requires found piece_is fed after_is in
     record { fed = (c.requires.slot.serial, c.piece-piece.result.now, done.0); others = done.1.others; less = done.1.less }

@@ -17,7 +17,7 @@ returns-clause-round g c =
     c.accept_all.result
     (λ acts awaited turns kept.
     round_done g.H.Handler.does g.H.Handler.fault_reply g.E.Endpoint.calls c.args.limits c.args.self.now c.wait.new.self c.serve_ready.new.self c.expire.new.self c.accept_all.new.self c.args.handler.now c.serve_ready.new.handler
-    c.args.endpoint.now c.wait.new.endpoint c.serve_ready.new.endpoint c.expire.new.endpoint c.accept_all.new.endpoint c.in_ok-wait.ensures.waited (c.serve_ready.ensures.steps c.args.limits) c.expire.ensures.acts
+    c.args.endpoint.now c.wait.new.endpoint c.serve_ready.new.endpoint c.expire.new.endpoint c.accept_all.new.endpoint c.in_ok-wait.ensures.waited c.serve_ready.ensures.steps c.expire.ensures.acts
     acts c.serve_ready.ensures.over c.expire.ensures.turns c.expire.ensures.none_expired turns kept awaited)
     c.accept_all.ensures.acts c.accept_all.ensures.none_awaited c.accept_all.ensures.turns c.accept_all.ensures.none_expired
 
@@ -28,6 +28,6 @@ returns-clause-failed g c =
     FailsInRound g.H.Handler.does g.H.Handler.fault_reply g.E.Endpoint.calls c.args.limits why c.args.self.now c.args.handler.now c.args.endpoint.now c.accept_all.new.self c.serve_ready.new.handler c.accept_all.new.endpoint)
     (λ why failed.
     round_failed g.H.Handler.does g.H.Handler.fault_reply g.E.Endpoint.calls c.args.limits c.args.self.now c.wait.new.self c.serve_ready.new.self c.expire.new.self c.accept_all.new.self c.args.handler.now c.serve_ready.new.handler
-    c.args.endpoint.now c.wait.new.endpoint c.serve_ready.new.endpoint c.expire.new.endpoint c.accept_all.new.endpoint c.in_ok-wait.ensures.waited (c.serve_ready.ensures.steps c.args.limits) c.expire.ensures.acts
+    c.args.endpoint.now c.wait.new.endpoint c.serve_ready.new.endpoint c.expire.new.endpoint c.accept_all.new.endpoint c.in_ok-wait.ensures.waited c.serve_ready.ensures.steps c.expire.ensures.acts
     why failed)
     c.accept_all.ensures.failed
