@@ -15,6 +15,7 @@ mod outlet;
 mod piece_reader;
 mod pieces;
 mod report;
+mod reporting;
 mod rows;
 mod rows_order;
 mod rows_outlet;

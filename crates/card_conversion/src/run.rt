@@ -1,40 +1,51 @@
 //! Converts all cards of a file.
 ghost use Rattle.std.specs.Prelude.{IfOk};
 ghost use Rattle.card_conversion.specs.Accounts.{ConvertsAll};
+ghost use Rattle.card_conversion.specs.internal.States.{Takes};
 
+use crate::fate::Fate;
 use crate::fault::ConversionFault;
 use crate::ledger::{Ledger, Summary};
 use crate::outlet::Outlet;
 use crate::piece_reader::PieceReader;
 use crate::pieces::take_piece;
-use crate::report::report_text;
+use crate::report::{Place, report_text};
+use crate::reporting::{report, report_summary};
 use base_types::TextMap;
 use std::alloc::Global;
 use std::io::{Read, Write};
 
-/// Writes a part of the report.
-fn report<E: Write>(errors: &mut E, text: &str) -> Result<(), ConversionFault> {
-    match errors.write_all(text.as_bytes()) {
-        Ok(()) => Ok(()),
-        Err(_) => Err(ConversionFault::Report),
-    }
-}
-
-/// Writes the last line of the report.
-fn report_summary<E: Write>(
+/// Writes the lines of the report for a piece at the place.
+fn report_piece<E: Write>(
     alloc: Global,
-    summary: Summary,
+    place: Place,
+    piece: &[u8],
+    fate: &Fate,
     errors: &mut E,
 ) -> Result<(), ConversionFault> {
-    let Summary {
-        written,
-        changed,
-        refused,
-    } = summary;
-    let text = format!(in alloc;
-        "{written} cards written, {changed} changed, {refused} not carried\n"
-    )?;
+    let text = report_text(alloc, place, piece, fate)?;
     report(errors, text.as_str())
+}
+
+/// Converts a piece if it is a card, writes the card to the outlet, and reports what became of it.
+fn convert_piece<O: Outlet, E: Write>(
+    alloc: Global,
+    uids: &mut TextMap<()>,
+    place: Place,
+    piece: &[u8],
+    outlet: &mut O,
+    errors: &mut E,
+) -> Result<Fate, ConversionFault>
+    ensures { IfOk result (Takes O.writes piece.now uids.old uids.new outlet.old outlet.new) }
+{
+    let fate = take_piece(alloc, uids, place.card, piece, outlet)?;
+    match report_piece(alloc, place, piece, &fate, errors) {
+        Ok(()) => Ok(fate),
+        Err(fault) => {
+            drop(fate);
+            Err(fault)
+        }
+    }
 }
 
 /// Converts all cards of a file and writes them to the outlet, in order. Reports each change of a
@@ -57,9 +68,7 @@ pub fn convert_cards<R: Read + Drop, O: Outlet, E: Write>(
             return Ok(ledger.summary);
         };
         let piece = pieces.piece(len);
-        let fate = take_piece(alloc, &mut uids, ledger.place.card, piece, outlet)?;
-        let text = report_text(alloc, ledger.place, piece, &fate)?;
-        report(errors, text.as_str())?;
+        let fate = convert_piece(alloc, &mut uids, ledger.place, piece, outlet, errors)?;
         ledger.count(piece, &fate);
         pieces.pass(len);
     }

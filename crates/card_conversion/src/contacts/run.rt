@@ -3,37 +3,26 @@ ghost use Rattle.std.specs.Prelude.{IfOk};
 ghost use Rattle.contact_csv.specs.Contacts.{IsReady};
 ghost use Rattle.card_conversion.specs.ContactAccounts.{ConvertsContacts};
 
+use crate::contacts::fate::RowFate;
 use crate::contacts::report::{RowPlace, report_text};
 use crate::contacts::rows::{next_row, take_row};
 use crate::contacts::tally::{count_row, no_rows};
+use crate::reporting::{report, report_summary};
 use crate::{ConversionFault, Outlet, Summary};
 use base_types::TextMap;
-use contact_csv::ContactReader;
+use contact_csv::{Column, ContactReader};
 use std::alloc::Global;
 use std::io::{Read, Write};
 
-/// Writes a part of the report.
-fn report<E: Write>(errors: &mut E, text: &str) -> Result<(), ConversionFault> {
-    match errors.write_all(text.as_bytes()) {
-        Ok(()) => Ok(()),
-        Err(_) => Err(ConversionFault::Report),
-    }
-}
-
-/// Writes the last line of the report.
-fn report_summary<E: Write>(
+/// Writes the lines of the report for a row at the place.
+fn report_row<E: Write>(
     alloc: Global,
-    summary: Summary,
+    place: RowPlace,
+    columns: &[Column],
+    fate: &RowFate,
     errors: &mut E,
 ) -> Result<(), ConversionFault> {
-    let Summary {
-        written,
-        changed,
-        refused,
-    } = summary;
-    let text = format!(in alloc;
-        "{written} cards written, {changed} changed, {refused} not carried\n"
-    )?;
+    let text = report_text(alloc, place, columns, fate)?;
     report(errors, text.as_str())
 }
 
@@ -67,8 +56,7 @@ pub fn convert_contacts<R: Read + Drop, O: Outlet, E: Write>(
             line: contacts.line(),
         };
         let columns = contacts.columns().columns.as_slice();
-        let text = report_text(alloc, place, columns, &fate)?;
-        report(errors, text.as_str())?;
+        report_row(alloc, place, columns, &fate, errors)?;
         count_row(&mut summary, &fate);
     }
     Err(ConversionFault::Input)

@@ -15,6 +15,6 @@ returns-in_default g c =
 
 pub loop-piece-preserved : goal.loop-piece-preserved
 loop-piece-preserved g c =
-    one_piece g.O.Outlet.writes g.R.Read.remaining (g.R.Read.remaining c.args.reader) c.args.outlet.now c.loop-piece.outlet c.take_piece.new.outlet
-    c.loop-piece.pieces c.find_piece.new.self c.pass.new.self c.loop-piece.uids c.take_piece.new.uids c.piece-piece.result.now c.in_ok-fate.fate c.loop-piece.ledger.summary c.count.new.self.summary
+    one_piece g.O.Outlet.writes g.R.Read.remaining (g.R.Read.remaining c.args.reader) c.args.outlet.now c.loop-piece.outlet c.convert_piece.new.outlet
+    c.loop-piece.pieces c.find_piece.new.self c.pass.new.self c.loop-piece.uids c.convert_piece.new.uids c.piece-piece.result.now c.in_ok-fate.fate c.loop-piece.ledger.summary c.count.new.self.summary
     c.loop-piece.invariant c.in_ok-len.ensures.left (rw c.piece-piece.ensures c.pass.ensures.left) (c.pass.ensures.ended c.in_ok-len.ensures.ended) c.in_ok-fate.ensures c.count.ensures
