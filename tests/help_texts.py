@@ -26,7 +26,7 @@ book's initial report
   mirror   Sync a book to a new device page by page, and print the device's copy
   expand   List the people in a group and in its nested groups
   migrate  Convert a store file from schema 1 to schema 2, and print its number of books
-  copy     Copy the books of a store file into a new file, and print their number
+  copy     Copy all books of a store file into a new file, and print their number
   restore  Put a copy back in place of a store file, and make every device start again
   resync   Make every device start again after the file was put back from a copy, and print its \
 number of books
@@ -290,27 +290,23 @@ Example:
 """
 
 HELP["copy"] = """\
-Copy the books of a store file into a new file, and print their number
+Copy all books of a store file into a new file, and print their number
 
-Usage: contacts copy [OPTIONS] <FILE> <NEW>
+Usage: contacts copy <FILE> <NEW>
 
 Arguments:
   <FILE>  Path of the store file
   <NEW>   Path of the copy; nothing may be there
 
 Options:
-      --without <BOOK>  Name of a book to leave out. May be given more than once
-  -h, --help            Print help
+  -h, --help  Print help
 
 Example:
   contacts copy office.db backup.db
 
 The copy is one file, without a log beside it. It was opened and compared before the command ends. \
-It holds no text of a card that was removed or replaced, nor of a book that is left out. While a \
-server has the file open, it can't be copied.
-
-If a book is left out, the others keep their names and cards, but get new ids. So every device \
-copies them anew, as after `resync`.
+It holds no text of a card that was removed or replaced. While a server has the file open, it can't \
+be copied.
 """
 
 HELP["restore"] = """\

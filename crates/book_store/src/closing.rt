@@ -72,7 +72,7 @@ impl<S: Alter> SqlStore<S> {
 // ---- the files of a program
 
 /// Fails with `NotEmpty` if something is at the path, and with `Store` if the host can't tell.
-pub(crate) fn check_free(rt: &HostRuntime, path: &str) -> Result<(), OpenFault> {
+fn check_free(rt: &HostRuntime, path: &str) -> Result<(), OpenFault> {
     match fs::exists(rt, path) {
         Ok(false) => Ok(()),
         Ok(true) => Err(OpenFault::NotEmpty),
@@ -82,7 +82,7 @@ pub(crate) fn check_free(rt: &HostRuntime, path: &str) -> Result<(), OpenFault> 
 
 /// Removes the new file and its log if no copy was made in them. An error is ignored: then what is
 /// left doesn't open as a store.
-pub(crate) fn remove_new(rt: &HostRuntime, target: &str, log: &str) {
+fn remove_new(rt: &HostRuntime, target: &str, log: &str) {
     let _removed = fs::remove_file(rt, target);
     let _removed_log = fs::remove_file(rt, log);
 }
@@ -103,7 +103,7 @@ fn take_mode(rt: &HostRuntime, path: &str, target: &str, log: &str) -> io::Resul
 }
 
 /// Opens a new file, with the mode of the file at the path. If that fails, an empty file is removed.
-pub(crate) fn open_new(
+fn open_new(
     rt: &HostRuntime,
     path: &str,
     target: &str,
@@ -166,7 +166,7 @@ fn copy_books(
 }
 
 /// The name of a file's log.
-pub(crate) fn log_of(rt: &HostRuntime, path: &str) -> Result<String, OpenFault> {
+fn log_of(rt: &HostRuntime, path: &str) -> Result<String, OpenFault> {
     match format!(in rt.alloc(); "{path}-wal") {
         Ok(log) => Ok(log),
         Err(_) => Err(OpenFault::Memory),
@@ -175,7 +175,7 @@ pub(crate) fn log_of(rt: &HostRuntime, path: &str) -> Result<String, OpenFault> 
 
 /// Removes a log that the opening of the file made: the file had none before, and it has no octets.
 /// The file must be held meanwhile, so that nobody else writes the log.
-pub(crate) fn forget_log(rt: &HostRuntime, had_log: bool, log: &str) {
+fn forget_log(rt: &HostRuntime, had_log: bool, log: &str) {
     if !had_log && is_empty_file(rt, log) {
         let _removed = fs::remove_file(rt, log);
     }

@@ -136,9 +136,7 @@ abbrev pub pairs_arg : List Row → Option ℕ
 pairs_arg rows = option_and_then half_of (u64_arg (codes "N") rows)
 
 abbrev pub copy_order : List Row → Option Order
-copy_order rows = with_file (λ file.
-    option_map (λ target. Copy file target (texts_arg (codes "BOOK") rows))
-    (text_arg (codes "NEW") rows)) rows
+copy_order rows = with_file (λ file. option_map (Copy file) (text_arg (codes "NEW") rows)) rows
 
 abbrev pub resync_order : List Row → Option Order
 resync_order rows = with_file (λ file. option_map (Resync file) (pairs_arg rows)) rows

@@ -115,14 +115,12 @@ pub enum Order {
         /// The path of a store file of schema 1.
         file: Text,
     },
-    /// Copy the books of a store file into a new file.
+    /// Copy all books of a store file into a new file.
     Copy {
         /// The path of a store file.
         file: Text,
         /// The path of the new file.
         target: Text,
-        /// The names of the books that are left out.
-        without: Items<Text>,
     },
     /// Put a copy back in place of a store file, and make every device start again.
     Restore {

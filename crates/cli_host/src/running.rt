@@ -174,11 +174,7 @@ fn do_work<S: AdminStore + Drop, P: Endpoint, L: Listener + Drop, M: Host<S, P, 
         Work::CheckFile { file } => run_check_of(alloc, host, file.as_str(), writer),
         Work::CreateFile { file } => run_init(host, file, writer),
         Work::MigrateFile { file } => run_migrate(alloc, host, file, writer),
-        Work::CopyFile {
-            file,
-            target,
-            without,
-        } => run_copy(alloc, host, file, target, without, writer),
+        Work::CopyFile { file, target } => run_copy(alloc, host, file, target, writer),
         Work::RestoreFile {
             backup,
             file,

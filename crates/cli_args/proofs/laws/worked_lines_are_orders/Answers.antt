@@ -68,7 +68,7 @@ returns-clause-pages c = (refl, refl, refl, refl)
 
 pub returns-clause-copies : goal.returns-clause-copies
 unfolding clap_on_literals
-returns-clause-copies c = (refl, refl, refl, refl, refl, refl, refl)
+returns-clause-copies c = (refl, refl, refl, refl, refl)
 
 pub returns-clause-resyncs : goal.returns-clause-resyncs
 unfolding clap_on_literals
