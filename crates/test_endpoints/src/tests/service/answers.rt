@@ -1,6 +1,6 @@
 //! Single requests, with routes that are built for each of them.
 use super::new_store;
-use base_types::Text;
+use base_types::{Items, Text};
 use book_http::answer;
 use http_requests::Head;
 use std::alloc::Global;
@@ -14,6 +14,7 @@ fn answer_put(rt: &impl Abort, alloc: Global, store: &mut PlainStore, target: &s
         target: Text::copy_of(alloc, target).expect(rt, "memory"),
         close: false,
         length: 0,
+        user: Items::new(alloc),
     };
     let reply = answer(alloc, store, &head, b"").expect(rt, "memory");
     let text = String::from_utf8_lossy(alloc, reply.as_slice()).expect(rt, "memory");
