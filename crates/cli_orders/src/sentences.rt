@@ -136,12 +136,19 @@ fn device_sentence(alloc: Global, names: &OrderNames, cause: FoundCause) -> Resu
         | FoundCause::NoFolder
         | FoundCause::FolderDenied
         | FoundCause::SocketTaken
-        | FoundCause::LongPath
         | FoundCause::NotSocket => {
             about(
                 alloc,
                 names.other.as_str(),
                 other_words(cause),
+                Advice::Nothing,
+            )
+        }
+        FoundCause::LongPath => {
+            about(
+                alloc,
+                names.other.as_str(),
+                other_words(FoundCause::LongPath),
                 Advice::Nothing,
             )
         }
