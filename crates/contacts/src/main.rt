@@ -42,17 +42,17 @@ fn conversion_of(order: &Result<Order, LineFault>) -> Option<Wanted<'_>> {
     }
 }
 
-/// Converts a file, if that is the order, and returns the status then.
-fn convert_if_ordered(rt: &HostRuntime, order: &Result<Order, LineFault>) -> Option<u8> {
-    let wanted = conversion_of(order)?;
-    let mut rows = RowsOutlet {
-        writer: rt.stdout(),
-    };
-    Some(run_convert(rt.alloc(), rt, wanted, &mut rows, &mut rt.stderr()))
-}
-
-/// Runs any other order, and returns the status.
-fn run_other(rt: HostRuntime, order: Result<Order, LineFault>) -> u8 {
+fn main(rt: HostRuntime) -> ExitCode {
+    // Before anything is opened, so that no file or socket gets the number of a stream.
+    hold_streams(&rt);
+    let order = order_of_args(rt.alloc(), env::args(&rt));
+    if let Some(wanted) = conversion_of(&order) {
+        let mut rows = RowsOutlet {
+            writer: rt.stdout(),
+        };
+        let status = run_convert(rt.alloc(), &rt, wanted, &mut rows, &mut rt.stderr());
+        return ExitCode::from(status);
+    }
     // Nothing depends on this line, so a standard error that fails changes nothing.
     let _noted = note_waiting(rt.stdin().is_terminal(), &order, &mut rt.stderr());
     let mut host = rt;
@@ -64,18 +64,5 @@ fn run_other(rt: HostRuntime, order: Result<Order, LineFault>) -> u8 {
         &mut rt.stdout(),
         &mut rt.stderr(),
     );
-    exit.status
-}
-
-fn main(rt: HostRuntime) -> ExitCode {
-    // Before anything is opened, so that no file or socket gets the number of a stream.
-    hold_streams(&rt);
-    let order = order_of_args(rt.alloc(), env::args(&rt));
-    match convert_if_ordered(&rt, &order) {
-        Some(status) => {
-            drop(order);
-            ExitCode::from(status)
-        }
-        None => ExitCode::from(run_other(rt, order)),
-    }
+    ExitCode::from(exit.status)
 }

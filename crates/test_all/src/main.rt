@@ -6,7 +6,8 @@
 use std::fs;
 use std::io::{Read, Write};
 use std::process::ExitCode;
-use test_rows::{check_cards, check_formats, run_all_cases, run_chosen, run_connection_rows};
+use test_oom::{run_all_cases, run_chosen};
+use test_rows::{check_cards, check_formats, run_connection_rows};
 use test_stops::run_sweeps;
 use test_stores::{run_lines, run_sections};
 

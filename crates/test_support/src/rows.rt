@@ -8,4 +8,5 @@
 mod fields;
 mod lines;
 
-pub use lines::{TestCalls, check_rows};
+pub use fields::{decode_field, encode_field};
+pub use lines::{Row, TestCalls, check_rows, parse_row, report_row};

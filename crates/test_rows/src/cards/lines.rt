@@ -1,9 +1,13 @@
-//! Lines: read, made of parts, and the first of a name in a card.
-use crate::cards::making::{format_fault, make_line};
+//! Reads, writes, folds and joins lines.
+use crate::cards::cards::format_fault;
+use crate::cards::making::make_line;
 use base_types::{NoMemory, Part};
 use std::alloc::Global;
-use vcard_lines::{CardFault, Line, folded_line_len, has_legal_parts, read_line, write_line};
-use vcard_text::{Card, read_card};
+use std::str::Lines;
+use vcard_lines::{
+    Line, continues, folded_len, folded_line_len, has_legal_parts, join, line_so_far, read_line,
+    write_folded, write_line,
+};
 
 /// Whether a copy of the line is equal to it.
 fn has_same_copy(line: &Line) -> Result<bool, NoMemory> {
@@ -20,7 +24,7 @@ fn line_text(alloc: Global, line: &Line) -> Result<String, NoMemory> {
 
 /// The line's name and value, its length in octets when folded, whether its parts are legal,
 /// whether a copy is equal, and its text.
-fn format_line(alloc: Global, line: &Line) -> Result<String, NoMemory> {
+pub(crate) fn format_line(alloc: Global, line: &Line) -> Result<String, NoMemory> {
     let is_same = has_same_copy(line)?;
     let (name, value) = (&line.name, &line.value);
     let (octets, is_legal) = (folded_line_len(line), has_legal_parts(line));
@@ -42,27 +46,28 @@ pub(crate) fn run_part(alloc: Global, input: &str) -> Result<String, NoMemory> {
     format_line(alloc, &line)
 }
 
-/// Ann's card with the lines.
-fn ann_with(alloc: Global, lines: &str) -> Result<Card, CardFault> {
-    let head = "BEGIN:VCARD\r\nVERSION:4.0\r\nUID:a\r\nFN:Ann\r\n";
-    let text = format!(in alloc; "{head}{lines}END:VCARD\r\n")?;
-    read_card(alloc, text.as_bytes())
+/// The length in octets of the folded line, and the folded line.
+pub(crate) fn run_fold(alloc: Global, line: &str) -> Result<String, NoMemory> {
+    let mut text = format!(in alloc; "{}|", folded_len(line))?;
+    write_folded(&mut text, line)?;
+    Ok(text)
 }
 
-/// The parts of the card's first line of that name.
-fn format_first(alloc: Global, card: &Card, name: &str) -> Result<String, NoMemory> {
-    match card.first(name) {
-        Some(line) => format_line(alloc, line),
-        None => Ok(String::from_str(alloc, "none")?),
-    }
+/// Joins the physical lines to one line.
+pub(crate) fn run_join(alloc: Global, folded: &str) -> Result<String, NoMemory> {
+    let mut pieces = folded.lines();
+    let first = pieces.next().unwrap_or("");
+    let mut joined = String::new(alloc);
+    join_each(first, &mut joined, pieces)?;
+    Ok(String::from_str(alloc, line_so_far(first, &joined))?)
 }
 
-/// The same for the first line of a name in Ann's card with the lines. The input is these, a bar,
-/// and the name.
-pub(crate) fn run_first(alloc: Global, input: &str) -> Result<String, NoMemory> {
-    let (lines, name) = input.split_once('|').unwrap_or((input, ""));
-    match ann_with(alloc, lines) {
-        Ok(card) => format_first(alloc, &card, name),
-        Err(fault) => format_fault(alloc, fault),
+/// Joins each piece that continues the line.
+fn join_each(first: &str, joined: &mut String, pieces: Lines<'_>) -> Result<(), NoMemory> {
+    for piece in pieces {
+        if continues(piece) {
+            join(first, joined, piece)?;
+        }
     }
+    Ok(())
 }

@@ -18,7 +18,9 @@ fn push_over_failing(
     fault: Fault,
     out: &mut Vec<u8>,
 ) -> Result<(), NoMemory> {
-    let mut service = Service::new(alloc, FailingStore::new(fault))?;
+    let mut store = FailingStore::new(alloc);
+    store.set_fault(Some(fault));
+    let mut service = Service::new(alloc, store)?;
     push_connections(alloc, &mut service, row.connections.as_slice(), out)
 }
 

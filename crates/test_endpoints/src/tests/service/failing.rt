@@ -1,52 +1,53 @@
 //! A store that returns a fault from each call. (`test_rows` tests the replies over HTTP.)
-use book_service::{Event, Reply, drive, mirror};
+use super::{drive_script, new_devices};
+use book_service::mirror;
 use std::alloc::Global;
 use std::process::Abort;
-use sync_core::{Denied, Device, Fault};
-use test_support::scripts::FailingStore;
+use sync_core::{Denied, Fault};
+use test_support::scripts::{FailingStore, run_script};
 
-/// A device of the book `staff`.
-fn device_of_staff(rt: &impl Abort, alloc: Global) -> Vec<Device> {
-    let mut devices = Vec::new(alloc);
-    let device = Device::new(alloc, "staff").expect(rt, "memory");
-    devices.push(device).expect(rt, "memory");
-    devices
+/// A store with the book `staff` and the card `a`, which returns the fault from now on.
+fn failing_store(rt: &impl Abort, alloc: Global, fault: Fault) -> FailingStore {
+    let mut store = FailingStore::new(alloc);
+    run_script(alloc, &mut store, "create staff\ncard staff a FN:Ann").expect(rt, "replies");
+    store.set_fault(Some(fault));
+    store
 }
 
-/// A device that asks.
-fn asks(rt: &impl Abort, alloc: Global) -> Vec<Event> {
-    let ask = Event::Ask {
-        device: 0,
-        limit: None,
-    };
-    let mut events = Vec::new(alloc);
-    events.push(ask).expect(rt, "memory");
-    events
-}
+/// Each command once.
+const COMMANDS: &str = "create clients
+card staff b FN:Bob
+put staff b - BEGIN:VCARD
+remove staff a
+move staff a staff
+get staff a
+books
+tally staff
+forget staff 0
+import staff k uid,fn,family,given,email,tel,org,note\\nb,Bob,,,,,,
+export staff cards
+export staff columns
+people staff a
+report staff -";
 
-/// The replies to a device of `staff` that asks the store.
-fn replies_of(rt: &impl Abort, alloc: Global, store: &mut FailingStore) -> Vec<Reply> {
-    let mut devices = device_of_staff(rt, alloc);
-    let events = asks(rt, alloc);
-    let count = devices.len();
-    if !events.iter().all(|event| event.is_within(count)) {
-        return Vec::new(alloc);
+/// Asserts that each command, a device and a mirror get the fault, and that the books are
+/// unchanged.
+fn assert_passes_on(rt: &impl Abort, alloc: Global, fault: Fault, expected: &str) {
+    let mut store = failing_store(rt, alloc, fault);
+    let mut devices = new_devices(rt, alloc, &["staff"]);
+    for event in COMMANDS.lines().chain("ask 0".lines()) {
+        let output = drive_script(rt, alloc, &mut store, &mut devices, event);
+        assert_eq!(rt; output.as_str(), expected, "{event}");
     }
-    drive(alloc, store, &mut devices, events.as_slice()).expect(rt, "replies")
-}
-
-/// Asserts that a device and a mirror get the fault.
-fn assert_passes_on(rt: &impl Abort, alloc: Global, fault: Fault) {
-    let mut store = FailingStore::new(fault);
-    let replies = replies_of(rt, alloc, &mut store);
-    let expected = Reply::Fault(fault);
-    assert_eq!(rt; replies.as_slice().first(), Some(&expected));
     let denied = mirror(alloc, &mut store, "staff", 1, 1).err();
     assert_eq!(rt; denied, Some(Denied::Fault(fault)));
+    store.set_fault(None);
+    let output = run_script(alloc, &mut store, "tally staff").expect(rt, "a reply");
+    assert!(rt; output.as_str().contains("number 1 "));
 }
 
 #[test]
 fn a_store_fault_is_passed_on(rt: HostRuntime) {
-    assert_passes_on(&rt, rt.alloc(), Fault::Store);
-    assert_passes_on(&rt, rt.alloc(), Fault::Memory);
+    assert_passes_on(&rt, rt.alloc(), Fault::Store, "fault 19\n");
+    assert_passes_on(&rt, rt.alloc(), Fault::Memory, "fault 20\n");
 }

@@ -1,7 +1,7 @@
 //! Opens stores over the tables of a connection in memory. If a store isn't opened, the connection
 //! is dropped, and with it its tables: then another connection is used to repeat the call.
 
-use crate::memory::tables::{OverTables, TableStore, Tables};
+use crate::tables::{OverTables, TableStore, Tables};
 use book_service::Reply;
 use book_store::OpenFault;
 use std::alloc::Global;

@@ -1,7 +1,7 @@
 //! Migrates tables of the first schema to the second.
 
-use crate::memory::opening::{adopt_tables, books_of_opened};
-use crate::memory::tables::Tables;
+use crate::opening::{adopt_tables, books_of_opened};
+use crate::tables::Tables;
 use book_service::Reply;
 use book_store::OpenFault;
 use sqlite::{Error, params};

@@ -1,11 +1,11 @@
 //! All cases.
 
-use crate::memory::events::run_drive;
-use crate::memory::migration::run_migrate_connection;
-use crate::memory::opening::run_opening;
-use crate::memory::paths::{run_first_path, run_read_order};
-use crate::memory::requests::run_feed;
-use crate::memory::tables::OverTables;
+use crate::events::run_drive;
+use crate::migration::run_migrate_connection;
+use crate::opening::run_opening;
+use crate::paths::run_first_path;
+use crate::requests::run_feed;
+use crate::tables::OverTables;
 use test_support::oom::{
     Harness, InMemory, Stop, Stores, run_cards, run_commands, run_device, run_mirror, run_texts,
 };
@@ -23,7 +23,6 @@ pub(crate) fn run_cases(harness: &mut Harness) -> Result<(), Stop> {
     run_cards(harness)?;
     run_first_path(harness);
     run_texts(harness)?;
-    run_read_order(harness)?;
     run_device(harness)?;
     run_over_stores(harness, &InMemory)?;
     run_over_stores(harness, &OverTables)?;

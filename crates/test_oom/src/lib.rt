@@ -1,5 +1,6 @@
 //! Calls over stores of two kinds, each in a window in which allocations may be refused. Runs them
 //! and the calls of `oom` in `test_support`, with all memory and with little.
+#![tactic(auto)]
 
 mod cases;
 mod events;
@@ -10,9 +11,10 @@ mod paths;
 mod requests;
 mod tables;
 
-use crate::memory::cases::run_cases;
-use crate::memory::low_memory::run_low_memory;
-use test_support::oom::{Harness, Stop};
+use crate::cases::run_cases;
+use crate::low_memory::run_low_memory;
+use test_support::oom::Harness;
+pub use test_support::oom::Stop;
 
 /// Runs the case of the name, or `all` of them. Allocations may be refused from outside.
 pub fn run_chosen(rt: &HostRuntime, chosen: &str) -> Result<(), Stop> {
