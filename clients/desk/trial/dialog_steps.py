@@ -6,7 +6,7 @@ from browser import SHIFT
 from hands import Hands
 from loss_steps import at_desk
 from office import card
-from steps import MENU, TITLE, fill, search, step, up_to_date
+from steps import MENU, ROWS, TITLE, fill, search, step, up_to_date
 
 IS_OPEN = "Boolean(document.querySelector('dialog[open]'))"
 IS_IN = "Boolean(document.activeElement.closest('dialog, #toast')) " \
@@ -188,6 +188,7 @@ def book_in_short(trial):
     page.key("Escape")
     office.put("staff", "short", card("short", "FN:Short Said"))
     up_to_date(page)
+    page.wait(f"{ROWS}.includes('Short Said')")
     opened("Last changed: ")
     number = office.ask("GET", "/staff/tally")["cards"]
     page.wait(f"document.querySelector('.card-total').textContent === '{number} cards'")

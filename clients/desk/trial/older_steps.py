@@ -1,7 +1,10 @@
 """Steps about the copy of an older desk, which a browser may still have: nothing of it is lost."""
 
+import json
+
+from between import with_tables
 from loss_steps import FIELDS, FORM, names
-from steps import STATE, fault, until
+from steps import STATE, TITLE, fault, search, until
 
 OLD_TABLES = """(async () => {
     const old = await new Promise((resolve) => {
@@ -99,3 +102,34 @@ def second_desk(trial):
     page.go(f"{office.front}?")
     page.wait("document.querySelector('#books').textContent.includes('Before')")
     until(lambda: "Waited Since" in names(office, "staff"))
+
+
+# The rows as the desk before this one kept them: what is searched was in three texts.
+OLD_ROWS = """
+    const tx = db.transaction('rows', 'readwrite');
+    tx.objectStore('rows').openCursor().onsuccess = ({ target: { result: cursor } }) => {
+        if (!cursor) return;
+        const { book, text } = cursor.value;
+        const log = JSON.parse(text);
+        log.rows = log.rows.map(({ search, ...row }) => {
+            const [names, words, more] = search.split('\\n');
+            return { ...row, names, words, more };
+        });
+        cursor.update({ book, text: JSON.stringify(log) });
+        cursor.continue();
+    };
+    await new Promise((resolve) => { tx.oncomplete = resolve; });
+    db.close();
+"""
+
+
+@fault
+def rows_before(trial):
+    """Cards are found by the rows that an older desk kept."""
+    page = trial.desk("admin", "rows")
+    page.wait(f"{STATE}.startsWith('Up to date')")
+    with_tables(page, OLD_ROWS)
+    page.go(trial.office.front)
+    for typed, name in (("ashdown", "Gwen Ashdown"), ("harbour v", "Miriam O’Hara")):
+        search(page, typed)
+        page.wait(f"{TITLE} === {json.dumps(name)}")

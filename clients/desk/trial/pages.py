@@ -23,6 +23,13 @@ FIND = """(() => {{
     return [box.x + box.width / 2, box.y + box.height / 2];
 }})()"""
 
+# What goes away by itself, as a message, stays longer where all takes longer.
+LONGER = """((times) => {
+    const real = window.setTimeout;
+    window.setTimeout = (run, pause, ...all) =>
+        real(run, pause >= 5000 && pause < 16000 ? pause * times : pause, ...all);
+})"""
+
 
 class Page:
     """
@@ -50,6 +57,8 @@ class Page:
         self.run("window.isOld = true")
         self.navigate(address)
         self.wait("!window.isOld && document.readyState === 'complete'")
+        if self.slow > 1:
+            self.run(f"{LONGER}({self.slow})")
 
     def enter(self, address, user, path=""):
         """

@@ -8,6 +8,13 @@ from steps import fault, fill, stored
 
 TITLES = "[...document.querySelectorAll('dialog[open] h2')].map((it) => it.textContent)"
 ASKED = "document.querySelector('dialog[open] table.conflict')"
+# Notes each short message, however soon it goes.
+HEAR = """(() => {
+    const node = document.querySelector('#toast');
+    window.heard = [];
+    new MutationObserver(() => window.heard.push(node.textContent))
+        .observe(node, { childList: true });
+})()"""
 # Another dialog, which is there before the question.
 ANOTHER = "void import('/js/views/dialogs.js').then((it) => it.ask('Another', [], [['Yes', 1]]))"
 # The change that waits becomes another one, and no tab is told.
@@ -46,6 +53,7 @@ def question_elsewhere(trial):
     page, office = at_desk(trial), trial.office
     question(page, office, "quest1", "Quinta Question")
     page.press("Decide later")
+    page.run(HEAR)
     page.run(ANOTHER)
     page.wait(f"{TITLES}.length === 1")
     page.run("[...document.querySelectorAll('#pane button')]"
@@ -53,12 +61,18 @@ def question_elsewhere(trial):
     page.wait(f"{TITLES}.length === 2")
     other = tab(trial, page, "tab")
     other.front()
+    other.wait("document.querySelector('#waiting')?.checkVisibility()")
+    other.rest(500)
+    # It asks by itself only if its window came to the front after the cards were there.
+    if not other.run(f"Boolean({ASKED})"):
+        other.press("1 needs you")
+        other.press("Decide", "document.querySelector('dialog')")
     other.wait(ASKED)
     choose(other, 2)
     stored(office, "quest1", "TITLE:My clerk")
     page.front()
     page.wait(f"{TITLES}.join() === 'Another'")
-    toast(page, "The question about Quinta Question is closed")
+    page.wait("window.heard.some((it) => it.includes('about Quinta Question is closed'))")
     page.key("Escape")
     page.wait(f"{TITLES}.length === 0")
 

@@ -67,6 +67,7 @@ def measured(trial, user, name, cards):
 
 
 def figures(trial, user, name, cards):
+    """Prints how quick it is. Returns what a search takes of a processor, however busy that is."""
     page, first, whole = measured(trial, user, name, cards)
     time.sleep(3)  # until it has written what it will need at the next start
     page.call("Performance.enable", timeDomain="threadTicks")
@@ -86,7 +87,7 @@ def figures(trial, user, name, cards):
           f"search with paint {middle:.0f} ms in the median and {max(took):.0f} at most "
           f"({used:.0f} ms of a processor each), "
           f"opening again {min(again):.2f} s, heap {heap:.0f} MB")
-    return middle
+    return used
 
 
 def count(office):
@@ -101,7 +102,7 @@ def ten_thousand(trial):
     office = trial.office
     office.order_book("large0")
     office.fill("large0", many_cards())
-    assert figures(trial, "admin", "large", count(office)) < 100
+    assert figures(trial, "admin", "large", count(office)) < 50
 
 
 @step
@@ -111,4 +112,4 @@ def fifty_thousand(trial):
     for number in range(1, 5):
         office.order_book(f"large{number}")
         office.fill(f"large{number}", many_cards())
-    assert figures(trial, "admin", "largest", count(office)) < 300
+    assert figures(trial, "admin", "largest", count(office)) < 150

@@ -285,9 +285,13 @@ def others_edits(trial):
     page.asked.clear()
     page.press("Save")
     stored(office, "c07", "TITLE:Senior partner")
-    page.rest(3000)
-    put = next(at for at, it in enumerate(page.asked) if "/cards/c07" in it)
-    assert [it for it in page.asked[put:] if "/clients/sync" in it], page.asked
+
+    def is_asked():
+        page.rest(100)
+        put = next(at for at, it in enumerate(page.asked) if "/cards/c07" in it)
+        return any("/clients/sync" in it for it in page.asked[put:])
+
+    until(is_asked, 5)
 
 
 EDIT = """(async ([book, edits]) => {

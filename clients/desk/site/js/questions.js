@@ -55,9 +55,10 @@ export async function decide(desk, entry) {
   const answer = await answerFor(desk, entry, signal);
   if (desk.asked === asked) desk.asked = null;
   if (!isSame(entry, await desk.queue.all())) {
-    // It was answered or changed elsewhere. If it is still a question, it is asked anew.
+    // It was answered or changed elsewhere. If it is still a question, it is asked anew: here, if
+    // somebody has just answered here.
     if (answer !== null || signal.aborted) sayUnused(desk, entry, answer);
-    await desk.queued();
+    await desk.queued(answer !== null);
     return;
   }
   if (answer === null) {
