@@ -1,5 +1,6 @@
 """Cards between programs and the server: merges, groups, and what a program leaves out."""
 
+import base64
 import threading
 import time
 import unittest
@@ -12,7 +13,7 @@ from model.cards import read_card
 from program import Folder
 
 import vcard3
-from gateway import cards, unseen
+from gateway import cards, files, unseen
 from gateway.books import Shelf
 from gateway.dav import Dav
 from gateway.messages import Request
@@ -152,8 +153,21 @@ class Unseen(unittest.TestCase):
                              card("a", "Ann", *lines, "TEL:+n"))
         self.assertEqual([*lines[900:], "TEL:+n"], lines_of(made)[-1_002:-1])
         self.assertLess(time.process_time() - begun, 5)  # it takes a fifth of one
-        text = card("a", "Ann", *(f"TEL:+{it}" for it in range(2_000)))
-        self.assertEqual(text, unseen.with_line(text, 1))
+        for more in [f"TEL:+{it}" for it in range(2_000)], ["CATEGORIES:" + ",".join(
+                map(str, range(2_000)))]:
+            text = card("a", "Ann", *more)
+            self.assertEqual(text, unseen.with_line(text, 1))
+        self.assertIsNone(unseen.read_by(f"X-TOSCULAI-READ:3-{'a' * 8}-{'a' * 16_008}"))
+        self.assertIsNotNone(unseen.read_by(f"X-TOSCULAI-READ:3-{'a' * 8}-{'a' * 16_000}"))
+
+    def test_photos(self):
+        """A photo is the same one if a mark stands for it, which is another one at each start."""
+        octets = base64.b64encode(bytes(100_000)).decode()
+        for head in "PHOTO;ENCODING=b;TYPE=JPEG:", "PHOTO:data:image/jpeg;base64,":
+            marked = files.taken_out((head + octets).encode())[0].decode()
+            self.assertNotIn(octets, marked)
+            self.assertEqual(unseen.said_by(head + octets), unseen.said_by(marked))
+            self.assertNotEqual(unseen.said_by(head + octets), unseen.said_by(head + "A" + octets))
 
 
 class LeftOut(unittest.TestCase):
