@@ -160,6 +160,17 @@ class Unseen(unittest.TestCase):
         self.assertIsNone(unseen.read_by(f"X-TOSCULAI-READ:3-{'a' * 8}-{'a' * 16_008}"))
         self.assertIsNotNone(unseen.read_by(f"X-TOSCULAI-READ:3-{'a' * 8}-{'a' * 16_000}"))
 
+    def test_a_card_that_was_exported_and_imported(self):
+        """It has the line of another card, which says nothing and goes with the next edit."""
+        plain = card("a", "Ann", "TEL:+1")
+        stored = unseen.with_line(card("b", "Ann", "TEL:+1"), 1).replace("UID:b", "UID:a")
+        self.assertEqual(unseen.with_line(plain, 1), unseen.with_line(stored, 1))
+        text = unseen.with_line(cards.written(stored, True), 1)
+        self.assertTrue(unseen.read_by(text).is_of(1, "a"))
+        edited = self.edit(text, [], ["TEL:+2"])
+        self.assertEqual(lines_of(card("a", "Ann", "TEL:+1", "TEL:+2")),
+                         lines_of(self.newer(edited, stored)))
+
     def test_photos(self):
         """A photo is the same one if a mark stands for it, which is another one at each start."""
         octets = base64.b64encode(bytes(100_000)).decode()

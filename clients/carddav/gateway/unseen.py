@@ -81,7 +81,13 @@ def said_in(lines: Iterable[str]) -> Counts[str]:
 
 
 def with_line(text: str, book: int) -> str:
-    """The text that is read of a card, with the line."""
+    """The text that is read of a card, with the line.
+
+    A card has one already if it was imported from a program's export.
+    """
+    if SOME_LINE.search(text):
+        rest = (it for it in lines_of(text) if name_of(it) != READ)
+        text = "".join(map(vcard3.folded, rest))
     said = sorted(said_in(lines_of(text)).elements())
     if len(said) > SAID_MAX:
         return text
