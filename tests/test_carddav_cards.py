@@ -136,6 +136,22 @@ class Unseen(unittest.TestCase):
                         self.assertEqual(sorted(lines_of(wanted)), sorted(lines_of(now)))
                         seen = cards.written(now, as4)
 
+    def test_what_a_card_has_once(self):
+        """The later edit wins, whatever it is called in 3.0; a second KIND would be refused."""
+        for form in "3.0", "4.0":
+            for line, other, own in [
+                ("ANNIVERSARY:20010101", "ANNIVERSARY:20010202", "ANNIVERSARY:20010303"),
+                ("GENDER:F", "GENDER:M", "GENDER:O"), ("KIND:org", "KIND:location", "KIND:thing"),
+                ("FN:Ann", "FN:Anne", "FN:Anna"), ("BDAY:19800101", "BDAY:19800202",
+                                                   "BDAY:19800303")]:
+                old, now, new = (cards.written(card("a", "Ann", it) if not it.startswith("FN")
+                                               else card("a", it[3:]), form == "4.0")
+                                 for it in (line, other, own))
+                said = unseen.read_by(unseen.with_line(old, 1)).said
+                with self.subTest(form=form, line=line):
+                    made = unseen.edited(new, said, now)
+                    self.assertEqual(sorted(lines_of(new)), sorted(lines_of(made)))
+
     def test_nobody_else_has_edited(self):
         """Then what the program sends is taken as it is."""
         text = unseen.with_line(cards.written(card("a", "Ann", "TEL:+1", "NOTE:n"), False), 1)

@@ -32,7 +32,7 @@ OCTETS = re.compile(rf"[A-Za-z0-9+/= ]{{{SMALL},}}")
 # They have no line of their own in an edit.
 FRAME = {"BEGIN", "END", "VERSION", "UID", SHOWN, READ}
 # What a card has once: if two change it, the later one wins.
-ONCE = {*vcard3.ONCE, "PRODID", "PHOTO"}
+ONCE = {*vcard3.ONCE, *(vcard3.NAMES.get(it, it) for it in vcard3.ONCE), "PRODID", "PHOTO"}
 
 
 class Read(NamedTuple):
