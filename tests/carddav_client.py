@@ -27,6 +27,7 @@ from tosculai_urls import UnixConnection  # noqa: E402
 D, C, CS = "{DAV:}", "{urn:ietf:params:xml:ns:carddav}", "{http://calendarserver.org/ns/}"
 SPACES = ('xmlns:D="DAV:" xmlns:C="urn:ietf:params:xml:ns:carddav"'
           ' xmlns:CS="http://calendarserver.org/ns/"')
+REPLY = 4 * PATIENCE  # seconds that a reply may take: others may have the processors meanwhile
 PASSWORD = "a pässword: long"
 # The hash takes 50 ms, so it is made once for all users of all tests in a process.
 HASH = accounts.hashed(PASSWORD, "salt")
@@ -111,8 +112,8 @@ class Client:
 
     def connect(self):
         if isinstance(self.place, str):
-            return UnixConnection(self.place, timeout=PATIENCE)
-        return HTTPConnection(*self.place, timeout=PATIENCE)
+            return UnixConnection(self.place, timeout=REPLY)
+        return HTTPConnection(*self.place, timeout=REPLY)
 
     def ask(self, method, path, body=b"", **fields):
         named = {name.replace("_", "-"): it for name, it in fields.items() if it is not None}

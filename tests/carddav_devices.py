@@ -267,8 +267,8 @@ class CategoryPhone(Phone):
 
 
 class Unseeing(Phone):
-    """Thunderbird: it changes cards without a condition, keeps lines that it doesn't know, and reads
-    a card again after it has sent it."""
+    """Thunderbird: it changes cards without a condition, keeps lines that it doesn't know, and
+    reads a card again after it has sent it."""
 
     agent = "Mozilla/5.0 (X11; Linux x86_64; rv:153.0) Gecko/20100101 Thunderbird/153.8.0"
     refused = 400

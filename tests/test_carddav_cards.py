@@ -1,5 +1,6 @@
 """Cards between programs and the server: merges, groups, and what a program leaves out."""
 
+import base64
 import threading
 import time
 import unittest
@@ -12,7 +13,7 @@ from model.cards import read_card
 from program import Folder
 
 import vcard3
-from gateway import cards, unseen
+from gateway import cards, files, unseen
 from gateway.books import Shelf
 from gateway.dav import Dav
 from gateway.messages import Request
@@ -135,6 +136,22 @@ class Unseen(unittest.TestCase):
                         self.assertEqual(sorted(lines_of(wanted)), sorted(lines_of(now)))
                         seen = cards.written(now, as4)
 
+    def test_what_a_card_has_once(self):
+        """The later edit wins, whatever it is called in 3.0; a second KIND would be refused."""
+        for form in "3.0", "4.0":
+            for line, other, own in [
+                ("ANNIVERSARY:20010101", "ANNIVERSARY:20010202", "ANNIVERSARY:20010303"),
+                ("GENDER:F", "GENDER:M", "GENDER:O"), ("KIND:org", "KIND:location", "KIND:thing"),
+                ("FN:Ann", "FN:Anne", "FN:Anna"), ("BDAY:19800101", "BDAY:19800202",
+                                                   "BDAY:19800303")]:
+                old, now, new = (cards.written(card("a", "Ann", it) if not it.startswith("FN")
+                                               else card("a", it[3:]), form == "4.0")
+                                 for it in (line, other, own))
+                said = unseen.read_by(unseen.with_line(old, 1)).said
+                with self.subTest(form=form, line=line):
+                    made = unseen.edited(new, said, now)
+                    self.assertEqual(sorted(lines_of(new)), sorted(lines_of(made)))
+
     def test_nobody_else_has_edited(self):
         """Then what the program sends is taken as it is."""
         text = unseen.with_line(cards.written(card("a", "Ann", "TEL:+1", "NOTE:n"), False), 1)
@@ -152,8 +169,32 @@ class Unseen(unittest.TestCase):
                              card("a", "Ann", *lines, "TEL:+n"))
         self.assertEqual([*lines[900:], "TEL:+n"], lines_of(made)[-1_002:-1])
         self.assertLess(time.process_time() - begun, 5)  # it takes a fifth of one
-        text = card("a", "Ann", *(f"TEL:+{it}" for it in range(2_000)))
-        self.assertEqual(text, unseen.with_line(text, 1))
+        for more in [f"TEL:+{it}" for it in range(2_000)], ["CATEGORIES:" + ",".join(
+                map(str, range(2_000)))]:
+            text = card("a", "Ann", *more)
+            self.assertEqual(text, unseen.with_line(text, 1))
+        self.assertIsNone(unseen.read_by(f"X-TOSCULAI-READ:3-{'a' * 8}-{'a' * 16_008}"))
+        self.assertIsNotNone(unseen.read_by(f"X-TOSCULAI-READ:3-{'a' * 8}-{'a' * 16_000}"))
+
+    def test_a_card_that_was_exported_and_imported(self):
+        """It has the line of another card, which says nothing and goes with the next edit."""
+        plain = card("a", "Ann", "TEL:+1")
+        stored = unseen.with_line(card("b", "Ann", "TEL:+1"), 1).replace("UID:b", "UID:a")
+        self.assertEqual(unseen.with_line(plain, 1), unseen.with_line(stored, 1))
+        text = unseen.with_line(cards.written(stored, True), 1)
+        self.assertTrue(unseen.read_by(text).is_of(1, "a"))
+        edited = self.edit(text, [], ["TEL:+2"])
+        self.assertEqual(lines_of(card("a", "Ann", "TEL:+1", "TEL:+2")),
+                         lines_of(self.newer(edited, stored)))
+
+    def test_photos(self):
+        """A photo is the same one if a mark stands for it, which is another one at each start."""
+        octets = base64.b64encode(bytes(100_000)).decode()
+        for head in "PHOTO;ENCODING=b;TYPE=JPEG:", "PHOTO:data:image/jpeg;base64,":
+            marked = files.taken_out((head + octets).encode())[0].decode()
+            self.assertNotIn(octets, marked)
+            self.assertEqual(unseen.said_by(head + octets), unseen.said_by(marked))
+            self.assertNotEqual(unseen.said_by(head + octets), unseen.said_by(head + "A" + octets))
 
 
 class LeftOut(unittest.TestCase):

@@ -183,8 +183,9 @@ class Bodies(GatewayTest):
             self.assertIn(self.dav.ask("PUT", STAFF + "cs.vcf", octets, Content_Type=kind).status,
                           (201, 204), charset)
         before = self.staff.get("cs")
-        for charset in ("punycode", "idna", "unicode_escape", "raw_unicode_escape", "utf-7", "rot13",
-                        "zip", "hex", "undefined", "x-none", "utf_8_sig", "../utf-8", "a" * 1000):
+        for charset in ("punycode", "idna", "unicode_escape", "raw_unicode_escape", "utf-7",
+                        "rot13", "zip", "hex", "undefined", "x-none", "utf_8_sig", "../utf-8",
+                        "a" * 1000):
             with self.subTest(charset):
                 body = text.replace("\xf6", "o") + "-" + "b" * 200_000
                 reply = self.dav.ask("PUT", STAFF + "cs.vcf", body,

@@ -199,7 +199,8 @@ class Users(unittest.TestCase):
             '"~^bob \\S+ (staff) (staff|_)$" 1;', '"~^bob GET (clients|staff) _$" 1;',
             '"~^hall\\.x GET (staff) _$" 1;',
             # The first line that fits counts, as in nginx.
-            '"~^zoe (?!GET )\\S+ (clients|staff) \\S+$" 0;', '"~^zoe \\S+ \\S* (clients|staff)$" 0;',
+            '"~^zoe (?!GET )\\S+ (clients|staff) \\S+$" 0;',
+            '"~^zoe \\S+ \\S* (clients|staff)$" 0;',
             '"~^zoe \\S+ \\S* \\S+$" 1;', '"~^zoe \\S+ (own) (own|_)$" 1;',
             '"~^zoe GET (clients|own|staff) _$" 1;'], out.splitlines())
         lines = [re.fullmatch('"~(.*)" ([01]);', it).groups() for it in out.splitlines()]

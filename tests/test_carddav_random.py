@@ -1,11 +1,11 @@
 """Phones and an office change one book at the same time, while both processes are killed.
 
 Three phones (one of vCard 3.0 that drops what it doesn't know, one of 4.0, one whose groups are
-categories), Thunderbird, which changes cards without a condition, and the desk add numbers to cards, take numbers away, add and remove cards, and put
-people into groups and out of them. The desk edits older copies, and puts edits together by its own
-merge. Meanwhile the gateway and the server are killed and started again, the book forgets removals,
-and the file is resynced. In the end all copies are equal, and each edit that got its 2xx is there,
-unless a later one took it away.
+categories), Thunderbird, which changes cards without a condition, and the desk add numbers to
+cards, take numbers away, add and remove cards, and put people into groups and out of them. The
+desk edits older copies, and puts edits together by its own merge. Meanwhile the gateway and the
+server are killed and started again, the book forgets removals, and the file is resynced. In the end
+all copies are equal, and each edit that got its 2xx is there, unless a later one took it away.
 
 `SEEDS=20 ./test carddav_random` runs more of them.
 """

@@ -13,6 +13,7 @@ import time
 import unittest
 import zipfile
 from contextlib import redirect_stdout
+from unittest import mock
 
 from http_requests import card
 from program import PATIENCE, Folder, Server, run
@@ -22,7 +23,20 @@ from test_python_client import ClientTest
 from tosculai import Office, Unreachable
 from tosculai_tools import follow
 
-SAID = 6  # seconds; 3 on a machine that isn't busy
+SAID = 3  # seconds
+
+
+class Clock:
+    """A clock that runs while the client waits, and not while others have the processors."""
+
+    def __init__(self):
+        self.now = 0.0
+
+    def monotonic(self):
+        return self.now
+
+    def sleep(self, seconds):
+        self.now += seconds
 TOSCULAI = [sys.executable, str(FOLDER / "tosculai.py")]
 
 
@@ -173,27 +187,29 @@ class Sockets(ClientTest):
 
     def test_nobody_listens(self):
         for path in self.path + "x", str(self.folder / "file"):
-            begun = time.monotonic()
-            with self.assertRaisesRegex(Unreachable, "unix:" + path):
+            clock = Clock()
+            with mock.patch("tosculai.time", clock), \
+                    self.assertRaisesRegex(Unreachable, "unix:" + path):
                 Office("unix:" + path).books()
-            self.assertLess(time.monotonic() - begun, SAID)
+            self.assertLessEqual(clock.now, SAID)
 
 
 class DeadServers(unittest.TestCase):
     """What no connection can be made to is said within 3 seconds; a slow reply isn't."""
 
     def seconds_of(self, url, **options):
-        begun = time.monotonic()
-        with self.assertRaises(Unreachable) as caught:
+        clock = Clock()
+        with mock.patch("tosculai.time", clock), self.assertRaises(Unreachable) as caught:
             Office(url, **options).books()
-        return time.monotonic() - begun, str(caught.exception)
+        return clock.now, str(caught.exception)
 
     def test_nothing_listens(self):
         with socket.socket() as one:
             one.bind(("127.0.0.1", 0))
             seconds, said = self.seconds_of(f"http://127.0.0.1:{one.getsockname()[1]}")
         self.assertIn("refused", said)
-        self.assertLess(seconds, SAID)
+        self.assertGreater(seconds, 1)  # it may be about to start
+        self.assertLessEqual(seconds, SAID)
 
     def test_nobody_accepts(self):
         """The queue of a listener is full: the system drops what comes, as a dead machine does."""
@@ -205,11 +221,13 @@ class DeadServers(unittest.TestCase):
             for it in waiting:
                 it.setblocking(False)
                 it.connect_ex(place)
-            seconds, said = self.seconds_of(f"http://127.0.0.1:{place[1]}")
+            begun = time.monotonic()
+            with self.assertRaisesRegex(Unreachable, "timed out"):
+                Office(f"http://127.0.0.1:{place[1]}", connect_timeout=0.5).books()
+            self.assertGreater(time.monotonic() - begun, 0.4)
+            self.assertLess(time.monotonic() - begun, PATIENCE)
             for it in waiting:
                 it.close()
-        self.assertIn("timed out", said)
-        self.assertLess(seconds, SAID)
 
     def test_a_slow_reply(self):
         """A reply may take longer than a connection."""

@@ -22,16 +22,17 @@ from gateway.cards import FORM, READ, SHOWN, bare_uid, key_of, name_of
 from gateway.categories import category, is_categories, raw_values, value_of
 from gateway.files import MARK, SMALL, file_of
 
-LINES_MAX = 2_000  # of a card that gets the line
+SAID_MAX = 2_000  # lines and categories of a card that gets the line
 CACHED = 300  # characters of a line whose digest is kept in memory
 WIDTH = 8  # letters of a digest
-LINE = re.compile(rf"([0-9]+)-([\w-]{{{WIDTH}}})-((?:[\w-]{{{WIDTH}}})*)", re.ASCII)
+LINE = re.compile(rf"([0-9]+)-([\w-]{{{WIDTH}}})-((?:[\w-]{{{WIDTH}}}){{0,{SAID_MAX}}})",
+                  re.ASCII)
 SOME_LINE = re.compile(READ, re.IGNORECASE)
 OCTETS = re.compile(rf"[A-Za-z0-9+/= ]{{{SMALL},}}")
 # They have no line of their own in an edit.
 FRAME = {"BEGIN", "END", "VERSION", "UID", SHOWN, READ}
 # What a card has once: if two change it, the later one wins.
-ONCE = {*vcard3.ONCE, "PRODID", "PHOTO"}
+ONCE = {*vcard3.ONCE, *(vcard3.NAMES.get(it, it) for it in vcard3.ONCE), "PRODID", "PHOTO"}
 
 
 class Read(NamedTuple):
@@ -80,12 +81,17 @@ def said_in(lines: Iterable[str]) -> Counts[str]:
 
 
 def with_line(text: str, book: int) -> str:
-    """The text that is read of a card, with the line."""
-    lines = lines_of(text)
-    if len(lines) > LINES_MAX:
+    """The text that is read of a card, with the line.
+
+    A card has one already if it was imported from a program's export.
+    """
+    if SOME_LINE.search(text):
+        rest = (it for it in lines_of(text) if name_of(it) != READ)
+        text = "".join(map(vcard3.folded, rest))
+    said = sorted(said_in(lines_of(text)).elements())
+    if len(said) > SAID_MAX:
         return text
-    said = "".join(sorted(said_in(lines).elements()))
-    line = f"{READ}:{FORM}-{digest(f'{book} {bare_uid(uid_of(text))}')}-{said}"
+    line = f"{READ}:{FORM}-{digest(f'{book} {bare_uid(uid_of(text))}')}-{''.join(said)}"
     head, end, rest = text.rpartition("END:VCARD")
     return head + vcard3.folded(line) + end + rest
 
