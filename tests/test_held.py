@@ -45,6 +45,9 @@ class HeldTest(ServedTest):
     def is_refused(self, connection):
         """Whether it was refused as busy, once all that was sent has been handled."""
         self.let_finish()
+        return self.has_refusal(connection)
+
+    def has_refusal(self, connection):
         connection.socket.setblocking(False)
         try:
             came = connection.socket.recv(1 << 16)
@@ -69,9 +72,11 @@ class HeldTest(ServedTest):
 class Bodies(HeldTest):
     def test_many_large_bodies(self):
         """Of 300 clients with the largest body seven fit into 64 MiB; the rest is told to wait."""
-        self.restart(more=["--max-open", 400])
+        # No client is given up for silence, however slow the machine is.
+        self.restart(more=["--max-open", 400, "--idle-timeout", 3600])
         clients = [self.announce(LARGEST) for _ in range(300)]
-        admitted = [it for it in clients if not self.is_refused(it)]
+        self.let_finish()
+        admitted = [it for it in clients if not self.has_refusal(it)]
         self.assertEqual(clients[:7], admitted)
         for connection in admitted:
             connection.send(b"x" * (LARGEST - 1))
@@ -94,7 +99,8 @@ class Bodies(HeldTest):
         self.assertTrue(self.is_refused(self.announce(LARGEST)))
         rest = 16_384 - len(HEAD % 16_000)
         small = [self.announce(rest) for _ in range(100)]
-        self.assertFalse(any(self.is_refused(it) for it in small))
+        self.let_finish()
+        self.assertFalse(any(self.has_refusal(it) for it in small))
         for connection in small:
             connection.send(b"x" * (rest - 1))
         self.serve_small()
