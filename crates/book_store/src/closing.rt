@@ -108,7 +108,9 @@ fn open_new(
     path: &str,
     target: &str,
     log: &str,
-) -> Result<Connection<FileStore<FileFrom<Unknown>>>, OpenFault> {
+) -> Result<Connection<FileStore<FileFrom<Unknown>>>, OpenFault>
+    ensures { IfOk result (λ connection. connection.in_transaction ≡ false) }
+{
     match Connection::open_from(rt, target, false, Unknown) {
         Ok(connection) => {
             // Before anything is written that others may not read.
@@ -173,10 +175,21 @@ fn log_of(rt: &HostRuntime, path: &str) -> Result<String, OpenFault> {
     }
 }
 
-/// Removes a log that the opening of the file made: the file had none before, and it has no octets.
-/// The file must be held meanwhile, so that nobody else writes the log.
+/// The octets of the smallest page. A log with fewer holds no change.
+const PAGE_OCTETS_MIN: u64 = 512;
+
+/// Whether the log may hold a change.
+fn may_hold_change(rt: &HostRuntime, log: &str) -> bool {
+    match fs::metadata(rt, log) {
+        Ok(metadata) => metadata.len() >= PAGE_OCTETS_MIN,
+        Err(_) => true,
+    }
+}
+
+/// Removes a log that the opening of the file made: the file had none before, and it holds no
+/// change. The file must be held meanwhile, so that nobody else writes the log.
 fn forget_log(rt: &HostRuntime, had_log: bool, log: &str) {
-    if !had_log && is_empty_file(rt, log) {
+    if !had_log && !may_hold_change(rt, log) {
         let _removed = fs::remove_file(rt, log);
     }
 }

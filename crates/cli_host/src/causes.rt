@@ -3,7 +3,7 @@
 //! What it finds may differ from what happened: another program may have closed the file since. No
 //! contract says what a file or a port is, so nothing is proved of it but that it returns.
 
-use crate::file_care::{log_of, remove_if_empty};
+use crate::file_care::{log_of, remove_if_vacant};
 use crate::host::loopback;
 use cli_orders::FoundCause;
 use sqlite_std_file::{OpenError, Unknown};
@@ -83,10 +83,10 @@ fn is_writable(rt: &HostRuntime, file: &str) -> bool {
         .is_ok()
 }
 
-/// Removes the store file's log if it has no octets.
-fn remove_empty_log(rt: &HostRuntime, file: &str) {
+/// Removes the store file's log if it holds no change.
+fn remove_vacant_log(rt: &HostRuntime, file: &str) {
     if let Ok(log) = log_of(rt.alloc(), file) {
-        let _removed = remove_if_empty(rt, log.as_str());
+        let _removed = remove_if_vacant(rt, log.as_str());
     }
 }
 
@@ -112,7 +112,7 @@ fn cause_of_opening(rt: &HostRuntime, file: &str, error: OpenError) -> FoundCaus
 fn open_once(rt: &HostRuntime, file: &str) -> Option<FoundCause> {
     match sqlite_std_file::open(rt, file, Unknown) {
         Ok(_held) => {
-            remove_empty_log(rt, file);
+            remove_vacant_log(rt, file);
             None
         }
         Err(error) => Some(cause_of_opening(rt, file, error)),

@@ -29,11 +29,29 @@ pub(crate) fn is_there(rt: &HostRuntime, path: &str) -> bool {
     fs::exists(rt, path).unwrap_or(true)
 }
 
-/// The path without a link in it, or as it is if nothing is there.
+/// Whether a link is at the path.
+fn is_link(rt: &HostRuntime, path: &str) -> bool {
+    match fs::symlink_metadata(rt, path) {
+        Ok(found) => found.file_type().is_symlink(),
+        Err(_) => false,
+    }
+}
+
+/// Where the path leads if a link is there, and else the path.
 pub(crate) fn real_name(rt: &HostRuntime, path: &str) -> Result<String, NoMemory> {
-    match fs::canonicalize(rt, path) {
-        Ok(real) => Ok(format!(in rt.alloc(); "{}", real.as_str())?),
-        Err(_) => Ok(format!(in rt.alloc(); "{path}")?),
+    if is_link(rt, path) {
+        if let Ok(real) = fs::canonicalize(rt, path) {
+            return Ok(format!(in rt.alloc(); "{}", real.as_str())?);
+        }
+    }
+    Ok(format!(in rt.alloc(); "{path}")?)
+}
+
+/// Whether both paths lead to one file.
+pub(crate) fn are_same_file(rt: &HostRuntime, one: &str, other: &str) -> bool {
+    match (fs::canonicalize(rt, one), fs::canonicalize(rt, other)) {
+        (Ok(one), Ok(other)) => one.as_str() == other.as_str(),
+        _ => false,
     }
 }
 
@@ -60,10 +78,13 @@ pub(crate) fn remove_with_log(rt: &HostRuntime, file: &str) -> Result<(), Stop> 
     remove_log(rt, file)
 }
 
-/// Removes the file if it has no octets.
-pub(crate) fn remove_if_empty(rt: &HostRuntime, path: &str) -> Result<(), Stop> {
+/// The octets of the smallest page. A store or a log with fewer holds nothing.
+const PAGE_OCTETS_MIN: u64 = 512;
+
+/// Removes the file or the log if it holds nothing.
+pub(crate) fn remove_if_vacant(rt: &HostRuntime, path: &str) -> Result<(), Stop> {
     match fs::metadata(rt, path) {
-        Ok(found) if found.len() == 0 => remove(rt, path),
+        Ok(found) if found.len() < PAGE_OCTETS_MIN => remove(rt, path),
         _ => Ok(()),
     }
 }

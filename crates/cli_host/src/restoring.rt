@@ -4,8 +4,8 @@
 
 use crate::admin_store::AdminStore;
 use crate::file_care::{
-    copy_synced, is_there, log_of, on_device, real_name, remove, remove_if_empty, remove_log,
-    remove_with_log, sync_folder_of, take_access,
+    are_same_file, copy_synced, is_there, log_of, on_device, real_name, remove_if_vacant,
+    remove_log, remove_with_log, sync_folder_of, take_access,
 };
 use crate::lost_numbers::pairs_past;
 use base_types::{Items, NoMemory, Text};
@@ -332,9 +332,9 @@ fn make_like_old(
 /// Removes the files that were made to be held, if nothing was put in their place.
 fn forget_vacant(rt: &HostRuntime, file: &str, old: &Old) {
     if matches!(old, Old::Vacant(_, true)) {
-        let _removed = remove_if_empty(rt, file);
+        let _removed = remove_if_vacant(rt, file);
         if let Ok(log) = log_of(rt.alloc(), file) {
-            let _removed_log = remove_if_empty(rt, log.as_str());
+            let _removed_log = remove_if_vacant(rt, log.as_str());
         }
     }
 }
@@ -343,7 +343,7 @@ fn forget_vacant(rt: &HostRuntime, file: &str, old: &Old) {
 /// restore that was stopped.
 fn fresh_name(rt: &HostRuntime, backup: &str, file: &str) -> Result<String, NoMemory> {
     let first = format!(in rt.alloc(); "{file}.restoring")?;
-    if first.as_str() == backup {
+    if are_same_file(rt, first.as_str(), backup) {
         return Ok(format!(in rt.alloc(); "{file}.restoring-2")?);
     }
     Ok(first)
