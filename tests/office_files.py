@@ -38,6 +38,12 @@ def fault(number):
     return Ended(3, b"", b"fault open %d\n" % number)
 
 
+def run_order(*words, **options):
+    """How an order ends, without the sentence before its last line, which test_words has."""
+    ended = run(*words, **options)
+    return ended._replace(err=ended.err[ended.err.rfind(b"\n", 0, -1) + 1:])
+
+
 def log_of(file):
     return Path(f"{file}-wal")
 

@@ -14,9 +14,9 @@ from http_requests import (
 from model.books import Office
 from model.http import Session
 from office_files import (
-    QuickFolder, contents, copy as copy_by_hand, fault, log_of, make, serve, up_to,
+    QuickFolder, contents, copy as copy_by_hand, fault, log_of, make, run_order, serve, up_to,
 )
-from program import Ended, Server, run
+from program import Ended, Server
 from tables import Tables, first_store, setUpModule, small_store  # noqa: F401
 
 SEEDS = range(1, 4)
@@ -51,7 +51,7 @@ class CopyTest(unittest.TestCase):
         """Copies the file; the new one alone holds what the file holds with its log."""
         file, new = file or self.file, new or self.new
         before = self.contents(file)
-        self.assertEqual(copied(count), run("copy", file, new))
+        self.assertEqual(copied(count), run_order("copy", file, new))
         self.assertFalse(log_of(new).exists())
         self.assertEqual(before, self.contents(new))
         self.assertEqual(before, self.contents(file))
@@ -66,7 +66,7 @@ class Copies(CopyTest):
         filled[4] = ("keeping", [(1, 3), (2, 17), (3, 10_000)])
         self.lay(filled)
         self.assert_copied(3)
-        self.assertEqual(run("verify", self.file), run("verify", self.new))
+        self.assertEqual(run_order("verify", self.file), run_order("verify", self.new))
         asked = [tally("staff"), sync("staff"), sync("staff", "1/4/4"), sync("clients", "2/4/4"),
                  import_rows("staff", "k1", "no rows"), put("staff", "zoe", "Zoe")]
         self.assertEqual(serve(self.file, *asked), serve(self.new, *asked))
@@ -136,7 +136,7 @@ class Copies(CopyTest):
         """The copy remains."""
         self.lay(small_store())
         with open("/dev/full", "wb") as full:
-            ended = run("copy", self.file, self.new, stdout=full)
+            ended = run_order("copy", self.file, self.new, stdout=full)
         self.assertEqual((3, b"fault device 1\n"), (ended.status, ended.err))
         self.assertEqual(self.contents(self.file), self.contents(self.new))
 
@@ -169,7 +169,7 @@ class Refusals(CopyTest):
 
     def refuse(self, number, file=None, new=None):
         before = self.there()
-        self.assertEqual(fault(number), run("copy", file or self.file, new or self.new))
+        self.assertEqual(fault(number), run_order("copy", file or self.file, new or self.new))
         self.assertEqual(before, self.there())
 
     def test_something_is_there(self):
@@ -187,7 +187,7 @@ class Refusals(CopyTest):
 
     def test_places_where_no_file_can_be(self):
         self.lay(small_store())
-        run("tally", self.file, "staff")
+        run_order("tally", self.file, "staff")
         self.refuse(1, new=self.folder / "nowhere" / "new.db")
         self.refuse(1, new=self.file / "new.db")
         self.refuse(1, new=":memory:")
@@ -198,16 +198,16 @@ class Refusals(CopyTest):
         self.refuse(1, file=self.folder / "nothing.db")
         text = self.folder / "text.db"
         text.write_bytes(b"This is no database.\n" * 100)
-        run("verify", text)
+        run_order("verify", text)
         self.refuse(2, file=text)
         with Tables(self.folder / "first.db") as tables:
             tables.lay(first_store())
-        run("verify", self.folder / "first.db")
+        run_order("verify", self.folder / "first.db")
         self.refuse(3, file=self.folder / "first.db")
         self.lay(small_store())
         with Tables(self.file) as tables:
             tables.run("UPDATE book SET created = 4 WHERE id = 1")
-        run("verify", self.file)
+        run_order("verify", self.file)
         self.refuse(4)
 
     def test_while_it_is_served(self):
@@ -223,9 +223,9 @@ class Stops(CopyTest):
 
     def test_each_write(self):
         self.lay(small_store())
-        run("verify", self.file)
+        run_order("verify", self.file)
         before, done = self.contents(self.file), self.folder / "done.db"
-        self.assertEqual(copied(3), run("copy", self.file, done))
+        self.assertEqual(copied(3), run_order("copy", self.file, done))
         last = 2 * done.stat().st_size + 4096
         for room in [*range(0, last, last // 40), last]:
             for is_killed in [False, True]:
@@ -233,7 +233,7 @@ class Stops(CopyTest):
                     place = self.folder / f"{room} {is_killed}"
                     file = copy_by_hand(self.file, place)
                     new = place / "new.db"
-                    ended = run("copy", file, new, preexec_fn=up_to(room, is_killed))
+                    ended = run_order("copy", file, new, preexec_fn=up_to(room, is_killed))
                     self.assertEqual(before, self.contents(file))
                     if ended.status == 0:
                         self.assertEqual(copied(3), ended)
@@ -247,7 +247,7 @@ class Stops(CopyTest):
     def assert_backup_or_nothing(self, new, whole):
         """The file opens as the whole copy, or not at all."""
         tried = copy_by_hand(new, new.parent / "tried")
-        ended = run("verify", tried)
+        ended = run_order("verify", tried)
         if ended.status == 0:
             self.assertEqual(whole, self.contents(new))
         else:

@@ -9,8 +9,8 @@ import json
 import unittest
 
 from http_requests import SYNC, get, put, remove, sync, tally
-from office_files import QuickFolder, contents, copy, fault, make, serve
-from program import Ended, run
+from office_files import QuickFolder, contents, copy, fault, make, run_order, serve
+from program import Ended
 from tables import Tables, card, first_store, setUpModule, small_store  # noqa: F401
 
 KEEP = 10_000
@@ -25,7 +25,7 @@ def resynced(count):
 
 
 def resync(file, skip=None):
-    return run("resync", file, *(["--skip", skip] if skip else []))
+    return run_order("resync", file, *(["--skip", skip] if skip else []))
 
 
 def bodies(replies):
@@ -78,7 +78,7 @@ class ResyncTest(unittest.TestCase):
         wanted = after(before, skip or 1_000_000)
         for table, rows in zip(wanted, self.rows()):
             self.assertEqual(table, rows)
-        self.assertEqual(0, run("verify", self.file).status)
+        self.assertEqual(0, run_order("verify", self.file).status)
 
 
 class Rows(ResyncTest):
@@ -158,7 +158,7 @@ class FullBooks(ResyncTest):
         self.assert_resynced(1, 1_000)
         number = CARDS_MAX + 2 + 1_000
         self.assertEqual([TOO_OLD], ask(self.file, sync("book-1", f"1/{number - 1}/{number - 1}")))
-        done = run("mirror", self.file, "book-1", "--pages", 1_000)
+        done = run_order("mirror", self.file, "book-1", "--pages", 1_000)
         self.assertEqual(b"pages 100 done yes", done.out.splitlines()[0])
         self.assertEqual(f"{SYNC}1/{number}/{number}".encode(), done.out.splitlines()[-1])
 
@@ -176,7 +176,7 @@ class Refusals(ResyncTest):
 
     def assert_refused(self, wanted, *arguments):
         before = self.rows()
-        self.assertEqual(wanted, run("resync", self.file, *arguments))
+        self.assertEqual(wanted, run_order("resync", self.file, *arguments))
         self.assertEqual(before, self.rows())
 
     def test_changes_spent(self):
