@@ -16,7 +16,6 @@ from program import PROGRAM, Ended, Server
 from tables import setUpModule  # noqa: F401
 
 TOO_OLD = {"cause": 4, "fault": "valid-sync-token", "number": 10}
-SPENT = Ended(1, b"", b"refused changes-spent 13\n")
 
 
 def bodies(replies):
