@@ -63,7 +63,9 @@ class Arguments(Trial):
         """There is no such file, and the program says so: it has understood the arguments."""
         for row in GOOD:
             with self.subTest(row):
-                self.assertEqual(NO_FILE, self.run_here(arguments_of(row)))
+                ended = self.run_here(arguments_of(row))
+                line = ended.err[ended.err.rfind(b"\n", 0, -1) + 1:]  # after a sentence
+                self.assertEqual(NO_FILE, ended._replace(err=line))
 
     def test_arguments_without_an_order(self):
         """They ask for what `try` does."""

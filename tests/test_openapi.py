@@ -16,7 +16,7 @@ from program import ROOT
 TEXT = (ROOT / "docs/openapi.json").read_text(encoding="utf-8")
 DOCUMENT = Document(json.loads(TEXT))
 # Faults that no request of the run can bring about.
-NOT_TRIED = {"changes-spent", "store-fault", "no-memory"}
+NOT_TRIED = {"busy", "changes-spent", "store-fault", "no-memory"}
 
 BOOK = ["paths", "/books/{book}", "put"]
 SCHEMAS = ["components", "schemas"]

@@ -343,7 +343,8 @@ class Memory(FaultTest):
         announced its port by then."""
         pages = self.least("tally a.db staff", lambda ended: ended.status == 0) + 1_000
         ended = self.run_within("run a.db --port 0 --max-open 1000", pages)
-        self.assertEqual(NO_MEMORY, ended._replace(out=b""))
+        line = ended.err[ended.err.rfind(b"\n", 0, -1) + 1:]  # after its sentence
+        self.assertEqual(NO_MEMORY, ended._replace(out=b"", err=line))
         self.assertRegex(ended.out, rb"\A(listening 127\.0\.0\.1:[0-9]+\n)?\Z")
 
     def test_rows(self):

@@ -467,7 +467,7 @@ class Completion(unittest.TestCase):
                 (["contacts", "export", "--form", "co"], {"columns"}),
                 (["contacts", "run", "--port", ""], set()),
                 (["contacts", "c"], {"check", "convert", "copy"}),
-                (["contacts", "run", "a.db", "--max"], {"--max-open"}),
+                (["contacts", "run", "a.db", "--max"], {"--max-held", "--max-open"}),
                 (["contacts", "tally", "a.db", ""], set())]
         found = self.completed(*(words for words, _ in rows))
         self.assertEqual([want for _, want in rows], found)

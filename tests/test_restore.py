@@ -60,6 +60,10 @@ class RestoreTest(unittest.TestCase):
         """What is in the folder."""
         return sorted(it.name for it in self.folder.iterdir() if not it.name.startswith("look"))
 
+    def own_names(self):
+        """The same, but for a log of the copy: looking at one that is no store makes it."""
+        return [it for it in self.names() if it != "backup.db-wal"]
+
     def restore(self, *options):
         return run_order("restore", self.backup, self.file, *options)
 
@@ -91,7 +95,7 @@ class Restores(RestoreTest):
                          {it["uid"]: it["version"] for it in page["members"]})
         for uid, version in lost.items():
             with self.subTest(uid=uid):
-                refused, = ask(self.file, put("staff", uid, "Zoe", f"?expect={version}"))
+                refused, = ask(self.file, put("staff", uid, "Zoe", f"?version={version}"))
                 self.assertEqual("version-mismatch", refused["fault"])
 
     def test_lost_books(self):
@@ -257,10 +261,10 @@ class Refusals(RestoreTest):
     """The file stays as it was, and nothing is left beside it."""
 
     def assert_refused(self, wanted, *options):
-        before, names = self.file.read_bytes(), self.names()
+        before, names = self.file.read_bytes(), self.own_names()
         self.assertEqual(wanted, self.restore(*options))
         self.assertEqual(before, self.file.read_bytes())
-        self.assertEqual(names, self.names())
+        self.assertEqual(names, self.own_names())
 
     def test_running_server(self):
         self.lay()

@@ -160,7 +160,7 @@ class FullBooks(ResyncTest):
         self.assertEqual([TOO_OLD], ask(self.file, sync("book-1", f"1/{number - 1}/{number - 1}")))
         done = run_order("mirror", self.file, "book-1", "--pages", 1_000)
         self.assertEqual(b"pages 100 done yes", done.out.splitlines()[0])
-        self.assertEqual(f"{SYNC}1/{number}/{number}".encode(), done.out.splitlines()[-1])
+        self.assertEqual(f"token {SYNC}1/{number}/{number}".encode(), done.out.splitlines()[-1])
 
 
 class Refusals(ResyncTest):
@@ -245,7 +245,7 @@ class PutBack(ResyncTest):
         # No version of the lost time names another card now.
         for uid, version in lost.items():
             with self.subTest(uid=uid):
-                change = put("staff", uid, "Zoe", f"?expect={version}")
+                change = put("staff", uid, "Zoe", f"?version={version}")
                 refused, = ask(self.file, change)
                 self.assertEqual("version-mismatch", refused["fault"])
 
@@ -259,8 +259,8 @@ class PutBack(ResyncTest):
         self.assertEqual([TOO_OLD] * len(tokens), ask(self.file, *asked))
         ask(self.file, put("staff", "c", "Cy"), remove("staff", "c"))
         self.assertEqual([TOO_OLD] * len(tokens), ask(self.file, *asked))
-        self.assertEqual({"members": [], "token": f"{SYNC}1/12/12", "truncated": False},
-                         ask(self.file, sync("staff", "1/12/12"))[0])
+        self.assertEqual({"members": [{"status": 404, "uid": "c"}], "token": f"{SYNC}1/14/14",
+                          "truncated": False}, ask(self.file, sync("staff", "1/12/12"))[0])
 
     def test_cards(self):
         """Cards and versions are as they were."""

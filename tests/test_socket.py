@@ -219,17 +219,15 @@ class Requests(SocketTest):
     def test_who(self):
         """The log names the user that the front server names, and not at a port."""
         who = ["Host: office", "X-Remote-User: Zo\xeb Q"]
-        for more, said in [(["--socket", "s", "--host", "office"], rb" user Zo\\xc3\\xab\\x20Q"),
-                           (["--port", "0", "--host", "office"], b"")]:
-            with self.subTest(more):
-                server = Server("a.db", order="run", more=["--log", *more], cwd=self.folder)
-                self.addCleanup(server.kill)
-                for book in "staff", "clients":
-                    server.ask(request("PUT", f"/books/{book}", fields=who, host=False))
+        log = ["--log", "--host", "office"]
+        for starts, said in [(lambda: self.start(more=["--log"]), rb" user Zo\\xc3\\xab\\x20Q"),
+                             (lambda: Server(self.folder / "a.db", order="run", more=log), b"")]:
+            with self.subTest(said), starts() as server:
+                server.ask(request("PUT", "/books/staff", fields=who, host=False))
                 server.ask(request("DELETE", "/books/staff/cards/a", fields=who, host=False))
-                lines = server.stop().err.splitlines()
-                self.assertRegex(lines[-1], rb"microseconds [0-9]+" + said + rb" reply \{.*\}\Z")
-                self.assertIn(b'"fault":"no-such-card"', lines[-1])
+                line = server.stop().err.splitlines()[-1]
+                self.assertRegex(line, rb"microseconds [0-9]+" + said + rb" reply \{.*\}\Z")
+                self.assertIn(b'"fault":"no-such-card"', line)
 
     def test_the_log(self):
         server = self.start(more=["--log"])

@@ -38,13 +38,12 @@ class ClosedStreams(OrderTest):
     def test_log(self):
         """The listening socket isn't standard error."""
         self.make_books()
-        with Server(self.folder / "a.db", connections=2, more=["--log"],
+        with Server(self.folder / "a.db", order="run", more=["--log", "--host", "office"],
                     preexec_fn=self.without(0, 2)) as server:
             for status in b"201", b"200":
                 self.assertEqual(b"HTTP/1.1 " + status,
                                  server.ask(put("staff", "a", "Ann"))[:12])
-            ended = server.end()
-            self.assertEqual((0, b""), (ended.status, ended.err))
+            self.assertEqual(b"", server.stop().err)
 
     def test_orders(self):
         """With all three closed, no order writes into the file of books."""
