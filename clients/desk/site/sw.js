@@ -8,6 +8,7 @@
 
 const SET = "desk-files";
 const PAUSE = 2000;
+const LOADING = 60000; // that a page may take until it is among the open ones
 const FILES = [
   "./", "icon-180.png", "icon-192.png", "icon-512.png", "icon-mask-512.png", "icon.svg",
   "js/actions.js", "js/api.js", "js/bookfiles.js", "js/bulk.js", "js/dates.js", "js/desk.js",
@@ -28,11 +29,12 @@ const FILES = [
 const at = (file) => new URL(file, self.registration.scope).href;
 const PAGE = at("./");
 const OWN = new Set(FILES.map(at));
-const sets = new Map(); // by the pages that are open: where their files come from
+const sets = new Map(); // by page: from which set its files come, and since when
 let newest = null; // the name of the newest whole set, once it is known
+let turn = Promise.resolve();
 
 self.addEventListener("install", (event) => {
-  event.waitUntil(fetchAll().then(keep));
+  event.waitUntil(fetchAll().then((files) => alone(() => keep(files))));
   self.skipWaiting();
 });
 
@@ -60,11 +62,22 @@ async function find() {
   newest = names.filter((_, place) => pages[place]).pop() ?? null;
 }
 
+/**
+ * Works while nothing else changes the sets, in this worker or another: of two at once, each would
+ * drop what the other keeps.
+ */
+function alone(work) {
+  const run = () => find().then(work);
+  if (self.navigator.locks) return self.navigator.locks.request(SET, run);
+  turn = turn.then(run, run);
+  return turn;
+}
+
 /** The file that is kept, or the server's if none is. */
 async function answer({ request, clientId, resultingClientId }, address) {
   if (!newest) await find();
-  if (resultingClientId) sets.set(resultingClientId, newest);
-  const name = sets.get(clientId) ?? newest;
+  if (resultingClientId) sets.set(resultingClientId, { name: newest, since: Date.now() });
+  const name = sets.get(clientId)?.name ?? newest;
   const kept = name && await caches.match(address, { cacheName: name });
   return kept || fetch(request, { cache: "no-cache" });
 }
@@ -80,14 +93,15 @@ function fetchAll() {
 
 /** Keeps files as a new set, the page last. Sets that no page needs are dropped. */
 async function keep(files) {
-  if (!newest) await find();
   const name = `${SET} ${String(Date.now()).padStart(15, "0")}`;
   const cache = await caches.open(name);
   const page = files.find((it) => it[0] === PAGE);
   for (const file of [...files.filter((it) => it !== page), page]) await cache.put(...file);
   const open = new Set((await self.clients.matchAll()).map((it) => it.id));
-  for (const id of sets.keys()) if (!open.has(id)) sets.delete(id);
-  const needed = new Set([name, newest, ...sets.values()]);
+  for (const [id, { since }] of sets) {
+    if (!open.has(id) && Date.now() - since > LOADING) sets.delete(id);
+  }
+  const needed = new Set([name, newest, ...[...sets.values()].map((it) => it.name)]);
   for (const it of await caches.keys()) {
     if (it.startsWith(SET) && !needed.has(it)) await caches.delete(it);
   }
@@ -97,13 +111,16 @@ async function keep(files) {
 /** Fetches what the server has now, and keeps it if it isn't what is kept: all of it, or none. */
 async function refresh() {
   await new Promise((resolve) => { setTimeout(resolve, PAUSE); });
+  await alone(renew);
+}
+
+async function renew() {
   let files;
   try {
     files = await fetchAll();
   } catch {
     return; // without the network the kept files stay
   }
-  if (!newest) await find();
   const isNew = await Promise.all(files.map((it) => isOther(...it)));
   if (!isNew.includes(true)) return;
   await keep(files);

@@ -24,10 +24,17 @@ def click(page, name, modifiers=0):
         const row = [...document.querySelectorAll('#list [role=option]')]
             .find((it) => it.querySelector('.name').textContent === {json.dumps(name)});
         if (!row) return null;
+        window.reached = 'nothing';
+        addEventListener('click', ({{ target }}) => {{
+            const it = target.closest('[role=option]')?.querySelector('.name') ?? target;
+            window.reached = it.textContent.slice(0, 80) || it.outerHTML.slice(0, 80);
+        }}, {{ capture: true, once: true }});
         const box = row.getBoundingClientRect();
         return [box.x + 120, box.y + box.height / 2];
     }})()""")
     page.click(*place, modifiers)
+    reached = page.run("window.reached")
+    assert reached == name, f"a press of {name} reached {reached}"
 
 
 def show(page, uid, name, book="clients"):

@@ -156,6 +156,9 @@ def new_files(trial):
     page.wait(f"{brand} === 'Contacts'")
 
 
+PLACE = "document.querySelector('#pane').scrollTop"
+
+
 @step
 def looks(trial):
     """Pictures: dark and light, all widths. Nothing is wider than the page, or hard to touch."""
@@ -172,6 +175,8 @@ def looks(trial):
             admin.run("location.hash = '#/card/clients/c12'")
             admin.wait(f"{TITLE} === 'Miriam O’Hara'")
             admin.rest(300)
+            # However far the card before it was scrolled, it begins at its top.
+            assert not admin.run(PLACE), (name, scheme)
             look(trial, admin, f"{name}-{scheme}-card", width)
             admin.run("document.querySelector('#pane .actions .round').click()")
             look(trial, admin, f"{name}-{scheme}-menu", width)
@@ -180,6 +185,8 @@ def looks(trial):
             admin.wait("document.querySelector('.form')")
             look(trial, admin, f"{name}-{scheme}-form", width)
             admin.press("Cancel", "document.querySelector('.form')")
+            admin.wait(f"{TITLE} === 'Miriam O’Hara'")
+            admin.run(f"{PLACE} = 1000")
     admin.scheme("light")
     admin.size(1280, 800)
 

@@ -222,20 +222,21 @@ export class Pane {
     const seen = await this.desk.queue.seen(book, uid);
     if (asked !== this.asked) return; // another card was asked for meanwhile
     const isThere = this.shown?.kind === "card" && keyOf(this.shown) === this.comingKey;
-    if (seen && isThere && openMenu(this.node)) {
+    const isStill = seen && isThere && openMenu(this.node);
+    if (isStill) {
       this.ask();
       this.again(); // once its menu is closed
     } else if (seen) {
       this.set({ kind: "card", book, uid });
       this.fillCard(book, uid, seen);
-      this.node.scrollTop = 0;
     } else {
       this.gone(book, uid);
-      this.node.scrollTop = 0;
     }
+    if (isFinal) this.desk.frame.showPane("card");
+    // A narrow page has hidden the pane until now, and what is hidden can't be scrolled.
+    if (!isStill) this.node.scrollTop = 0;
     if (!isFinal) return;
     if (seen) this.desk.lists.opened(book, uid);
-    this.desk.frame.showPane("card");
     this.desk.draw();
     if (isStaying()) this.node.querySelector("#card-name")?.focus({ preventScroll: true });
   }
