@@ -395,6 +395,28 @@ class Following(FollowingTest):
             return self.one()
         return one
 
+    def test_a_card_that_goes_while_it_is_told(self):
+        """It is there now, and gone by the next sync: a reply has no path twice."""
+        self.staff.put(card("a", "Ann"))
+        token, look, others = self.book.changes("").token, self.book.state.entry, []
+        self.staff.put(card("a", "Anna"))
+
+        def and_goes(*key):
+            found = look(*key)
+            if found and not others:
+                self.staff.remove("a")
+                others.append(threading.Thread(target=self.book.refresh))
+                others[0].start()
+                others[0].join(1)
+            return found
+
+        with mock.patch.object(self.book.state, "entry", and_goes):
+            changes = self.book.changes(token)
+        others[0].join()
+        self.assertEqual((["a.vcf"], []), ([it.name for it in changes.there], changes.gone))
+        later = self.book.changes(changes.token)
+        self.assertEqual(([], ["a.vcf"]), (later.there, later.gone))
+
     def test_a_book_that_forgets_between_two_pages(self):
         """The token of the first page is refused at the second one: the book is read anew."""
         for number in range(130):

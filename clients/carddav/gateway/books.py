@@ -272,9 +272,10 @@ class AddressBook:
         for page in self.pages(token, limit):
             members.update((it.uid, bool(it.version)) for it in page.members)
             token, truncated = page.token, page.truncated
-        self.refresh()  # so the copy is as new as the pages, or newer
-        # If the names were lost meanwhile, the token of before them is refused.
-        return self._told(members, bool(wrapped), wrapped_token(token, epoch), truncated)
+        with self.lock:  # so that no card is there and gone at once
+            self.refresh()  # so the copy is as new as the pages, or newer
+            # If the names were lost meanwhile, the token of before them is refused.
+            return self._told(members, bool(wrapped), wrapped_token(token, epoch), truncated)
 
     def _told(self, members: Dict[str, bool], has_token: bool, token: str,
               truncated: bool) -> Changes:
