@@ -215,8 +215,8 @@ impl BoundedHub {
     /// all of them once the head is complete, and those of its replies that are pending. The large
     /// ones together hold at most `most` octets, or only one of them is large. If the piece breaks
     /// this, what the connection holds is dropped: its session is closed, and the reply to
-    /// `HeadFault::Busy` is pending. The requests that it completed were handled all the same; only
-    /// one with a reply of more than 16,384 octets breaks it.
+    /// `HeadFault::Busy` is pending, or none if there is no memory for it or it isn't short. The
+    /// requests that the piece completed were handled all the same.
     ///
     /// If an allocation fails, some requests, from the first on, were handled completely, their
     /// replies are lost, and the session is closed.
