@@ -194,7 +194,7 @@ class StandsIn(unittest.TestCase):
     def test_it_is_what_the_order_does(self):
         with QuickFolder() as folder:
             self.assertEqual(self.small(folder, resynced.resync_rows, "rows"),
-                             self.small(folder, resynced.resync, "order"))
+                             self.small(folder, resynced.resync_by_order, "order"))
 
     def small(self, folder, resync, name="small"):
         file = folder / f"{name}.db"

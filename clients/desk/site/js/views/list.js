@@ -96,10 +96,21 @@ export class CardList {
     );
     const drawn = `${first} ${last} ${this.at}`;
     if (drawn === this.drawn) return;
+    // Rows that are drawn already stay, as while the list grows: a press of one would be lost.
+    const isKept = this.drawn.endsWith(` ${this.at}`);
     this.drawn = drawn;
-    const options = [];
-    for (let at = first; at < last; at += 1) options.push(this.option(at));
-    this.space.replaceChildren(...options);
+    const kept = new Map();
+    for (const it of [...this.space.children]) {
+      const at = Number(it.id.slice(4));
+      if (isKept && at >= first && at < last) kept.set(at, it);
+      else it.remove();
+    }
+    let before = null;
+    for (let at = last - 1; at >= first; at -= 1) {
+      const option = kept.get(at) ?? this.option(at);
+      if (!kept.has(at)) this.space.insertBefore(option, before);
+      before = option;
+    }
     this.drew();
   }
 
