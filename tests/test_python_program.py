@@ -366,6 +366,18 @@ class Installed(unittest.TestCase):
                     env={"PYTHONPATH": str(folder / "installed")}, timeout=PATIENCE)
                 self.assertIn(b"usage:", printed)
 
+    def test_an_editable_package(self):
+        """What `pip install --editable ./clients/python` installs names the folder itself."""
+        with Folder() as folder:
+            sys.path.insert(0, str(FOLDER / "packaging"))
+            import wheels
+            with zipfile.ZipFile(folder / wheels.build_editable(str(folder))) as wheel:
+                names = set(wheel.namelist())
+                self.assertEqual([f"{FOLDER}\n".encode()],
+                                 [wheel.read(it) for it in names if it.endswith(".pth")])
+                self.assertEqual(set(), {it for it in names if it.endswith(".py")})
+                self.assertEqual(1, sum(it.endswith("entry_points.txt") for it in names))
+
     def test_nothing_but_the_standard_library(self):
         own = {it.stem for it in FOLDER.glob("*.py")} | {"tosculai_tools"}
         for path in [*FOLDER.glob("*.py"), *FOLDER.glob("*/*.py")]:

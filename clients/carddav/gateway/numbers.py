@@ -16,12 +16,14 @@ from gateway.values import EXTENSION
 END = 7  # digits at a number's end that it is looked up by; a shorter one only by all of them
 LEAST = 8  # digits of an end that is enough
 # What is dialled before a national number, where it isn't 0: none in Italy, whose zeros stay.
-TRUNKS = {"39": "", "378": "", "1": "1", "7": "8", "36": "06"}
+TRUNKS = {"39": "", "225": "", "229": "", "241": "", "242": "", "378": "", "1": "1", "7": "8",
+          "36": "06"}
 # How many digits a national number has, in countries where nothing is dialled before it.
-LENGTHS = {"1": 10, "30": 10, "34": 9, "45": 8, "47": 8, "48": 9, "351": 9, "354": 7, "356": 8,
-           "357": 8, "371": 8, "420": 9}
+LENGTHS = {"1": 10, "30": 10, "34": 9, "45": 8, "47": 8, "48": 9, "225": 10, "229": 10, "241": 8,
+           "242": 9, "351": 9, "354": 7, "356": 8, "357": 8, "371": 8, "420": 9}
 ABROAD = {"1": "011", "7": "810"}  # what is dialled before a number of another country, if not 00
 COUNTRY = re.compile("[1-9][0-9]{0,2}")
+FROM_ABROAD = re.compile(r"[\s(]*00")
 
 
 class Number(NamedTuple):
@@ -42,13 +44,23 @@ def read_number(text: str, country: str = "") -> Optional[Number]:
     bare = EXTENSION.sub("", spelt.partition("@")[0]).partition(";")[0]
     ascii_text = ascii_digits(bare)
     has_plus = ascii_text.lstrip(" \t(\u202a-").startswith("+")
-    if has_plus:
+    if has_plus or FROM_ABROAD.match(ascii_text):
         ascii_text = ascii_text.replace("(0)", "", 1)
     digits = re.sub("[^0-9]", "", ascii_text)
     if not digits:
         return None
-    whole = digits if has_plus else whole_of(digits, country)
+    whole = without_trunk(digits if has_plus else whole_of(digits, country), country)
     return Number(whole or digits, bool(whole), EXTENSION.search(spelt) is not None)
+
+
+def without_trunk(whole: str, country: str) -> str:
+    """A number of the office's country without the zero of a national one: not +353 020 911 0177.
+
+    No national number begins with that zero there, so nothing else is meant.
+    """
+    trunk = TRUNKS.get(country, "0")
+    is_wrong = country and trunk.startswith("0") and whole.startswith(country + trunk)
+    return country + whole[len(country + trunk):] if is_wrong else whole
 
 
 def whole_of(digits: str, country: str) -> str:

@@ -10,7 +10,7 @@ from typing import TYPE_CHECKING, Dict, Iterable, List, Tuple
 
 from gateway.finding import best, fold
 from gateway.messages import TEXT, Fault, Reply
-from gateway.numbers import ascii_digits
+from gateway.numbers import FROM_ABROAD, ascii_digits
 from gateway.people import Person, sorted_people
 from gateway.phones import cisco, fanvil, grandstream, snom, yealink
 from gateway.phones.entries import NUMBER_MAX, Entry, Form, Listing, Number, in_charset
@@ -122,7 +122,8 @@ def dialled(text: str, plus: str) -> str:
     found = NUMBER.fullmatch(bare)
     if not found:
         return ""
-    number = re.sub("[^0-9]", "", bare.replace("(0)", "") if found.group(1) else bare)
+    is_abroad = found.group(1) or FROM_ABROAD.match(bare)
+    number = re.sub("[^0-9]", "", bare.replace("(0)", "") if is_abroad else bare)
     whole = (plus or "+") * bool(found.group(1)) + number
     return whole if 2 <= len(number) and len(whole) <= NUMBER_MAX else ""
 

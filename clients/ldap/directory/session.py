@@ -40,7 +40,7 @@ class Asked(NamedTuple):
 
     base: str
     scope: int
-    most: int
+    most: int  # entries that it wants; 0 is no limit
     has_values: bool
     wanted: List[str]
     filter: Element
@@ -52,6 +52,7 @@ class Pages(NamedTuple):
     cookie: bytes
     asked: Asked
     left: List[Entry]
+    has_more: bool  # whether there are more than the search wants
 
 
 class Session:
@@ -234,7 +235,7 @@ class Session:
         names = wanted.children()
         if len(names) > NAMES_MAX:
             raise Bad(f"at most {NAMES_MAX} attributes are given")
-        asked = Asked(base.text(), scope.number(), most.number() or MOST, not any(types_only.body),
+        asked = Asked(base.text(), scope.number(), most.number(), not any(types_only.body),
                       [it.text() for it in names], test)
         if asked.scope not in (0, 1, 2) or asked.most < 0:
             raise Bad("a scope is 0, 1 or 2, and a limit no negative number")
@@ -245,10 +246,10 @@ class Session:
         if PAGES in controls:
             yield from self._paged(asked, controls[PAGES][1])
             return
-        left = min(asked.most, MOST)
+        left = most_of_reply = min(asked.most or MOST, MOST)
         for entry in self._found(asked):
             if not left:
-                yield (result(DONE, TOO_MANY, f"there are more than {min(asked.most, MOST)}"),)
+                yield (too_many(most_of_reply),)
                 return
             left -= 1
             yield (written(entry, asked),)
@@ -267,18 +268,31 @@ class Session:
                                 and kept.asked == asked):
             yield (result(DONE, READ_ONLY, "this isn't the page of a search that goes on"),)
             return
-        left = kept.left if kept and cookie.body else list(self._found(asked))
+        if kept and cookie.body:
+            left, has_more = kept.left, kept.has_more
+        else:
+            left = list(self._found(asked))
+            has_more = 0 < asked.most < len(left)
+            left = left[:asked.most] if has_more else left
         if count <= 0:  # the rest isn't wanted
-            left = []
+            left, has_more = [], False
         page, rest = left[:min(count, MOST)], left[min(count, MOST):]
         for entry in page:
             yield (written(entry, asked),)
         if rest:
-            self._pages = Pages(secrets.token_bytes(16), asked, rest)
-        told = ber.write(ber.SEQUENCE, ber.number(0),
-                         ber.write(ber.OCTETS, self._pages.cookie if self._pages else b""))
-        yield (result(DONE, OK), ber.write(0xA0, ber.write(
-            ber.SEQUENCE, ber.text(PAGES), ber.write(ber.OCTETS, told))))
+            self._pages = Pages(secrets.token_bytes(16), asked, rest, has_more)
+        end = too_many(asked.most) if has_more and not rest else result(DONE, OK)
+        yield end, page_control(self._pages.cookie if self._pages else b"")
+
+
+def too_many(most: int) -> bytes:
+    return result(DONE, TOO_MANY, f"there are more than {most}")
+
+
+def page_control(cookie: bytes) -> bytes:
+    """The control of a page's end (RFC 2696, 2), with what the next page is asked by."""
+    value = ber.write(ber.SEQUENCE, ber.number(0), ber.write(ber.OCTETS, cookie))
+    return ber.write(0xA0, ber.write(ber.SEQUENCE, ber.text(PAGES), ber.write(ber.OCTETS, value)))
 
 
 def user_of(name: str) -> str:

@@ -29,11 +29,15 @@ def fact(name: str) -> str:
     return found.group(1)
 
 
-def members() -> Dict[str, bytes]:
-    """The files of the wheel by their paths."""
+def modules() -> Dict[str, bytes]:
+    """The files of Python by their paths."""
     paths = MODULES + [f"{PACKAGE}/{it}" for it in sorted(os.listdir(os.path.join(HERE, PACKAGE)))
                        if it.endswith(".py")]
-    files = {path: read(path) for path in paths}
+    return {path: read(path) for path in paths}
+
+
+def facts() -> Dict[str, bytes]:
+    """What a wheel says of itself."""
     scripts = re.findall(r'^[\w-]+ = "[\w.]+:\w+"$', read("pyproject.toml").decode(), re.MULTILINE)
     texts = {
         "METADATA": ["Metadata-Version: 2.1", f"Name: {fact('name')}",
@@ -43,13 +47,26 @@ def members() -> Dict[str, bytes]:
                   "Tag: py3-none-any"],
         "entry_points.txt": ["[console_scripts]", *(it.replace('"', "") for it in scripts)],
     }
-    for name, lines in texts.items():
-        files[f"{stem()}.dist-info/{name}"] = ("\n".join(lines) + "\n").encode()
-    return files
+    return {f"{stem()}.dist-info/{name}": ("\n".join(lines) + "\n").encode()
+            for name, lines in texts.items()}
 
 
 def stem() -> str:
     return f"{fact('name').replace('-', '_')}-{fact('version')}"
+
+
+def write_wheel(folder: str, files: Dict[str, bytes]) -> str:
+    """Writes a wheel of these files to this folder, and returns its name."""
+    name, record = f"{stem()}-py3-none-any.whl", ""
+    for path, octets in files.items():
+        digest = base64.urlsafe_b64encode(hashlib.sha256(octets).digest()).rstrip(b"=").decode()
+        record += f"{path},sha256={digest},{len(octets)}\n"
+    own = f"{stem()}.dist-info/RECORD"
+    whole = {**files, own: (record + f"{own},,\n").encode()}
+    with zipfile.ZipFile(os.path.join(folder, name), "w") as wheel:
+        for path, octets in whole.items():
+            wheel.writestr(zipfile.ZipInfo(path, DATE), octets, zipfile.ZIP_DEFLATED)
+    return name
 
 
 # The calls of pip.
@@ -60,15 +77,14 @@ def get_requires_for_build_wheel(config_settings: Any = None) -> List[str]:
 
 def build_wheel(wheel_directory: str, config_settings: Any = None,
                 metadata_directory: Optional[str] = None) -> str:
-    """Writes the wheel to this folder, and returns its name."""
-    files, name = members(), f"{stem()}-py3-none-any.whl"
-    record = ""
-    for path, octets in files.items():
-        digest = base64.urlsafe_b64encode(hashlib.sha256(octets).digest()).rstrip(b"=").decode()
-        record += f"{path},sha256={digest},{len(octets)}\n"
-    path = f"{stem()}.dist-info/RECORD"
-    files[path] = (record + f"{path},,\n").encode()
-    with zipfile.ZipFile(os.path.join(wheel_directory, name), "w") as wheel:
-        for path, octets in files.items():
-            wheel.writestr(zipfile.ZipInfo(path, DATE), octets, zipfile.ZIP_DEFLATED)
-    return name
+    return write_wheel(wheel_directory, {**modules(), **facts()})
+
+
+def get_requires_for_build_editable(config_settings: Any = None) -> List[str]:
+    return []
+
+
+def build_editable(wheel_directory: str, config_settings: Any = None,
+                   metadata_directory: Optional[str] = None) -> str:
+    """For `pip install --editable`: the modules stay in this folder (PEP 660)."""
+    return write_wheel(wheel_directory, {f"{stem()}.pth": (HERE + "\n").encode(), **facts()})

@@ -35,6 +35,7 @@ from tosculai_tools.memory import say
 from tosculai_tools.versions import New, Version, Versions
 
 KEPT = "memory"  # the fact that the versions of before are in the folder `versions`
+WHOLE = "whole"  # the fact that a sync without a token isn't at its end
 
 
 class Settings:
@@ -80,26 +81,53 @@ class Backup(FolderCopy):
 
     def apply(self, changes: Dict[str, bool], rows: Dict[str, Row], token: str,
               report: Report) -> None:
-        authors, new = self._settings.authors, []
-        authors.read()
-        for uid, row in rows.items():
-            before = self.row(uid)
-            number = row.version if row.text else before.version
-            if (row.version, row.text) != (before.version, before.text):
-                who = authors.who(self.book, uid, number, not row.text)
-                new.append(New(uid, number, row.text, who))
-                if self._settings.command and not self.versions.ends_with(uid, number, row.text):
-                    self._queue.add(uid, number, not row.text)
-        self._queue.commit()
-        self.versions.keep(new)  # also if a stop came before their lists were written
+        self._keep(rows)
         super().apply(changes, rows, token, report)
 
+    def _keep(self, rows: Dict[str, Row]) -> None:
+        """Keeps what the memory lacks of these cards, of which each is now as its row."""
+        self._settings.authors.read()
+        new = [it for it in (self._news(uid, row) for uid, row in rows.items()) if it]
+        for uid, number, text, _ in new if self._settings.command else ():
+            if not self.versions.ends_with(uid, number, text):
+                self._queue.add(uid, number, not text)
+        self._queue.commit()
+        self.versions.keep(new)  # also if a stop came before their lists were written
+
+    def _news(self, uid: str, row: Row) -> Optional[New]:
+        """The version or the removal that this row is, unless the memory has it.
+
+        A stop may have come after a version was kept, and before its row was. So a row that is as
+        before is compared with the last version.
+        """
+        before = self.row(uid)
+        is_same = (row.version, row.text) == (before.version, before.text)
+        last = self.versions.of(uid)[-1:] if is_same or not row.text else []
+        if is_same and (self.versions.ends_with(uid, row.version, row.text) if row.text
+                        else not last or last[0].removed):
+            return None
+        number = row.version if row.text else last[0].version if last else before.version
+        return New(uid, number, row.text,
+                   self._settings.authors.who(self.book, uid, number, not row.text))
+
     def take(self, page: Page, report: Report) -> None:
+        if not self.token and (self.rows or self.versions.folders()):
+            self._db.execute("INSERT OR IGNORE INTO facts VALUES (?, '1')", (WHOLE,))
+            self._db.commit()
         super().take(page, report)
+        if not page.truncated:
+            self._end_start()
         if self._settings.has_git:
             gone = sum(not it.text for it in page.members)
             git.commit(os.path.dirname(self.path), f"{self.book}: "
                        f"{len(page.members) - gone} cards changed, {gone} removed")
+
+    def _end_start(self) -> None:
+        """After a sync without a token no page names the cards that only the memory has."""
+        if self._db.execute("SELECT 1 FROM facts WHERE name = ?", (WHOLE,)).fetchone():
+            self._keep({uid: Row() for uid in self.versions.all() if uid not in self.rows})
+            self._db.execute("DELETE FROM facts WHERE name = ?", (WHOLE,))
+            self._db.commit()
 
     # The commands of --exec.
 
