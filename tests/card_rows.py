@@ -13,6 +13,7 @@ BEGIN = "BEGIN:VCARD\r\nVERSION:4.0\r\n"
 HEAD = BEGIN + "UID:a\r\nFN:Ann\r\n"
 END = "END:VCARD\r\n"
 ANN = HEAD + END
+LF_ANN = ANN.replace("\r", "")
 MOST = 262_144  # the most octets that a text may have, as it is read and as it is written
 
 
@@ -203,8 +204,8 @@ READ = [
     ("LF, a fold and a small name",
      "BEGIN:VCARD\nVERSION:4.0\nUID:a\nfn:An\n n\nEND:VCARD\n", "a", ANN),
     ("no end of the last line", ANN[:-2], "a", ANN),
-    ("LF alone", ANN.replace("\r", ""), "a", ANN),
-    ("LF alone, and no end of the last line", ANN.replace("\r", "")[:-1], "a", ANN),
+    ("LF alone", LF_ANN, "a", ANN),
+    ("LF alone, and no end of the last line", LF_ANN[:-1], "a", ANN),
     ("both line ends", "BEGIN:VCARD\r\nVERSION:4.0\nUID:a\r\nFN:Ann\nEND:VCARD\r\n", "a", ANN),
     ("a byte order mark", "\ufeff" + ANN, "a", ANN),
     ("an empty first line and a fold", "\n " + ANN, "a", ANN),
@@ -217,6 +218,10 @@ READ = [
     ("LF, and the most octets as it is written",
      (HEAD + LONG_NOTES).replace("\r", "") + "\nEND:VCARD\n", "a",
      HEAD + LONG_NOTES + "\r\n" + END),
+    ("LF, and a byte order mark", "\ufeff" + LF_ANN, "a", ANN),
+    ("LF, an empty first line and a fold", "\n " + LF_ANN, "a", ANN),
+    ("LF, and a fold inside BEGIN", "BEG\r\n IN:VC\n\tARD" + LF_ANN[11:], "a", ANN),
+    ("LF, and a parameter of VERSION", LF_ANN.replace("VERSION:", "VERSION;P=a:"), "a", ANN),
     ("a byte order mark, and the most octets with it",
      "\ufeff" + HEAD + LONG_NOTES[:-3] + "\r\n" + END, "a", HEAD + LONG_NOTES[:-3] + "\r\n" + END),
 ]
@@ -314,6 +319,24 @@ NO_CARDS = [
      "\ufeff" + HEAD + LONG_NOTES[:-3] + "\r\n" + END + "\n", 1),
 ]
 
+# The same, where each line ends in LF.
+NO_CARDS_IN_LF = [
+    ("BEGIN with a group", "g.BEGIN:VCARD\n", 5),
+    ("two byte order marks", "\ufeff\ufeff" + LF_ANN, 4),
+    ("a first line that begins with a space", " " + LF_ANN, 4),
+    ("version 3.0", LF_ANN.replace("4.0", "3.0"), 6),
+    ("VERSION with a group", LF_ANN.replace("VERSION", "g.VERSION"), 6),
+    ("VERSION third", "BEGIN:VCARD\nUID:a\nVERSION:4.0\nFN:Ann\nEND:VCARD\n", 6),
+    ("BEGIN again in line two", "BEGIN:VCARD\nBEGIN:VCARD\n", 4),
+    ("no END", LF_ANN[:-len("END:VCARD\n")], 7),
+    ("no END comes before no FN", "BEGIN:VCARD\nVERSION:4.0\n", 7),
+    ("no UID", LF_ANN.replace("UID:a\n", ""), 9),
+    ("no FN", LF_ANN.replace("FN:Ann\n", ""), 8),
+    ("no FN comes before no UID", "BEGIN:VCARD\nVERSION:4.0\nEND:VCARD\n", 8),
+    ("a second UID comes before no FN", LF_ANN.replace("FN:Ann", "UID:b"), 11),
+    ("a UID with a tab", LF_ANN.replace("UID:a", "UID:a\tb"), 10),
+]
+
 
 def accepted():
     """Each accepted text: what is shown, its octets, the card's UID, and the card's octets."""
@@ -338,3 +361,5 @@ def refused():
         yield name, octets(HEAD + lines + "\r\n" + END), cause
     for name, text, cause in NO_CARDS:
         yield name, text if isinstance(text, bytes) else octets(text), cause
+    for name, text, cause in NO_CARDS_IN_LF:
+        yield f"{name}, in LF", octets(text), cause

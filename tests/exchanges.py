@@ -291,6 +291,19 @@ CONNECTIONS = row(
     connection("a body that isn't whole", put("staff", "b", "Bob")[:-1]),
     connection("what was done", books(), tally("staff")),
 )
+IN_PIECES = row(
+    "edges of requests",
+    connection(
+        "an empty line first, a body of line feeds, and the beginning of a request",
+        b"\nPUT /a HTTP/1.1\r\nHost: office\r\ncontent-length:5\r\n\r\nab\n\nc",
+        b"GET /books HTTP/1.1\nhost: office\n\nGE",
+    ),
+    connection("nothing after version 1.0", STAFF, books(version="1.0", host=False), NEVER),
+    connection("nothing after the last word", fields("Connection: upgrade , CLOSE"), NEVER),
+    connection("4 octets of 5", fields("Content-Length: 000000000000005") + b"abcd"),
+    connection("a target of 16,369 octets", b"GET /" + 16_368 * b"a" + b" HTTP/1.0\n\n"),
+    connection("what was done", books()),
+)
 THREE_REQUESTS = row(
     "devices",
     connection("three requests", *THREE[:2], sync("staff")),
@@ -384,6 +397,7 @@ ROWS = [
     HEADS_THAT_CLOSE,
     LONG_HEADS,
     CONNECTIONS,
+    IN_PIECES,
     THREE_REQUESTS,
     EACH_COMMAND,
     AT_MOST_THREE_CHANGES,

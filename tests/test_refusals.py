@@ -113,8 +113,11 @@ REFUSALS = [
     ("the same book again", create("staff"), CONFLICT, fault("book-exists", 2)),
     ("a large letter", create("Staff"), BAD, BAD_NAME),
     ("a dot", create("staff.2"), BAD, BAD_NAME),
+    ("a dot and a 1", create("staff.1"), BAD, BAD_NAME),
     ("a space", create("%20"), BAD, BAD_NAME),
+    ("two words", create("our%20staff"), BAD, BAD_NAME),
     ("a letter of another alphabet", create("caf%C3%A9"), BAD, BAD_NAME),
+    ("a letter with two dots", create("b%C3%BCro"), BAD, BAD_NAME),
     ("41 letters", create("a" * 41), BAD, BAD_NAME),
     ("no card to get", get("staff", "z"), NOT_FOUND, NO_CARD),
     ("a card that was removed", get("staff", "b"), NOT_FOUND, NO_CARD),
@@ -311,27 +314,38 @@ def row_of(text):
 
 SEVEN = "b,Bob,,,,,\n"
 EIGHT = "b,Bob,,,,,,\n"
+PAT, QUIN, RAE = "p,Pat Lee,Lee,Pat,pat@example.test,,,\n", "q,Quin,,,,,,\n", "r,Rae,,,,,,\n"
 # Rows that aren't imported, with the row and the cause.
 NO_ROWS = [
     ("line ends alone", 0, 1, "\r\n\n"),
     ("another header", 0, 1, "uid,name\n"),
+    ("a header of another form", 0, 1, "uid,card\n"),
     ("a space in a header", 0, 1, "uid, vcard\n"),
     ("a header that isn't UTF-8", 0, 1, b"uid,\xff\n"),
     ("two marks", 0, 1, b"\xef\xbb\xbf\xef\xbb\xbf" + COLUMNS.encode()),
+    ("two marks before the other form", 0, 1, "\ufeff\ufeff" + FULL_CARDS),
     ("seven fields", 1, 2, COLUMNS + SEVEN),
     ("nine fields", 2, 2, COLUMNS + EIGHT + "c,Cy,,,,,,,\n"),
+    ("seven fields, the last empty", 1, 2, COLUMNS + "a,Ann,,,,,\n"),
     ("three fields of two", 1, 2, FULL_CARDS + "a,b,c\n"),
+    ("one field that isn't UTF-8", 1, 2, FULL_CARDS.encode() + b"a\xff\n"),
     ("one empty field", 1, 2, FULL_CARDS + '""\n'),
     ("an octet that is no UTF-8", 1, 3, COLUMNS.encode() + b"b,Bob,,,,,,\xff\n"),
     ("a card that isn't UTF-8", 1, 3, FULL_CARDS.encode() + b"b,\xff\n"),
+    ("a card alone that isn't UTF-8", 1, 3, FULL_CARDS.encode() + b",\xff\n"),
+    ("a UID that isn't UTF-8", 1, 3, FULL_CARDS.encode() + b"\xff,x\n"),
+    ("a card that ends after BEGIN", 1, 26, FULL_CARDS + ",BEGIN:VCARD\n"),
     ("an empty name", 2, 4, COLUMNS + EIGHT + "c,,,,,,,\n"),
+    ("an empty name in row 3", 3, 4, COLUMNS + PAT + QUIN + "r,,,,,,,\n"),
     ("a return in a field", 1, 23, COLUMNS + 'b,"Bob\rBee",,,,,,\n'),
     ("a line end in a UID", 1, 23, COLUMNS + '"b\r\n",Bob,,,,,,\n'),
+    ("a line feed in a UID", 1, 23, COLUMNS + '"a\nb",Ann,,,,,,\n'),
     ("an empty UID", 1, 30, COLUMNS + ",Bob,,,,,,\n"),
     ("a UID of 256 octets", 1, 30, COLUMNS + "b" * 256 + ",Bob,,,,,,\n"),
     ("a note that is too long", 1, 21, COLUMNS + "b,Bob,,,,,," + "n" * 262_144 + "\n"),
     ("another UID", 1, 40, FULL_CARDS + f'b,"{card("z", "Zoe")}"\n'),
     ("a UID a second time", 2, 41, COLUMNS + EIGHT + EIGHT),
+    ("41 before a later 4", 2, 41, COLUMNS + "a,Ann,,,,,,\na,Bob,,,,,,\na,,,,,,,\n"),
     ("a UID a second time, in cards", 2, 41, row_of(ZOE) + row_of(ZOE)[len(FULL_CARDS):]),
     ("the first row that is bad", 1, 4, COLUMNS + "b,,,,,,,\n" + SEVEN),
     ("the least in one row", 1, 2, COLUMNS.encode() + b"\xff,,\n"),
@@ -355,6 +369,25 @@ ROWS = [
     ("line ends in a field", COLUMNS + 'b,Bob,,,,,,"1\r\n2\n3"\n', 'b,Bob,,,,,,"1\n2\n3"\n'),
     ("what is escaped in cards", COLUMNS + ESCAPED, ESCAPED),
     ("a card", row_of(with_line("N:Ze\\;e;Z;;;\nORG:One;Two\nNOTE:a\\nb")), OF_A_CARD),
+]
+BEGIN_OF, END = "BEGIN:VCARD\r\nVERSION:4.0\r\nUID:%s", "END:VCARD\r\n"
+# Rows that are imported, and the lines after the UID of each card that they become, in their order.
+LINES_OF_ROWS = [
+    (
+        "three people",
+        COLUMNS + PAT + QUIN + RAE,
+        {"p": ["FN:Pat Lee", "N:Lee;Pat;;;", "EMAIL:pat@example.test"], "q": ["FN:Quin"],
+         "r": ["FN:Rae"]},
+    ),
+    (
+        "what is escaped",
+        COLUMNS + 's,Sy,,Sy,,1;2,"a,b","x\r\ny\nz"\n',
+        {"s": ["FN:Sy", "N:;Sy;;;", "TEL:1\\;2", "ORG:a\\,b", "NOTE:x\\ny\\nz"]},
+    ),
+    ("a mark and no card", "\ufeff" + FULL_CARDS, {}),
+    ("a card", row_of(ZOE), {"z": ["FN:Zoe"]}),
+    ("a card in CRLF", row_of(ZOE.replace("\n", "\r\n")), {"z": ["FN:Zoe"]}),
+    ("a row alone", COLUMNS + PAT, {"p": ["FN:Pat Lee", "N:Lee;Pat;;;", "EMAIL:pat@example.test"]}),
 ]
 
 
@@ -400,6 +433,18 @@ class RefusalsTest(WalkTest):
                 ("a book", create(f"b{number}"), CREATED, f'{{"id":{number}}}'),
                 (title, import_rows(f"b{number}", "k", rows), OK, ONE_IMPORTED),
                 (title, export(f"b{number}", "columns"), OK, COLUMNS + exported),
+            ])
+
+    def test_lines_of_rows(self):
+        for number, (title, rows, lines) in enumerate(LINES_OF_ROWS, 1):
+            count = len(lines)
+            tally = f'{{"edited":0,"new":{count},"number":{count},"same":0}}'
+            cards = {uid: "\r\n".join([BEGIN_OF % uid, *more, END]) for uid, more in lines.items()}
+            exported = "".join(f'{uid},"{text}"\n' for uid, text in cards.items())
+            self.walk([
+                ("a book", create(f"b{number}"), CREATED, f'{{"id":{number}}}'),
+                (title, import_rows(f"b{number}", "k", rows), OK, tally),
+                (title, export(f"b{number}", "cards"), OK, FULL_CARDS + exported),
             ])
 
     def test_names_of_books(self):

@@ -12,6 +12,8 @@ from http_requests import card, create, get, put, remove, request, sync, tally
 from replies import WalkTest, card_text, fault, page, reply, stored_member
 
 OK, CREATED, BAD = "200 OK", "201 Created", "400 Bad Request"
+NOT_FOUND, BAD_NAME = "404 Not Found", fault("bad-book-name", 3)
+NO_BOOK, NO_CARD = fault("no-such-book", 1), fault("no-such-card", 4)
 NO_ROUTE, BAD_PATH, BAD_QUERY = fault("no-route", 27), fault("bad-path", 29), fault("bad-query", 30)
 MISMATCH, HAS_2 = "412 Precondition Failed", fault("version-mismatch", 7, has=2)
 PUT_CREATED, PUT_EDITED = '{"put":"created","version":1}', '{"put":"edited","version":2}'
@@ -32,6 +34,7 @@ NO_ROUTES = [
     "/books/staff/cards/a/b",
     "/books/staff/cards/a/move/b",
     "/books/staff/cards/a/b/people",
+    "/books/staff/tally/",
     "/books/staff/tally/x",
     "/books/staff/Tally",
     "/books/staff/tallies?x",
@@ -94,11 +97,14 @@ PARTS = [
         '"moved_in":0,"moved_out":0,"number":0,"remembered":0}'
     )),
     ("a book that isn't UTF-8", tally("%FF"), BAD, BAD_PATH),
+    ("a new book that isn't UTF-8", request("PUT", "/books/%FF"), BAD, BAD_PATH),
+    ("a slash in a new book's name", request("PUT", "/books/a%2Fb"), BAD, BAD_NAME),
     ("UTF-8 that is cut", get("staff", "%C3"), BAD, BAD_PATH),
     ("a surrogate", get("staff", "%ED%A0%80"), BAD, BAD_PATH),
     ("a UID that isn't UTF-8", request("DELETE", "/books/staff/cards/%80"), BAD, BAD_PATH),
     ("29 before 30", request("GET", "/books/%FF/tally?x=1"), BAD, BAD_PATH),
-    ("a NUL", get("staff", "%00"), "404 Not Found", fault("no-such-card", 4)),
+    ("a NUL", get("staff", "%00"), NOT_FOUND, NO_CARD),
+    ("a plus sign and a space", get("staff", "a+b%20c"), NOT_FOUND, NO_CARD),
     (
         "quotes, a backslash and a tab in a UID",
         request("PUT", "/books/staff/cards/%22%5C", card('"\\', "Ann")),
@@ -124,7 +130,9 @@ GOOD_QUERIES = [
     ("?&&", EMPTY_PAGE),
     ("?limit=1&token=", EMPTY_PAGE),
     ("?&token&limit=1&", EMPTY_PAGE),
+    ("?&&limit=2&", EMPTY_PAGE),
     ("?%6Cimit=%31", EMPTY_PAGE),
+    ("?lim%69t=2", EMPTY_PAGE),
     ("?limit=0007", EMPTY_PAGE),
     ("?limit=000000000000001", EMPTY_PAGE),
     ("?limit=999999999999999", EMPTY_PAGE),
@@ -134,6 +142,7 @@ GOOD_QUERIES = [
 # Of these the token isn't one, but the query is right.
 NO_TOKENS = [
     "?token=a=b",
+    "?limit=1&token=a+b%26c",
     "?token=?",
     "?token=%FF",
     "?token=http://contacts.invalid/sync/1/0/0+",
@@ -145,6 +154,7 @@ BAD_QUERIES = [
     "?=1",
     "?limit=1&limit=2",
     "?limit=1&limit=1",
+    "?limit=1&token=&limit=2",
     "?limit=1&%6Cimit=1",
     "?token=&token=",
     "?limit",
@@ -167,10 +177,12 @@ BAD_QUERIES = [
 # Requests of other routes whose queries are wrong.
 OTHER_BAD_QUERIES = [
     request("GET", "/books?x=1"),
+    request("GET", "/books?limit=1"),
     request("PUT", "/books/b?name=c"),
     request("GET", "/books/staff/tally?limit=1"),
     request("POST", "/books/staff/import"),
     request("POST", "/books/staff/import?key=k&key=k", "uid,vcard\n"),
+    request("POST", "/books/staff/import?key=a&key=b", "uid,vcard\n"),
     request("POST", "/books/staff/import?key=k&form=cards", "uid,vcard\n"),
     request("GET", "/books/staff/export?form=xml"),
     request("GET", "/books/staff/export?form="),
@@ -179,16 +191,19 @@ OTHER_BAD_QUERIES = [
     request("GET", "/books/staff/export?form=cards&form=columns"),
     request("POST", "/books/staff/forget"),
     request("POST", "/books/staff/forget?upto="),
+    request("POST", "/books/staff/forget?upto=x"),
     request("POST", "/books/staff/forget?upto=1x"),
     request("GET", "/books/staff/cards/a?version=1"),
     request("PUT", "/books/staff/cards/a?version=", card("a", "Ann")),
     request("PUT", "/books/staff/cards/a?expect=1", card("a", "Ann")),
     request("DELETE", "/books/staff/cards/a?version=1&version=1"),
     request("DELETE", "/books/staff/cards/a?version"),
+    request("DELETE", "/books/staff/cards/a?version="),
     request("DELETE", "/books/staff/cards/a?version=7a"),
     request("DELETE", "/books/staff/cards/a?version=%2B7"),
     request("DELETE", "/books/staff/cards/a?version=0000000000000007"),
     request("POST", "/books/staff/cards/a/move"),
+    request("POST", "/books/staff/cards/a/move?version=1"),
     request("POST", "/books/staff/cards/a/move?to=b&version=x"),
     request("GET", "/books/staff/cards/a/people?depth=1"),
     # Also if there is no such book.
@@ -196,6 +211,9 @@ OTHER_BAD_QUERIES = [
 ]
 
 NUMBERS = [
+    ("7", put("staff", "a", "Ann", "?version=007"), MISMATCH, fault("version-mismatch", 7, has=0)),
+    ("7 of none", remove("staff", "a", "?version=000000000000007"), NOT_FOUND, NO_CARD),
+    ("4", request("POST", "/books/staff/cards/a/move?version=4&to="), NOT_FOUND, NO_BOOK),
     ("0", put("staff", "a", "Ann", "?version=000000000000000"), CREATED, PUT_CREATED),
     ("1", put("staff", "a", "Anna", "?version=000000000000001"), OK, PUT_EDITED),
     ("too many", remove("staff", "a", "?version=999999999999999"), MISMATCH, HAS_2),
