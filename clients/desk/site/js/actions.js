@@ -223,7 +223,7 @@ export class Actions {
       return;
     }
     await desk.lists.moved(moved);
-    desk.pane.lead(to, uid, true);
+    desk.pane.moved(to, uid);
     await desk.changed();
     desk.frame.toast(t("moved", { name, book: to }), isUndone ? null : {
       text: t("undo"), run: () => this.moveNow(to, uid, book, name, true),

@@ -8,7 +8,7 @@ import { Faces } from "./faces.js";
 import { Frame } from "./frame.js";
 import { History } from "./history.js";
 import { pageKey } from "./keys.js";
-import { emptySign, emptyWays, emptyWords, titleOf } from "./listing.js";
+import { bookOf, emptied, emptySign, emptyWays, emptyWords, titleOf } from "./listing.js";
 import { Lists } from "./lists.js";
 import { Memory } from "./memory.js";
 import { Outbox } from "./outbox.js";
@@ -242,7 +242,7 @@ export class Desk {
   found() {
     const { filter } = this;
     const text = this.frame.search.value.trim();
-    const rows = this.shelf.find(text, filter ? filter.book ?? "" : this.chosen);
+    const rows = this.shelf.find(text, bookOf(this));
     return filter ? this.lists.pick(filter, rows, this.shelf) : rows;
   }
 
@@ -265,6 +265,7 @@ export class Desk {
     const { frame, pane } = this;
     const text = frame.search.value.trim();
     const rows = this.found();
+    if (!rows.length) emptied(this);
     this.showRows(rows, pane.cardKey);
     if (!pane.shown && !pane.missing) pane.blank();
     this.drawState();

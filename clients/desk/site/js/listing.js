@@ -1,5 +1,7 @@
-// What the list is of, and what is said and offered where it is empty.
+// What the list is of, and what is said, offered and shown where it is empty.
 import { t } from "./say.js";
+import { keyOf } from "./shelf.js";
+import { openMenu } from "./views/menu.js";
 
 const WORDS = {
   favourites: "noFavourites", recent: "noRecent", group: "noMembers", category: "noCategory",
@@ -14,6 +16,43 @@ export function titleOf({ filter, chosen, books, shelf }) {
   if (!filter) return chosen || t(books.length > 1 ? "allBooks" : "listLabel");
   if (filter.kind === "group") return shelf.get(filter.book, filter.uid)?.name ?? "";
   return filter.kind === "category" ? filter.name : t(filter.kind);
+}
+
+/** The book whose cards the list has; "" if they may be of any. */
+export function bookOf({ filter, chosen }) {
+  return filter ? filter.book ?? "" : chosen;
+}
+
+/**
+ * Somebody goes to a card while the list is empty, as after an edit of what was searched for: it
+ * becomes a list that has the card.
+ */
+export function listWith(desk, book, uid) {
+  if (desk.found().length) return;
+  desk.frame.search.value = "";
+  if (!desk.found().some((row) => keyOf(row) === `${book}/${uid}`)) {
+    desk.filter = null;
+    if (desk.chosen) desk.chosen = book;
+    desk.store.keepSetting("book", desk.chosen);
+  }
+  desk.draw();
+  desk.list.scrollTo(desk.list.at);
+}
+
+/**
+ * The list is empty: nobody's card is beside it, as it would be taken for the one that was looked
+ * for. Where the list isn't beside the card, that stays.
+ */
+export function emptied(desk) {
+  const { pane, frame } = desk;
+  if (pane.shown?.kind !== "card" || pane.comingKey !== null || frame.isNarrow) return;
+  if (openMenu(pane.node)) {
+    desk.drawSoon(); // once that is closed
+    return;
+  }
+  const isThere = pane.node.contains(document.activeElement);
+  pane.clear();
+  if (isThere) frame.goToSearch();
 }
 
 /** Whether the copy has all that the list could show. */

@@ -4,6 +4,7 @@ import { button, el, fill } from "./dom.js";
 import { Forming } from "./forming.js";
 import { icon } from "./icons.js";
 import { describe, rowOf } from "./person.js";
+import { bookOf, listWith } from "./listing.js";
 import { keyOf } from "./shelf.js";
 import { t } from "./say.js";
 import { newUid, readCard } from "./vcard.js";
@@ -64,6 +65,13 @@ export class Pane {
   /** Shows a card of which something was done by now. Nobody is led away from a form. */
   lead(book, uid, isInstead = false) {
     if (!this.hasForm) this.open(book, uid, isInstead);
+  }
+
+  /** A card was moved: it is shown if the list may have it. Nobody is led away from a form. */
+  moved(book, uid) {
+    const { desk } = this;
+    if ([book, ""].includes(bookOf(desk))) this.lead(book, uid, true);
+    else if (!this.hasForm) this.leave();
   }
 
   goEdit(book, uid) {
@@ -133,6 +141,13 @@ export class Pane {
     if (location.hash.length > 2) history.replaceState(null, "", "#/");
     this.blank();
     document.title = t("title");
+  }
+
+  /** The form is done, and somebody has begun to look for another card: that one is shown. */
+  turnToSearch() {
+    this.set(null);
+    this.clear();
+    this.desk.typed();
   }
 
   /** Nothing is shown: what the user may do is said in its place, if it isn't yet. */
@@ -229,14 +244,24 @@ export class Pane {
     } else if (seen) {
       this.set({ kind: "card", book, uid });
       this.fillCard(book, uid, seen);
-    } else {
+    } else if (isFinal) {
       this.gone(book, uid);
+    } else {
+      // The list had it a moment ago: it was deleted or moved meanwhile.
+      this.set(null);
+      this.blank();
     }
     if (isFinal) this.desk.frame.showPane("card");
     // A narrow page has hidden the pane until now, and what is hidden can't be scrolled.
     if (!isStill) this.node.scrollTop = 0;
-    if (!isFinal) return;
-    if (seen) this.desk.lists.opened(book, uid);
+    if (!isFinal) {
+      if (!this.desk.list.rows.length) this.desk.draw();
+      return;
+    }
+    if (seen) {
+      this.desk.lists.opened(book, uid);
+      listWith(this.desk, book, uid);
+    }
     this.desk.draw();
     if (isStaying()) this.node.querySelector("#card-name")?.focus({ preventScroll: true });
   }
