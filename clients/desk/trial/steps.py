@@ -333,8 +333,8 @@ def files(trial):
     admin.keep_downloads(downloads)
     for text, name, has in (
         ("Export whole", "staff.csv", "uid,vcard\n"),
-        ("Export columns", "staff-columns.csv", HEADER),
-        ("Export the copy", "staff.vcf", "BEGIN:VCARD\r\n"),
+        ("Export for a spread", "staff-columns.csv", HEADER),
+        ("Export for other", "staff.vcf", "BEGIN:VCARD\r\n"),
     ):
         admin.run(f"({MENU}).click()")
         admin.press(text, "document.querySelector('dialog')")

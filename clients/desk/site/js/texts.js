@@ -328,8 +328,8 @@ export const TEXTS = {
   asking: "Asking the server…",
   importFiles: "Import a file…",
   exportCards: "Export whole cards (CSV)",
-  exportColumns: "Export columns (CSV)",
-  exportVcf: "Export the copy (.vcf)",
+  exportColumns: "Export for a spreadsheet (CSV)",
+  exportVcf: "Export for other programs (.vcf)",
   startAgain: "Get a new copy",
   dropBook: "Remove the copy from this browser",
   bookHints:
