@@ -227,8 +227,9 @@ export class Actions {
       return;
     }
     await desk.lists.moved(moved);
-    desk.pane.moved(to, uid);
+    const isListed = desk.pane.follow(book, uid, to);
     await desk.changed();
+    if (isListed) desk.pane.lead(to, uid, true);
     desk.frame.toast(t("moved", { name, book: to }), isUndone ? null : {
       text: t("undo"), run: () => this.moveNow(to, uid, book, name, true),
     });

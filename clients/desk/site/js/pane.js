@@ -67,11 +67,16 @@ export class Pane {
     if (!this.hasForm) this.open(book, uid, isInstead);
   }
 
-  /** A card was moved: it is shown if the list may have it. Nobody is led away from a form. */
-  moved(book, uid) {
-    const { desk } = this;
-    if ([book, ""].includes(bookOf(desk))) this.lead(book, uid, true);
-    else if (!this.hasForm) this.leave();
+  /**
+   * A card goes to another book. If the list may have it there, it stays in the pane; if not, it
+   * goes from there. Answers whether the list may.
+   */
+  follow(book, uid, to) {
+    const isIt = this.shown?.kind === "card" && keyOf(this.shown) === `${book}/${uid}`;
+    const mayList = ["", to].includes(bookOf(this.desk));
+    if (mayList && isIt) this.shown = { ...this.shown, book: to };
+    else if (!mayList && !this.hasForm) this.leave();
+    return mayList;
   }
 
   goEdit(book, uid) {
