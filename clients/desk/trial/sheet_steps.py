@@ -104,6 +104,7 @@ def mail_all(trial):
     show(page, "odd", "Odd ones")
     page.press("Mail all", "document.querySelector('.quick')")
     toast(page, "A mail to 1 person is opened. 1 has no mail address.")
+    page.asked.remove("mailto:?bcc=bo@example.test")
     for uid in ("odd1", "odd2", "odd"):
         office.ask("DELETE", f"/clients/cards/{uid}")
     few, many = page.run(MAILS)
