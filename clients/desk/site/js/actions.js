@@ -186,7 +186,7 @@ export class Actions {
     ]);
     if (!sure) return;
     await desk.queue.remove([[book, uid]]);
-    if (!desk.pane.hasForm) desk.pane.leave();
+    desk.pane.dismiss();
     await desk.changed();
     desk.frame.toast(t("removed", { name }), {
       text: t("undo"), run: () => this.restore(book, uid, kept.text),

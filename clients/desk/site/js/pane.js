@@ -75,7 +75,7 @@ export class Pane {
     const isIt = this.shown?.kind === "card" && keyOf(this.shown) === `${book}/${uid}`;
     const mayList = ["", to].includes(bookOf(this.desk));
     if (mayList && isIt) this.shown = { ...this.shown, book: to };
-    else if (!mayList && !this.hasForm) this.leave();
+    else if (!mayList) this.dismiss();
     return mayList;
   }
 
@@ -136,6 +136,14 @@ export class Pane {
     this.desk.frame.showPane("list");
     this.desk.draw();
     document.title = t("title");
+    this.desk.frame.goToSearch();
+  }
+
+  /** The card that is shown goes from the list: back to that, once it is without the card. */
+  dismiss() {
+    if (this.hasForm) return;
+    this.clear();
+    this.desk.frame.showPane("list");
     this.desk.frame.goToSearch();
   }
 
@@ -255,6 +263,7 @@ export class Pane {
       // The list had it a moment ago: it was deleted or moved meanwhile.
       this.set(null);
       this.blank();
+      this.desk.drawSoon();
     }
     if (isFinal) this.desk.frame.showPane("card");
     // A narrow page has hidden the pane until now, and what is hidden can't be scrolled.
