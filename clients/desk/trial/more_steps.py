@@ -207,6 +207,8 @@ def look(trial, page, name, width):
     # What is wider makes a phone show the whole page smaller.
     if page.run("document.documentElement.scrollWidth") > width:
         wrong.append("wider than the page")
+    if page.run("document.documentElement.scrollHeight > innerHeight"):
+        wrong.append("the page itself scrolls, and its top goes out of sight")
     assert not wrong, (name, wrong)
 
 

@@ -103,6 +103,7 @@ def move_back(trial):
     until(lambda: status(office, "clients", "mv2") == 404)
     settled(page)
     assert office.ask("GET", "/staff/tally")["number"] == before
+    page.press("clients", BOOKS)
 
 
 @fault
@@ -195,6 +196,7 @@ def move_conflicts(trial):
     page.press("Store it again", DIALOG)
     assert "TITLE:Cook" in card_with(office, "staff", "mv6")
     settled(page)
+    page.press("clients", BOOKS)
 
 
 @fault
@@ -257,6 +259,7 @@ def move_refused(trial):
     card_with(office, "staff", uid)
     settled(page)
     page.run("window.fetchAgain()")
+    page.press("clients", BOOKS)
 
 
 REFUSAL = '{"fault":"book-full","number":12}'
@@ -276,3 +279,4 @@ def move_lost_reply(trial):
     settled(page)
     assert not page.run(f"Boolean({DIALOG})")
     assert status(office, "clients", "mv8") == 404
+    page.press("clients", BOOKS)

@@ -98,6 +98,13 @@ def rights(trial):
     first change that is refused, which stays; nothing is written to find it out.
     """
     page = trial.desk("hall")
+    # On a phone, where the list is alone, the question is there.
+    page.size(390, 780)
+    page.wait(f"{EMPTY}.innerText.includes('Type the name of yours')", 20)
+    page.press("Add a book", EMPTY)
+    page.wait("document.querySelector('dialog h2')?.textContent === 'Add a book'")
+    page.key("Escape")
+    page.size(1280, 800)
     page.wait(f"{PANE}.includes('Which book is yours?')", 20)
     page.picture(trial.pictures / "which-book.png")
     audit(page, "the question for a book")

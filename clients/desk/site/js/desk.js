@@ -88,6 +88,7 @@ export class Desk {
       newCard: () => this.pane.newCard(),
       update: () => this.findBooks().then(() => this.follow()),
       waiting: () => showWaiting(this),
+      turned: () => this.draw(),
     });
     this.listen();
     const [rows, entries, books, chosen, by] = await Promise.all([

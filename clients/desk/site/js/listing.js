@@ -62,6 +62,9 @@ function isWhole({ chosen, books }) {
 
 const isSearch = (desk) => desk.frame.search.value.trim() !== "";
 
+/** Who may not list the books says which one is theirs: on a narrow page the list asks for it. */
+const isAsking = ({ mayList, frame }) => !mayList && frame.isNarrow;
+
 /** The drawing above what is said where the list has no card. */
 export function emptySign(desk) {
   return isSearch(desk) ? "search" : SIGNS[desk.filter?.kind ?? "book"];
@@ -70,7 +73,7 @@ export function emptySign(desk) {
 /** What is said there. */
 export function emptyWords(desk) {
   if (isSearch(desk)) return t("noCards");
-  if (!desk.books.length) return t("noBooks");
+  if (!desk.books.length) return t(isAsking(desk) ? "whichBookText" : "noBooks");
   if (!isWhole(desk)) return t("notHereYet");
   return t(desk.filter ? WORDS[desk.filter.kind] : "emptyBook");
 }
@@ -79,7 +82,10 @@ export function emptyWords(desk) {
 export function emptyWays(desk) {
   const { books, chosen, filter } = desk;
   if (isSearch(desk)) return [[t("clearSearch"), () => desk.searchAnew()]];
-  if (!books.length) return desk.mayList ? [[t("addBook"), () => desk.addBook()]] : [];
+  if (!books.length) {
+    const mayAdd = desk.mayList || isAsking(desk);
+    return mayAdd ? [[t("addBook"), () => desk.addBook()]] : [];
+  }
   const book = chosen || (books.length === 1 ? books[0].name : "");
   if (filter || !isWhole(desk) || !desk.mayChange(book)) return [];
   return [
