@@ -244,6 +244,12 @@ def move_refused(trial):
     settled(page)
     page.wait(f"{TITLE} === 'Tia Taken' && {CARD}.includes('In the book clients')")
     assert office.card("staff", "mv7")["card"] == other
+    page.press("staff", BOOKS)
+    search(page, "another tia")
+    page.wait(f"{TITLE} === 'Another Tia'")
+    page.press("clients", BOOKS)
+    search(page, "tia taken")
+    page.wait(f"{TITLE} === 'Tia Taken'")
     more(page, "Move")
     page.press("staff", DIALOG)
     toast(page, "The book staff has this card already")
