@@ -254,6 +254,7 @@ def delete_move_undo(trial):
     assert office.card("clients", "c23")["card"] == text
     admin.wait("document.querySelector('#waiting').hidden")
     admin.run(UNAWARE)
+    admin.run("navigator.locks.request('desk clients', () => null)")  # what was asked before ends
     office.put("clients", "c23", text.replace("Potter", "Tile maker"))
     more(admin, "Delete")
     admin.press("Delete", "document.querySelector('dialog')")

@@ -45,7 +45,8 @@ export function listWith(desk, book, uid) {
  */
 export function emptied(desk) {
   const { pane, frame } = desk;
-  if (pane.shown?.kind !== "card" || pane.comingKey !== null || frame.isNarrow) return;
+  const isOther = pane.comingKey !== null || pane.hasForm; // on its way
+  if (pane.shown?.kind !== "card" || isOther || frame.isNarrow) return;
   if (openMenu(pane.node)) {
     desk.drawSoon(); // once that is closed
     return;

@@ -200,8 +200,8 @@ export class Pane {
     const { shown } = this;
     if (shown?.kind !== "card") return;
     const seen = await this.desk.queue.seen(shown.book, shown.uid);
-    // Another card may have been chosen by now, which isn't there yet.
-    if (this.shown !== shown || this.comingKey !== null) return;
+    // Another card may have been chosen by now, or a form begun, which isn't there yet.
+    if (this.shown !== shown || this.comingKey !== null || this.hasForm) return;
     // Not while something of it is pressed, or while its menu is open.
     if (this.desk.isHeld || openMenu(this.node)) {
       setTimeout(() => this.again(), 150);
