@@ -310,8 +310,9 @@ def export(day):
     downloads.mkdir()
     page.keep_downloads(downloads)
     page.key("Escape")
-    for button, name in (("Export whole", "clients.csv"), ("Export columns", "clients-columns.csv"),
-                         ("Export the copy", "clients.vcf")):
+    for button, name in (("Export whole", "clients.csv"),
+                         ("Export for a spread", "clients-columns.csv"),
+                         ("Export for other", "clients.vcf")):
         menu(page, "clients")
         hands.press(button)
         toast(page, f"Saved: {name}")

@@ -3,6 +3,7 @@
 import json
 
 from access import AUDIT, CALM, TOUCH
+from browser import SHIFT
 from cards import EVIL, MARK, hostile_cards
 from common import keep_files
 from office import card
@@ -172,6 +173,13 @@ def looks(trial):
             search(admin, "")
             admin.rest(400)
             look(trial, admin, f"{name}-{scheme}-list", width)
+            admin.run("document.querySelector('#list').focus()")
+            for _ in range(2):
+                admin.key("ArrowDown", SHIFT)
+            admin.press("With these", "document.querySelector('#list-menu')")
+            look(trial, admin, f"{name}-{scheme}-several", width)
+            admin.key("Escape")
+            admin.key("Escape")
             admin.run("location.hash = '#/card/clients/c12'")
             admin.wait(f"{TITLE} === 'Miriam O’Hara'")
             admin.rest(300)
@@ -196,6 +204,11 @@ def look(trial, page, name, width):
     page.run(CALM)
     page.picture(trial.pictures / f"{name}.png")
     wrong = page.run(AUDIT) + (page.run(TOUCH) if width < 500 else [])
+    # What is wider makes a phone show the whole page smaller.
+    if page.run("document.documentElement.scrollWidth") > width:
+        wrong.append("wider than the page")
+    if page.run("document.documentElement.scrollHeight > innerHeight"):
+        wrong.append("the page itself scrolls, and its top goes out of sight")
     assert not wrong, (name, wrong)
 
 

@@ -9,6 +9,10 @@ from office import card
 from steps import ROWS, TITLE, fault, fill, more, search, stored, toast, until
 
 DIALOG = "document.querySelector('dialog')"
+BOOKS = "document.querySelector('#books')"
+UNDO = "document.querySelector('#toast')"
+NOBODY = f"!document.querySelector('#pane a') && {TITLE} === undefined" \
+    " && !document.querySelector('#pane').innerText.includes('This card isn')"
 # The network is back. A question may come at once, and "Update now" is below it then.
 BACK = "window.dispatchEvent(new Event('online'))"
 
@@ -19,16 +23,20 @@ def mover(trial, uid, name, *lines):
     trial.office.put("clients", uid, card(uid, f"FN:{name}", *lines))
     page.front()
     page.press("Update now")
-    page.press("clients", "document.querySelector('#books')")
+    page.press("clients", BOOKS)
     search(page, name)
     page.wait(f"{TITLE} === {json.dumps(name)}")
     return page
 
 
 def move(page, to):
+    """Moves the card that is shown, and goes to it in its other book."""
+    name = page.wait(TITLE)
     more(page, "Move")
     page.press(to, DIALOG)
     toast(page, f"Moved to {to}")
+    page.press(to, BOOKS)
+    search(page, name)
     # The message may be that of an earlier move.
     page.wait(f"{CARD}.includes('In the book {to}')")
 
@@ -51,11 +59,10 @@ def move_while_away(trial):
     page.wait(f"{CARD}.includes('In the book staff') && {CARD}.includes('It goes from clients')")
     page.wait(f"{WAITING}.includes('1 change not sent yet')")
     page.picture(trial.pictures / "move-waits.png")
-    page.wait(f"!{ROWS}.includes('Mona Away')")  # the list is that of clients
     page.go("about:blank")
     page.go(office.front)
     page.wait(f"{WAITING}.includes('1 change not sent yet')")
-    page.press("staff", "document.querySelector('#books')")
+    page.press("staff", BOOKS)
     open_form(page, "mona away", "Mona Away")
     fill(page, "Organisation", "Away & Co")
     page.press("Save")
@@ -70,7 +77,7 @@ def move_while_away(trial):
     # The move is undone: the card goes back, over the server.
     move(page, "clients")
     card_with(office, "clients", "mv1")
-    page.press("Undo", "document.querySelector('#toast')")
+    page.press("Undo", UNDO)
     card_with(office, "staff", "mv1")
     settled(page)
 
@@ -81,8 +88,9 @@ def move_back(trial):
     page, office = mover(trial, "mv2", "Max Back"), trial.office
     office.shut()
     move(page, "staff")
-    page.press("Undo", "document.querySelector('#toast')")
+    page.press("Undo", UNDO)
     settled(page)
+    page.press("clients", BOOKS)
     page.wait(f"{ROWS}.includes('Max Back')")
     move(page, "staff")
     page.wait(f"{CARD}.includes('In the book staff')")
@@ -95,6 +103,47 @@ def move_back(trial):
     until(lambda: status(office, "clients", "mv2") == 404)
     settled(page)
     assert office.ask("GET", "/staff/tally")["number"] == before
+    page.press("clients", BOOKS)
+
+
+@fault
+def moved_away(trial):
+    """A card that is moved out of the list isn't beside it, empty or not. Nobody calls it."""
+    page, office = mover(trial, "mv9", "Mavis Leaves", "TEL:020 7946 0999"), trial.office
+    for text, is_alone in (("mavis leaves", True), ("ma", False)):
+        search(page, text)
+        page.run("location.hash = '#/card/clients/mv9'")
+        page.wait(f"{TITLE} === 'Mavis Leaves' && {ROWS}.includes('Mavis Leaves')")
+        more(page, "Move")
+        page.press("staff", DIALOG)
+        toast(page, "Moved to staff")
+        page.wait(f"({ROWS}.length === 0) === {json.dumps(is_alone)}")
+        # Where others are found, the first of them may be shown.
+        listed = NOBODY if is_alone else f"{ROWS}.includes({TITLE} ?? {ROWS}[0])"
+        page.wait(f"!{ROWS}.includes('Mavis Leaves') && {listed}", 5)
+        card_with(office, "staff", "mv9")
+        settled(page)
+        page.press("Undo", UNDO)
+        page.wait(f"{TITLE} === 'Mavis Leaves' && {ROWS}.includes('Mavis Leaves')")
+        card_with(office, "clients", "mv9")
+        settled(page)
+    more(page, "Delete")
+    page.press("Delete", DIALOG)
+    until(lambda: status(office, "clients", "mv9") == 404)
+    page.wait(f"!{ROWS}.includes('Mavis Leaves')")
+    page.rest(300)
+    assert page.run(f"!document.querySelector('#pane').innerText.includes('This card isn')")
+    page.press("Undo", UNDO)
+    page.wait(f"{TITLE} === 'Mavis Leaves' && {ROWS}.includes('Mavis Leaves')")
+    card_with(office, "clients", "mv9")
+    settled(page)
+    # Where the list is of all books, it stays.
+    page.press("All books", BOOKS)
+    more(page, "Move")
+    page.press("staff", DIALOG)
+    page.wait(f"{TITLE} === 'Mavis Leaves' && {CARD}.includes('In the book staff')")
+    card_with(office, "staff", "mv9")
+    page.press("clients", BOOKS)
 
 
 @fault
@@ -149,6 +198,7 @@ def move_conflicts(trial):
     page.press("Store it again", DIALOG)
     assert "TITLE:Cook" in card_with(office, "staff", "mv6")
     settled(page)
+    page.press("clients", BOOKS)
 
 
 @fault
@@ -196,6 +246,12 @@ def move_refused(trial):
     settled(page)
     page.wait(f"{TITLE} === 'Tia Taken' && {CARD}.includes('In the book clients')")
     assert office.card("staff", "mv7")["card"] == other
+    page.press("staff", BOOKS)
+    search(page, "another tia")
+    page.wait(f"{TITLE} === 'Another Tia'")
+    page.press("clients", BOOKS)
+    search(page, "tia taken")
+    page.wait(f"{TITLE} === 'Tia Taken'")
     more(page, "Move")
     page.press("staff", DIALOG)
     toast(page, "The book staff has this card already")
@@ -211,6 +267,7 @@ def move_refused(trial):
     card_with(office, "staff", uid)
     settled(page)
     page.run("window.fetchAgain()")
+    page.press("clients", BOOKS)
 
 
 REFUSAL = '{"fault":"book-full","number":12}'
@@ -230,3 +287,4 @@ def move_lost_reply(trial):
     settled(page)
     assert not page.run(f"Boolean({DIALOG})")
     assert status(office, "clients", "mv8") == 404
+    page.press("clients", BOOKS)

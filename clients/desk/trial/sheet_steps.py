@@ -1,6 +1,7 @@
 """Steps about the sheet of a card: what one does with it, and what only some cards have."""
 
 from between import with_tables
+from common import HEADER
 from feature_steps import DIALOG, show
 from loss_steps import CARD, FORM, at_desk, open_form
 from office import card, logical
@@ -54,6 +55,11 @@ def sheet(trial):
         lines = logical(file.read_bytes().decode())
         assert f"VERSION:{version}" in lines and "FN:Sheila Sheet" in lines, lines
         assert sum(it.startswith("BEGIN") for it in lines) == 1, lines
+    more(page, "Save for a spreadsheet")
+    file = folder / "Sheila-Sheet.csv"
+    until(lambda: file.exists() and file.stat().st_size)
+    row = "sheet,Sheila Sheet,Sheet,Sheila,sheila@example.test,020 7946 0900,,\n"
+    assert file.read_text() == HEADER + row, file.read_text()
 
 
 @step
@@ -88,6 +94,19 @@ MAILS = """import('/js/values.js').then(({ mailsLink }) => [
 def mail_all(trial):
     """One mail to all people of a group; if they are too many, their addresses are copied."""
     page, office = at_desk(trial), trial.office
+    # One whose address can't be any is said, and isn't in the way of the others.
+    office.put("clients", "odd1", card("odd1", "FN:Ada Odd", "EMAIL:see note"))
+    office.put("clients", "odd2", card("odd2", "FN:Bo Odd", "EMAIL:bo@example.test"))
+    office.put("clients", "odd", card("odd", "FN:Odd ones", "KIND:group", "MEMBER:odd1",
+                                      "MEMBER:odd2"))
+    page.front()
+    page.press("Update now")
+    show(page, "odd", "Odd ones")
+    page.press("Mail all", "document.querySelector('.quick')")
+    toast(page, "A mail to 1 person is opened. 1 has no mail address.")
+    page.asked.remove("mailto:?bcc=bo@example.test")
+    for uid in ("odd1", "odd2", "odd"):
+        office.ask("DELETE", f"/clients/cards/{uid}")
     few, many = page.run(MAILS)
     assert few == "mailto:?bcc=a@example.test,b%20c@example.test" and many is None, (few, many)
     people = [card(f"mass{n}", f"FN:Mass Number{n}", f"EMAIL:mass-number-{n}@example.test")

@@ -254,6 +254,7 @@ def delete_move_undo(trial):
     assert office.card("clients", "c23")["card"] == text
     admin.wait("document.querySelector('#waiting').hidden")
     admin.run(UNAWARE)
+    admin.run("navigator.locks.request('desk clients', () => null)")  # what was asked before ends
     office.put("clients", "c23", text.replace("Potter", "Tile maker"))
     more(admin, "Delete")
     admin.press("Delete", "document.querySelector('dialog')")
@@ -333,8 +334,8 @@ def files(trial):
     admin.keep_downloads(downloads)
     for text, name, has in (
         ("Export whole", "staff.csv", "uid,vcard\n"),
-        ("Export columns", "staff-columns.csv", HEADER),
-        ("Export the copy", "staff.vcf", "BEGIN:VCARD\r\n"),
+        ("Export for a spread", "staff-columns.csv", HEADER),
+        ("Export for other", "staff.vcf", "BEGIN:VCARD\r\n"),
     ):
         admin.run(f"({MENU}).click()")
         admin.press(text, "document.querySelector('dialog')")

@@ -14,6 +14,7 @@ from steps import ROWS, STATE, TITLE, fault, fill, search, stored, until
 PANE = "document.querySelector('#pane').innerText"
 BAR = "document.querySelector('#list-menu').innerText"
 EMPTY = "document.querySelector('#empty')"
+SEARCH = "document.querySelector('#search').value"
 
 
 @fault
@@ -54,12 +55,56 @@ def nobody_shown(trial):
 
 
 @fault
+def nobody_beside(trial):
+    """What was searched for changes: the list has the card that is shown, or nobody is shown."""
+    page, office = at_desk(trial), trial.office
+    page.front()
+    office.put("clients", "beside", card("beside", "FN:Besima Before", "TEL:020 7946 0777"))
+    page.press("Update now")
+    page.press("clients", "document.querySelector('#books')")
+    # By the user: the list becomes one that has the card.
+    open_form(page, "besima before", "Besima Before")
+    fill(page, "Name as it is shown", "Besima Behind")
+    page.press("Save")
+    page.wait(f"{TITLE} === 'Besima Behind'")
+    page.wait(f"{ROWS}.includes('Besima Behind') && {SEARCH} === ''", 5)
+    stored(office, "beside", "FN:Besima Behind")
+    # By others.
+    search(page, "besima behind")
+    page.wait(f"{TITLE} === 'Besima Behind'")
+    text = office.card("clients", "beside")["card"]
+    office.put("clients", "beside", text.replace("Besima Behind", "Besima Between"))
+    page.run("dispatchEvent(new Event('focus'))")
+    page.wait(f"{ROWS}.length === 0")
+    page.wait(f"!document.querySelector('#pane a') && {TITLE} === undefined", 5)
+    # By another search, while a form is being saved.
+    open_form(page, "between", "Besima Between")
+    fill(page, "Position", "Saved late")
+    hold(page, 1500)
+    page.press("Save")
+    search(page, "qqqq")
+    stored(office, "beside", "TITLE:Saved late")
+    page.wait(f"!{FORM} && !document.querySelector('#pane a') && {TITLE} === undefined")
+    assert page.run(SEARCH) == "qqqq" and page.run(f"{ROWS}.length") == 0
+    search(page, "besima")
+    page.wait(f"{TITLE} === 'Besima Between'")
+    search(page, "")
+
+
+@fault
 def rights(trial):
     """
     Who may not list the books is asked for theirs. That a book may only be read is learnt from the
     first change that is refused, which stays; nothing is written to find it out.
     """
     page = trial.desk("hall")
+    # On a phone, where the list is alone, the question is there.
+    page.size(390, 780)
+    page.wait(f"{EMPTY}.innerText.includes('Type the name of yours')", 20)
+    page.press("Add a book", EMPTY)
+    page.wait("document.querySelector('dialog h2')?.textContent === 'Add a book'")
+    page.key("Escape")
+    page.size(1280, 800)
     page.wait(f"{PANE}.includes('Which book is yours?')", 20)
     page.picture(trial.pictures / "which-book.png")
     audit(page, "the question for a book")

@@ -1,7 +1,7 @@
 // What a user does to a card or a book, but for the form: delete, move, share, groups, files.
 import { Fault } from "./api.js";
 import { BookFiles } from "./bookfiles.js";
-import { saveFile } from "./files.js";
+import { columnsOf, saveFile } from "./files.js";
 import { mailsOf } from "./groups.js";
 import { olderCard } from "./older.js";
 import { nameOf } from "./person.js";
@@ -50,13 +50,15 @@ export class Actions {
   /** What can be done with a card that is shown. */
   ofCard(book, uid, seen, text, entry) {
     const { desk } = this;
-    const file = `${seen.name.replace(/[^\p{L}\p{N}]+/gu, "-").slice(0, 60) || "card"}.vcf`;
+    const stem = seen.name.replace(/[^\p{L}\p{N}]+/gu, "-").slice(0, 60) || "card";
+    const file = `${stem}.vcf`;
     return {
       edit: () => desk.pane.goEdit(book, uid),
       move: () => this.move(book, uid),
       remove: () => this.remove(book, uid),
       download: () => saveFile(file, "text/vcard", text),
       download3: () => saveFile(file, "text/vcard", olderCard(text)),
+      columns: () => saveFile(`${stem}.csv`, "text/csv", columnsOf([text])),
       isFavourite: () => desk.lists.isFavourite(book, uid),
       favourite: async () => {
         await desk.lists.turnFavourite(book, uid);
@@ -117,8 +119,10 @@ export class Actions {
   /** A mail to all people of a group, with groups in groups, by the device's mail program. */
   mailAll(book, members) {
     const { toast } = this.desk.frame;
-    const { mails, without } = mailsOf(this.desk.shelf, book, members);
-    const href = mailLink(mails[0] ?? "") && mailsLink(mails);
+    const all = mailsOf(this.desk.shelf, book, members);
+    const mails = all.mails.filter(mailLink);
+    const without = all.without + all.mails.length - mails.length;
+    const href = mailsLink(mails);
     const said = without ? ` ${count("withoutMail", without)}` : "";
     if (!mails.length) {
       toast.call(this.desk.frame, t("mailNobody"));
@@ -182,7 +186,7 @@ export class Actions {
     ]);
     if (!sure) return;
     await desk.queue.remove([[book, uid]]);
-    if (!desk.pane.hasForm) desk.pane.leave();
+    desk.pane.dismiss();
     await desk.changed();
     desk.frame.toast(t("removed", { name }), {
       text: t("undo"), run: () => this.restore(book, uid, kept.text),
@@ -223,8 +227,9 @@ export class Actions {
       return;
     }
     await desk.lists.moved(moved);
-    desk.pane.lead(to, uid, true);
+    const isListed = desk.pane.follow(book, uid, to);
     await desk.changed();
+    if (isListed) desk.pane.lead(to, uid, true);
     desk.frame.toast(t("moved", { name, book: to }), isUndone ? null : {
       text: t("undo"), run: () => this.moveNow(to, uid, book, name, true),
     });

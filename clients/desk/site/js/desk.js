@@ -8,7 +8,7 @@ import { Faces } from "./faces.js";
 import { Frame } from "./frame.js";
 import { History } from "./history.js";
 import { pageKey } from "./keys.js";
-import { emptySign, emptyWays, emptyWords, titleOf } from "./listing.js";
+import { bookOf, emptied, emptySign, emptyWays, emptyWords, titleOf } from "./listing.js";
 import { Lists } from "./lists.js";
 import { Memory } from "./memory.js";
 import { Outbox } from "./outbox.js";
@@ -88,6 +88,7 @@ export class Desk {
       newCard: () => this.pane.newCard(),
       update: () => this.findBooks().then(() => this.follow()),
       waiting: () => showWaiting(this),
+      turned: () => this.draw(),
     });
     this.listen();
     const [rows, entries, books, chosen, by] = await Promise.all([
@@ -242,7 +243,7 @@ export class Desk {
   found() {
     const { filter } = this;
     const text = this.frame.search.value.trim();
-    const rows = this.shelf.find(text, filter ? filter.book ?? "" : this.chosen);
+    const rows = this.shelf.find(text, bookOf(this));
     return filter ? this.lists.pick(filter, rows, this.shelf) : rows;
   }
 
@@ -265,6 +266,7 @@ export class Desk {
     const { frame, pane } = this;
     const text = frame.search.value.trim();
     const rows = this.found();
+    if (!rows.length) emptied(this);
     this.showRows(rows, pane.cardKey);
     if (!pane.shown && !pane.missing) pane.blank();
     this.drawState();

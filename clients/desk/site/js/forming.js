@@ -141,6 +141,7 @@ export class Forming {
     // Browsers may drop what pages keep if the disk is full, unless they are asked not to.
     navigator.storage?.persist?.();
     const isHere = this.staying();
+    const looked = desk.frame.search.value;
     const draft = this.draft();
     const kept = draft.text;
     let { text } = draft;
@@ -162,8 +163,10 @@ export class Forming {
     if (isOn) this.typed();
     await desk.changed();
     desk.frame.toast(t("saved", { name: nameOf(readCard(text)) || t("nameless") }));
+    if (!isHere() || isOn) return;
     // Another tab may have moved the card meanwhile.
-    if (isHere() && !isOn) desk.pane.open(done.book, edit.uid, true);
+    if (desk.frame.search.value === looked) desk.pane.open(done.book, edit.uid, true);
+    else desk.pane.turnToSearch();
   }
 
   /** Drops what was typed. It can be undone, and is in the trash too. */

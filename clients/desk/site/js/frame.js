@@ -6,6 +6,8 @@ import { openMenu } from "./views/menu.js";
 
 // Where the books and groups have a column of their own.
 const WIDE = "(min-width: 72rem)";
+// Where the list and the card take turns.
+const NARROW = "(max-width: 47.99rem)";
 
 const by = (id) => document.getElementById(id);
 
@@ -51,6 +53,7 @@ export class Frame {
     matchMedia(WIDE).addEventListener("change", (event) => {
       if (event.matches) this.showNav(false);
     });
+    matchMedia(NARROW).addEventListener("change", run.turned);
     add.title = t("newCardKey");
     add.addEventListener("click", run.newCard);
     by("waiting").addEventListener("click", run.waiting);
@@ -75,7 +78,7 @@ export class Frame {
   }
 
   get isNarrow() {
-    return matchMedia("(max-width: 47.99rem)").matches;
+    return matchMedia(NARROW).matches;
   }
 
   /** Brings the focus to the search, but not on a phone, and not out of an open menu. */

@@ -141,7 +141,7 @@ export class History {
       text: t("undo"),
       run: async () => {
         await desk.queue.remove([[book, uid]]);
-        if (!desk.pane.hasForm) desk.pane.leave();
+        desk.pane.dismiss();
         await desk.changed();
       },
     });

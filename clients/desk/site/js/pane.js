@@ -4,6 +4,7 @@ import { button, el, fill } from "./dom.js";
 import { Forming } from "./forming.js";
 import { icon } from "./icons.js";
 import { describe, rowOf } from "./person.js";
+import { bookOf, listWith } from "./listing.js";
 import { keyOf } from "./shelf.js";
 import { t } from "./say.js";
 import { newUid, readCard } from "./vcard.js";
@@ -66,6 +67,18 @@ export class Pane {
     if (!this.hasForm) this.open(book, uid, isInstead);
   }
 
+  /**
+   * A card goes to another book. If the list may have it there, it stays in the pane; if not, it
+   * goes from there. Answers whether the list may.
+   */
+  follow(book, uid, to) {
+    const isIt = this.shown?.kind === "card" && keyOf(this.shown) === `${book}/${uid}`;
+    const mayList = ["", to].includes(bookOf(this.desk));
+    if (mayList && isIt) this.shown = { ...this.shown, book: to };
+    else if (!mayList) this.dismiss();
+    return mayList;
+  }
+
   goEdit(book, uid) {
     this.go(`#/edit/${book}/${part(uid)}`);
   }
@@ -126,6 +139,14 @@ export class Pane {
     this.desk.frame.goToSearch();
   }
 
+  /** The card that is shown goes from the list: back to that, once it is without the card. */
+  dismiss() {
+    if (this.hasForm) return;
+    this.clear();
+    this.desk.frame.showPane("list");
+    this.desk.frame.goToSearch();
+  }
+
   /** Takes the card out of the pane, and leaves the user where they are. */
   clear() {
     if (this.shown?.kind === "form") return;
@@ -133,6 +154,13 @@ export class Pane {
     if (location.hash.length > 2) history.replaceState(null, "", "#/");
     this.blank();
     document.title = t("title");
+  }
+
+  /** The form is done, and somebody has begun to look for another card: that one is shown. */
+  turnToSearch() {
+    this.set(null);
+    this.clear();
+    this.desk.typed();
   }
 
   /** Nothing is shown: what the user may do is said in its place, if it isn't yet. */
@@ -172,8 +200,8 @@ export class Pane {
     const { shown } = this;
     if (shown?.kind !== "card") return;
     const seen = await this.desk.queue.seen(shown.book, shown.uid);
-    // Another card may have been chosen by now, which isn't there yet.
-    if (this.shown !== shown || this.comingKey !== null) return;
+    // Another card may have been chosen by now, or a form begun, which isn't there yet.
+    if (this.shown !== shown || this.comingKey !== null || this.hasForm) return;
     // Not while something of it is pressed, or while its menu is open.
     if (this.desk.isHeld || openMenu(this.node)) {
       setTimeout(() => this.again(), 150);
@@ -229,14 +257,25 @@ export class Pane {
     } else if (seen) {
       this.set({ kind: "card", book, uid });
       this.fillCard(book, uid, seen);
-    } else {
+    } else if (isFinal) {
       this.gone(book, uid);
+    } else {
+      // The list had it a moment ago: it was deleted or moved meanwhile.
+      this.set(null);
+      this.blank();
+      this.desk.drawSoon();
     }
     if (isFinal) this.desk.frame.showPane("card");
     // A narrow page has hidden the pane until now, and what is hidden can't be scrolled.
     if (!isStill) this.node.scrollTop = 0;
-    if (!isFinal) return;
-    if (seen) this.desk.lists.opened(book, uid);
+    if (!isFinal) {
+      if (!this.desk.list.rows.length) this.desk.draw();
+      return;
+    }
+    if (seen) {
+      this.desk.lists.opened(book, uid);
+      listWith(this.desk, book, uid);
+    }
     this.desk.draw();
     if (isStaying()) this.node.querySelector("#card-name")?.focus({ preventScroll: true });
   }

@@ -77,6 +77,7 @@ function head(seen, mayChange, act) {
         mayChange && [t("earlier"), act.earlier],
         [t("saveVcf"), act.download],
         [t("saveVcf3"), act.download3],
+        [t("saveCsv"), act.columns],
         [t("print"), act.print],
         mayChange && [t("remove"), act.remove, "danger"],
       ], { class: "round", "aria-label": t("moreActions"), title: t("moreActions") }),
