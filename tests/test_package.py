@@ -181,6 +181,17 @@ class Octets(unittest.TestCase):
         self.assertIn("\nkit " + re.search(r"(?m)^kit (.*)$", run("--version").out.decode())[1],
                       text)
 
+    def test_the_list_names_the_tools_that_made_the_program(self):
+        text = only("*.txt").read_text()
+        named = re.search(r"(?m)^Compilers: .*\n((?:.+\n)+)\n", text)[1].splitlines()
+        # The section by another reader, where there is one.
+        if shutil.which("readelf"):
+            said = subprocess.run(["readelf", "-p", ".comment", PROGRAM], check=True,
+                                  stdout=subprocess.PIPE, universal_newlines=True).stdout
+            self.assertEqual(re.findall(r"(?m)^ +\[ *[0-9a-f]+\]  (.*)$", said), named)
+        logic = re.search(r"logic (\w+)", run("--version").out.decode())[1]
+        self.assertTrue(any(f"logic={logic}" in it for it in named), named)
+        self.assertEqual([], load_tool().elf.tools_of(b"#!/bin/sh\n"))
 
     def test_the_version_is_the_programs_once_it_has_one(self):
         tool = load_tool()
@@ -190,7 +201,6 @@ class Octets(unittest.TestCase):
         self.assertRegex(tool.version_of("contacts unreleased" + more), r"^\d+\.\d+\.\d+~dev\d+$")
         for wrong in "contacts", "contacts \n", "contacts 1-2\n", "other 1.0\n":
             self.assertRaises(ValueError, tool.version_of, wrong)
-
 
     def test_paths_of_any_length_that_a_tar_has(self):
         tar = load_tool().tar
@@ -272,8 +282,8 @@ class Deb(unittest.TestCase):
     def test_the_options_of_the_server(self):
         files = installed()
         text = files["etc/default/tosculai"].decode()
-        self.assertEqual(options_of("run") - {"--create", "-h", "--help"},
-                         set(re.findall(r"(?m)^#   (--[\w-]+)", text)))
+        # So that an upgrade to a program with other options asks nobody about a changed file.
+        self.assertEqual({"--socket", "--host"}, set(re.findall(r"--[\w-]+", text)))
         read = subprocess.run(["sh"], input=f"{text}\necho $CONTACTS_OPTIONS".encode(), check=True,
                               stdout=subprocess.PIPE).stdout
         self.assertEqual(b"--socket /run/tosculai/office.sock\n", read)
@@ -412,6 +422,26 @@ class Manuals(unittest.TestCase):
             self.assertIn(option, pages["contacts.1"].replace(r"\-", "-"))
         for said in "262,144", "fault store\\-fault 19", "/etc/default/tosculai":
             self.assertIn(said, pages["tosculai.7"])
+
+    def test_each_option_of_the_commands_in_python_is_named(self):
+        pages = {name: gzip.decompress(it).decode().replace(r"\-", "-")
+                 for name, it in self.pages().items()}
+        rows = {"tosculai": "python/tosculai.py", "tosculai-carddav": "carddav/carddav",
+                "tosculai-ldap": "ldap/ldap", "tosculai-follow": "python/follow.py"}
+        orders = {"tosculai": ["sync", "import", "put"], "tosculai-carddav": ["user add"],
+                  "tosculai-follow": ["log", "restore", "purge"]}
+        for name, script in rows.items():
+            for order in "", *orders.get(name, []):
+                said = subprocess.run([sys.executable, "-B", ROOT / "clients" / script,
+                                       *order.split(), "--help"], check=True,
+                                      stdout=subprocess.PIPE, universal_newlines=True).stdout
+                asked = set(re.findall(r"(?m)^  (--[\w-]+)", said)) - {"--help"}
+                self.assertEqual(set(), asked - set(re.findall(r"\\fB(--[\w-]+)", pages[name])),
+                                 (name, order))
+                if order:
+                    self.assertIn(f"\n.SS {order.rpartition(' ')[2]} ", pages[name])
+        for said in "KEEP", "FILE FOLDER [BOOK ..]":
+            self.assertIn(said, pages["contacts-backup"])
 
     def test_they_are_packed_without_a_time(self):
         for name, octets in self.pages().items():
