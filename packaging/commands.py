@@ -14,7 +14,8 @@ from roff import code, escaped, inline, paragraph, tagged
 
 # The parsers of each command: the words before its arguments, and the module and the function.
 PARSERS = {"tosculai": [("", "tosculai_tools.command", "parser")],
-           "tosculai-carddav": [("", "gateway.cli", "parser"), ("user", "gateway.cli", "user_parser")],
+           "tosculai-carddav": [("", "gateway.cli", "parser"),
+                                ("user", "gateway.cli", "user_parser")],
            "tosculai-ldap": [("", "directory.cli", "parser")],
            "tosculai-follow": [("", "tosculai_tools.follow", "parser"),
                                ("", "tosculai_tools.memory", "parser")]}
@@ -60,7 +61,7 @@ def about(parser: argparse.ArgumentParser) -> List[str]:
 
 
 def ordered(orders: argparse._SubParsersAction) -> List[str]:
-    """Each order with its arguments and what it does, and then its options; those of all at last."""
+    """Each order with its arguments, what it does and its options; at last those of all orders."""
     said = {it.dest: it.help or "" for it in orders._choices_actions}
     each = [set(named(parser)) for parser in orders.choices.values()]
     common = set.intersection(*each) if len(each) > 1 else set()
@@ -71,7 +72,8 @@ def ordered(orders: argparse._SubParsersAction) -> List[str]:
         lines += [f".SS {escaped(' '.join([order, *map(str, words)]))}", *paragraph(text)]
         lines += tags(parser, [it for it in named(parser) if it not in common])
     if common:
-        lines += [".SS Of all of these", *tags(parser, [it for it in named(parser) if it in common])]
+        shared = [it for it in named(parser) if it in common]
+        lines += [".SS Of all of these", *tags(parser, shared)]
     return lines
 
 
@@ -109,7 +111,7 @@ def value_of(option: argparse.Action) -> str:
 
 
 def head_of(script: Path, name: str) -> List[str]:
-    """The sections of a script's page: the comment at its head, in which indented lines are code."""
+    """The sections of a script's page: the comment at its head, of which the usage is code."""
     text = re.match(r"#!.*\n((?:#.*\n)+)", script.read_text("utf-8"))
     comment = re.sub(r"(?m)^# ?", "", text[1] if text else "").replace(script.name, name)
     prose, _, usage = comment.partition("\nUsage: ")

@@ -1,4 +1,4 @@
-"""What a program says of the tools that made it: the section .comment of its file, as ELF has it."""
+"""What a program says of the tools that made it: the section .comment of its ELF file."""
 
 import struct
 from typing import List

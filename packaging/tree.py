@@ -134,8 +134,11 @@ class Tree:
                 for path, text in pages.items()]
 
     def defaults(self) -> str:
-        """The options of `run` that the unit gives. The file doesn't list those of the program: dpkg
-        asks whoever has changed it about each new text, and every office writes its name there."""
+        """The options of `run` that the unit gives.
+
+        The file doesn't list those of the program: dpkg asks whoever has changed it about each new
+        text, and every office writes its name there.
+        """
         unit = (self.root / "examples/contacts.service").read_text("utf-8")
         given = re.search(r"^ExecStart=.*(--socket \S+)", unit, re.M)
         text = (HERE / "defaults").read_text("utf-8")
