@@ -157,6 +157,13 @@ class Octets(unittest.TestCase):
         for wrong in "contacts", "contacts \n", "contacts 1-2\n", "other 1.0\n":
             self.assertRaises(ValueError, tool.version_of, wrong)
 
+    def test_a_version_without_its_date_in_the_changelog_is_not_packed(self):
+        tool = load_tool()
+        tool.is_in_changelog("0.9.0", "# Changelog\n\n## 0.9.0 - 2026-11-28\n\nThe first.\n")
+        for wrong in "", "## Unreleased\n", "## 0.9.0\n", "## 0.9.1 - 2026-11-28\n", \
+                "see ## 0.9.0 - 2026-11-28\n", "## 0x9.0 - 2026-11-28\n":
+            self.assertRaises(ValueError, tool.is_in_changelog, "0.9.0", wrong)
+
     def test_paths_of_any_length_that_a_tar_has(self):
         tar = load_tool().tar
         for count in 99, 100, 101, 102, 103, 150, 200, 254, 255:
