@@ -1,8 +1,11 @@
-"""The man pages: of the program and its orders from its help, and tosculai(7) from OPERATING.md."""
+"""The man pages: of the program and its orders from its help, tosculai(7) from OPERATING.md, and
+those of the commands beside it from what these say of themselves."""
 
 import time
+from pathlib import Path
 from typing import Dict, List
 
+from commands import PARSERS, head_of, page_of
 from helps import Help, Item
 from roff import cells, code, escaped, guarded, inline, markdown, paragraph, section, tagged
 
@@ -14,8 +17,8 @@ OVERVIEW = [("FILES", "What the package has"), ("LIMITS", "Limits and sizes"),
 class Manuals:
     """Makes pages that name one version and one date."""
 
-    def __init__(self, version: str, epoch: int) -> None:
-        self.version = version
+    def __init__(self, version: str, epoch: int, root: Path) -> None:
+        self.version, self.root = version, root
         self.date = time.strftime("%Y-%m-%d", time.gmtime(epoch))
 
     def page(self, name: str, number: int, about: str, lines: List[str]) -> str:
@@ -58,6 +61,10 @@ class Manuals:
     def client(self, name: str, number: int, said: str) -> str:
         lines = [".SH SYNOPSIS", rf"\fB{escaped(name)}\fR [\fIARGUMENT\fR ...]", ".SH DESCRIPTION",
                  guarded(inline(said[0].upper() + said[1:] + "."))]
+        if name in PARSERS:
+            lines += page_of(self.root / "clients", name)
+        else:
+            lines += head_of(self.root / "examples/backup.sh", name)
         return self.page(name, number, said.partition(";")[0], lines + see(["tosculai(7)"]))
 
 

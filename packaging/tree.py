@@ -1,13 +1,12 @@
 """The files that the package installs, from the tree of the project. Each has one source there."""
 
 import re
-import textwrap
 from pathlib import Path
 from typing import Dict, List, NamedTuple
 
 import completion
 from archives import Entry, gzipped
-from helps import Help, flags
+from helps import Help
 from manuals import Manuals
 
 HERE = Path(__file__).resolve().parent
@@ -23,8 +22,8 @@ SCRIPTS = {"backup.sh": "usr/sbin/contacts-backup", "listening.sh": f"{SHARE}/li
 WRAPPERS = {"tosculai": "python/tosculai.py", "tosculai-follow": "python/follow.py",
             "tosculai-carddav": "carddav/carddav", "tosculai-ldap": "ldap/ldap"}
 PAGES = ["README.md", "SECURITY.md", "CHANGELOG.md", "docs/API.md", "docs/CLIENTS.md",
-         "docs/OPERATING.md", "docs/GLOSSARY.md", "docs/openapi.json", "clients/carddav/README.md",
-         "clients/desk/README.md", "clients/ldap/README.md"]
+         "docs/INSTALL.md", "docs/OPERATING.md", "docs/GLOSSARY.md", "docs/openapi.json",
+         "clients/carddav/README.md", "clients/desk/README.md", "clients/ldap/README.md"]
 
 
 class User(NamedTuple):
@@ -135,17 +134,15 @@ class Tree:
                 for path, text in pages.items()]
 
     def defaults(self) -> str:
-        """The options of `run` but those that the unit or nobody gives."""
-        lines = []
-        for term, said in self.helps["run"].options:
-            if not {"--create", "--help"} & set(flags(term)):
-                lines += [f"#   {term}", *textwrap.wrap(said, 90, initial_indent="#       ",
-                                                        subsequent_indent="#       ")]
+        """The options of `run` that the unit gives.
+
+        The file doesn't list those of the program: dpkg asks whoever has changed it about each new
+        text, and every office writes its name there.
+        """
         unit = (self.root / "examples/contacts.service").read_text("utf-8")
         given = re.search(r"^ExecStart=.*(--socket \S+)", unit, re.M)
         text = (HERE / "defaults").read_text("utf-8")
-        return (text.replace("@OPTIONS@", "\n".join(lines))
-                .replace("@GIVEN@", given[1] if given else ""))
+        return text.replace("@GIVEN@", given[1] if given else "")
 
 
 def configured(unit: str) -> str:

@@ -2,10 +2,8 @@
 
 import os
 import re
-import shutil
 import socket
 import subprocess
-import sys
 import time
 
 from cards import card, uid
@@ -141,16 +139,3 @@ class Xandikos(Peer):
             *["xandikos", "--directory", self.folder, "--listen-address", "127.0.0.1"],
             *["--port", str(port), "--defaults", "--current-user-principal", "/me/"],
         ]
-
-
-def find_peers():
-    """The peers that are installed, each with its version."""
-    found = {}
-    for peer in (Radicale, Xandikos):
-        command = shutil.which(peer.name.lower())
-        if command:
-            version = subprocess.run([command, "--version"], stdout=subprocess.PIPE, check=False)
-            found[peer] = version.stdout.decode().strip().rpartition(" ")[2]
-        else:
-            print(f"{peer.name} is not installed: left out", file=sys.stderr)
-    return found

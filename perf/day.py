@@ -34,12 +34,6 @@ def until(seconds, numbers):
             break
 
 
-def most_memory(process):
-    """The most octets of memory that the process had at once until now (Linux's VmHWM)."""
-    with open(f"/proc/{process.pid}/status", encoding="ascii") as file:
-        return next(int(line.split()[1]) * 1024 for line in file if line.startswith("VmHWM:"))
-
-
 class Day:
     """The day over a server whose book is empty at first."""
 
@@ -60,7 +54,7 @@ class Day:
             self.read()
             self.sync()
             self.remove()
-            self.figures["memory"] = most_memory(self.server.process)
+            self.figures["memory"] = self.server.most_memory()
         finally:
             self.server.stop()
         self.figures.update(self.server.room())
@@ -100,10 +94,10 @@ class Day:
         """Starts the server over the cards that are there, and imports others into another book."""
         try:
             self.figures["start"] = seconds_of(self.server.start)
-            self.figures["opened"] = most_memory(self.server.process)
+            self.figures["opened"] = self.server.most_memory()
             if hasattr(self.server, "load"):
                 self.figures["import"] = seconds_of(self.server.load, rows(self.cards))
-                self.figures["loaded"] = most_memory(self.server.process)
+                self.figures["loaded"] = self.server.most_memory()
         finally:
             self.server.stop()
 

@@ -1,32 +1,26 @@
-"""`tools/package`: the archives octet for octet and file by file, and the office of 200 people.
+"""`tools/package`: the archives octet for octet and file by file.
 
-It packs the program under test twice: from this tree, and from a copy with another umask, time zone
-and home. What the program's orders and options are is said by help_texts, and by nothing of the
-package. The archives are read by Python alone, and by dpkg-deb, make, man and bash where these are.
+It packs the program under test twice: from this tree, and from a copy with another umask, time
+zone, language and home. The archives are read by Python alone, and by dpkg-deb and make where these
+are.
 """
 
-import csv
-import gzip
 import hashlib
 import io
-import lzma
 import os
 import re
-import shlex
 import shutil
 import subprocess
 import sys
 import tarfile
 import unittest
-from functools import lru_cache
 from importlib.machinery import SourceFileLoader
 from importlib.util import module_from_spec, spec_from_loader
 from pathlib import Path
 
-from help_texts import HELP
-from program import PATIENCE, PROGRAM, ROOT, Folder, run
+from packed import EPOCH, Packed, members, pack, wait_for
+from program import PROGRAM, ROOT, Folder, run
 
-EPOCH = "1790000000"
 # What a copy of the tree has: all that goes into the package, and what packs it.
 PARTS = ["tools", "packaging", "examples", "clients", "docs", "dist"]
 FILES = ["crates.txt", "README.md", "SECURITY.md", "CHANGELOG.md"]
@@ -61,65 +55,25 @@ def setUpModule():
     for file in copy.rglob("*"):
         # As a checkout under that umask has them.
         file.chmod(file.stat().st_mode & 0o700)
-    FIRST, SECOND = path / "first", path / "second out"
-    both = [pack(ROOT, FIRST, 0o022, TZ="UTC"),
-            pack(copy, SECOND, 0o077, TZ="Pacific/Kiritimati", HOME="/nowhere", USER="ann")]
+    FIRST, SECOND = Packed(path / "first"), Packed(path / "second out")
+    both = [pack(ROOT, FIRST.folder, 0o022, TZ="UTC"),
+            pack(copy, SECOND.folder, 0o077, TZ="Pacific/Kiritimati", LC_ALL="C", HOME="/nowhere",
+                 USER="ann")]
     for process in both:
-        said = process.communicate(timeout=PATIENCE)[0]
-        if process.returncode:
-            raise AssertionError(said.decode())
-
-
-def pack(tree, out, mask, *more, **environment):
-    """Starts tools/package of a tree, in a hurry."""
-    command = [sys.executable, str(tree / "tools/package"), "--program", PROGRAM, "--preset", "0"]
-    return subprocess.Popen(
-        [*command, "--out", str(out), *more], cwd=tree,
-        env={**os.environ, "SOURCE_DATE_EPOCH": EPOCH, **environment},
-        preexec_fn=lambda: os.umask(mask), stdout=subprocess.PIPE, stderr=subprocess.STDOUT)
+        wait_for(process)
 
 
 def only(pattern):
     """The one file of the first packing that has such a name."""
-    found, = FIRST.glob(pattern)
-    return found
+    return FIRST.only(pattern)
 
 
-@lru_cache(maxsize=None)
-def members(packed):
-    """The members of a tar.xz by their paths, without the root's name, and their octets."""
-    with tarfile.open(fileobj=io.BytesIO(lzma.decompress(packed))) as archive:
-        return {it.name: (it, archive.extractfile(it).read() if it.isfile() else b"")
-                for it in archive.getmembers()}
-
-
-@lru_cache(maxsize=None)
 def deb():
-    """The three members of the .deb by their names, read as deb(5) says."""
-    octets, found, at = only("*.deb").read_bytes(), {}, 8
-    assert octets[:8] == b"!<arch>\n"
-    while at < len(octets):
-        name, date, user, group, mode, size = octets[at:at + 58].decode().split()
-        assert (date, user, group, mode) == (EPOCH, "0", "0", "100644")
-        at += 60
-        found[name] = octets[at:at + int(size)]
-        at += int(size) + int(size) % 2
-    return found
+    return FIRST.deb()
 
 
 def installed():
-    """The octets of each file that the .deb installs, by its path."""
-    found = members(deb()["data.tar.xz"])
-    return {path[2:]: octets for path, (it, octets) in found.items() if it.isfile()}
-
-
-def options_of(order):
-    """All options that the help of an order names."""
-    lines = re.findall(r"^ +(-\S.*?)  ", HELP[order], re.M)
-    return {it for line in lines for it in re.findall(r"(?<!\S)--?[\w-]+", line)}
-
-
-ORDERS = [it for it in HELP if it]
+    return FIRST.installed()
 
 
 def load_tool():
@@ -132,19 +86,20 @@ def load_tool():
 
 class Octets(unittest.TestCase):
     def test_two_packings_are_the_same(self):
-        names = sorted(it.name for it in FIRST.iterdir())
-        self.assertEqual(names, sorted(it.name for it in SECOND.iterdir()))
+        names = sorted(it.name for it in FIRST.folder.iterdir())
+        self.assertEqual(names, sorted(it.name for it in SECOND.folder.iterdir()))
         self.assertEqual(4, len(names))
         for name in names:
             with self.subTest(file=name):
-                self.assertTrue((FIRST / name).read_bytes() == (SECOND / name).read_bytes())
+                both = [(it.folder / name).read_bytes() for it in (FIRST, SECOND)]
+                self.assertTrue(both[0] == both[1])
 
     def test_the_digests_are_those_of_the_files(self):
-        lines = (FIRST / "SHA256SUMS").read_text().splitlines()
+        lines = (FIRST.folder / "SHA256SUMS").read_text().splitlines()
         self.assertEqual(3, len(lines))
         for line in lines:
             digest, name = line.split("  ")
-            self.assertEqual(digest, hashlib.sha256((FIRST / name).read_bytes()).hexdigest())
+            self.assertEqual(digest, hashlib.sha256((FIRST.folder / name).read_bytes()).hexdigest())
 
     def test_a_program_that_has_not_the_digest_of_dist_is_not_packed(self):
         tree = FOLDER.path / "another tree"
@@ -181,6 +136,17 @@ class Octets(unittest.TestCase):
         self.assertIn("\nkit " + re.search(r"(?m)^kit (.*)$", run("--version").out.decode())[1],
                       text)
 
+    def test_the_list_names_the_tools_that_made_the_program(self):
+        text = only("*.txt").read_text()
+        named = re.search(r"(?m)^Compilers: .*\n((?:.+\n)+)\n", text)[1].splitlines()
+        # The section by another reader, where there is one.
+        if shutil.which("readelf"):
+            said = subprocess.run(["readelf", "-p", ".comment", PROGRAM], check=True,
+                                  stdout=subprocess.PIPE, universal_newlines=True).stdout
+            self.assertEqual(re.findall(r"(?m)^ +\[ *[0-9a-f]+\]  (.*)$", said), named)
+        logic = re.search(r"logic (\w+)", run("--version").out.decode())[1]
+        self.assertTrue(any(f"logic={logic}" in it for it in named), named)
+        self.assertEqual([], load_tool().elf.tools_of(b"#!/bin/sh\n"))
 
     def test_the_version_is_the_programs_once_it_has_one(self):
         tool = load_tool()
@@ -191,6 +157,12 @@ class Octets(unittest.TestCase):
         for wrong in "contacts", "contacts \n", "contacts 1-2\n", "other 1.0\n":
             self.assertRaises(ValueError, tool.version_of, wrong)
 
+    def test_a_version_without_its_date_in_the_changelog_is_not_packed(self):
+        tool = load_tool()
+        tool.is_in_changelog("0.9.0", "# Changelog\n\n## 0.9.0 - 2026-11-28\n\nThe first.\n")
+        for wrong in "", "## Unreleased\n", "## 0.9.0\n", "## 0.9.1 - 2026-11-28\n", \
+                "see ## 0.9.0 - 2026-11-28\n", "## 0x9.0 - 2026-11-28\n":
+            self.assertRaises(ValueError, tool.is_in_changelog, "0.9.0", wrong)
 
     def test_paths_of_any_length_that_a_tar_has(self):
         tar = load_tool().tar
@@ -272,8 +244,8 @@ class Deb(unittest.TestCase):
     def test_the_options_of_the_server(self):
         files = installed()
         text = files["etc/default/tosculai"].decode()
-        self.assertEqual(options_of("run") - {"--create", "-h", "--help"},
-                         set(re.findall(r"(?m)^#   (--[\w-]+)", text)))
+        # So that an upgrade to a program with other options asks nobody about a changed file.
+        self.assertEqual({"--socket", "--host"}, set(re.findall(r"--[\w-]+", text)))
         read = subprocess.run(["sh"], input=f"{text}\necho $CONTACTS_OPTIONS".encode(), check=True,
                               stdout=subprocess.PIPE).stdout
         self.assertEqual(b"--socket /run/tosculai/office.sock\n", read)
@@ -394,109 +366,6 @@ class Archive(unittest.TestCase):
             self.assertTrue(octets == file.read_bytes(), path)
             self.assertEqual(it.mode, file.stat().st_mode & 0o7777, path)
         self.assertEqual(0o755, (place / "opt/t/bin").stat().st_mode & 0o7777)
-
-
-class Manuals(unittest.TestCase):
-    def pages(self):
-        return {Path(path).stem: octets for path, octets in installed().items()
-                if path.startswith("usr/share/man/")}
-
-    def test_each_order_and_option_is_named(self):
-        pages = {name: gzip.decompress(it).decode() for name, it in self.pages().items()}
-        for order in ORDERS:
-            self.assertIn(rf"\fBcontacts\-{order}\fR(1)", pages["contacts.1"])
-            page = pages[f"contacts-{order}.1"].replace(r"\-", "-")
-            bold = [it for line in re.findall(r"(?m)^\\fB(-.*)\\fR$", page) for it in line.split()]
-            self.assertEqual(set(), options_of(order) - {it.rstrip(",") for it in bold}, order)
-        for option in options_of(""):
-            self.assertIn(option, pages["contacts.1"].replace(r"\-", "-"))
-        for said in "262,144", "fault store\\-fault 19", "/etc/default/tosculai":
-            self.assertIn(said, pages["tosculai.7"])
-
-    def test_they_are_packed_without_a_time(self):
-        for name, octets in self.pages().items():
-            self.assertEqual((b"\x1f\x8b\x08\0", b"\0" * 4), (octets[:4], octets[4:8]), name)
-
-    def test_each_program_has_its_page(self):
-        names = {Path(it).name for it in installed() if re.match(r"usr/s?bin/", it)}
-        self.assertEqual(set(), names - {it.rpartition(".")[0] for it in self.pages()})
-
-    def test_groff_warns_of_none(self):
-        if not shutil.which("man"):
-            self.skipTest("no man on this machine")
-        with Folder(in_memory=True) as folder:
-            # One page of all, since each start takes its time.
-            whole = folder / "all.1"
-            whole.write_bytes(b"".join(gzip.decompress(it) for it in self.pages().values()))
-            done = subprocess.run(
-                ["man", "-l", "--warnings", "-E", "UTF-8", "-Tutf8", "-Z", whole],
-                env={**os.environ, "LC_ALL": "C.UTF-8", "MANWIDTH": "80"},
-                stdout=subprocess.PIPE, stderr=subprocess.PIPE)
-        self.assertEqual((0, b""), (done.returncode, done.stderr))
-
-
-class Completion(unittest.TestCase):
-    def completed(self, *rows):
-        """What bash offers after each of these rows of words, of which the last is completed."""
-        file = only("*.deb").parent / "completion"
-        file.write_bytes(installed()["usr/share/bash-completion/completions/contacts"])
-        script = [f"source {shlex.quote(str(file))}"]
-        for words in rows:
-            listed = " ".join(map(shlex.quote, words))
-            script.append(f"COMP_WORDS=({listed}); COMP_CWORD={len(words) - 1}; _contacts; "
-                          'echo "${COMPREPLY[*]}"')
-        done = subprocess.run(["bash", "--norc", "-c", "\n".join(script)], check=True,
-                              stdout=subprocess.PIPE, stderr=subprocess.PIPE)
-        file.unlink()
-        self.assertEqual(b"", done.stderr)
-        return [set(it.split()) for it in done.stdout.decode().split("\n")[:-1]]
-
-    def setUp(self):
-        if not shutil.which("bash"):
-            self.skipTest("no bash on this machine")
-
-    def test_orders_and_options(self):
-        rows = [["contacts", ""], ["contacts", "help", ""], ["contacts", "-"]]
-        rows += [["contacts", order, "-"] for order in ORDERS]
-        wanted = [set(ORDERS), set(ORDERS), options_of("")] + [options_of(it) for it in ORDERS]
-        for row, want, offered in zip(rows, wanted, self.completed(*rows)):
-            self.assertEqual(want, offered, row)
-
-    def test_values(self):
-        rows = [(["contacts", "export", "--form", ""], {"cards", "columns"}),
-                (["contacts", "export", "--form", "co"], {"columns"}),
-                (["contacts", "run", "--port", ""], set()),
-                (["contacts", "c"], {"check", "convert", "copy"}),
-                (["contacts", "run", "a.db", "--max"], {"--max-held", "--max-open"}),
-                (["contacts", "tally", "a.db", ""], set())]
-        found = self.completed(*(words for words, _ in rows))
-        self.assertEqual([want for _, want in rows], found)
-
-
-class SampleOffice(unittest.TestCase):
-    def test_it_is_what_its_script_prints(self):
-        made = subprocess.run([sys.executable, str(ROOT / "examples/sample-office.py")], check=True,
-                              stdout=subprocess.PIPE).stdout
-        self.assertTrue(made == (ROOT / "examples/sample-office.csv").read_bytes())
-
-    def test_it_can_be_imported(self):
-        file = ROOT / "examples/sample-office.csv"
-        self.assertEqual(b"rows 212\n", run("check", file).out)
-        with Folder(in_memory=True) as folder:
-            book = [folder / "office.db", "staff"]
-            run("init", book[0])
-            run("book", *book)
-            self.assertEqual(b"new 212 edited 0 same 0 number 212\n",
-                             run("import", *book, "sample", file).out)
-            with open(file, encoding="utf-8", newline="") as opened:
-                rows = list(csv.reader(opened))
-            exported = run("export", *book).out.decode()
-            self.assertEqual(sorted(rows), sorted(csv.reader(io.StringIO(exported, newline=""))))
-            groups = [uid for uid, card in rows if "\r\nKIND:group\r\n" in card]
-            self.assertEqual(12, len(groups))
-            people = run("expand", *book, groups[-1]).out.splitlines()
-            self.assertEqual(200, len({it for it in people if it.startswith(b"person ")}))
-            self.assertEqual(7, sum("\r\nPHOTO:data:image/png;base64," in card for _, card in rows))
 
 
 if __name__ == "__main__":
