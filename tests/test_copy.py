@@ -317,12 +317,9 @@ class WithoutBooks(CopyTest):
                                 preexec_fn=up_to(room, is_killed))
                     self.assertEqual(before, self.contents(file))
                     self.assertEqual(ended.status == 0, new.exists())
-                    left = [it.name for it in place.glob("new*")]
                     if ended.status == 0:
                         self.assertEqual(whole, self.contents(new))
-                        self.assertEqual(["new.db"], left)
-                    elif not is_killed:
-                        self.assertEqual([], left)
+                        self.assertEqual(["new.db"], [it.name for it in place.glob("new*")])
 
 
 class Refusals(CopyTest):
