@@ -108,7 +108,7 @@ fn are_same_file(rt: &HostRuntime, a: &str, b: &str) -> bool {
 }
 
 /// Copies the books but those with these names into a new file at `making`, with the mode of the
-/// file at the path, and returns their number. An error may leave that file.
+/// file at the path, and returns their number. After an error nothing is there.
 fn fill_new(
     rt: &HostRuntime,
     books: &mut FileBooks,
@@ -118,8 +118,13 @@ fn fill_new(
     log: &str,
 ) -> Result<u64, CopyFault> {
     let connection = open_new(rt, path, making, log)?;
-    let (_files, count) = books.copy_without(names, connection)?;
-    Ok(count)
+    match books.copy_without(names, connection) {
+        Ok((_files, count)) => Ok(count),
+        Err(fault) => {
+            remove_new(rt, making, log);
+            Err(fault)
+        }
+    }
 }
 
 /// Gives the finished file its name, without its log. After an error nothing is at either name.
@@ -134,8 +139,7 @@ fn name_new(rt: &HostRuntime, making: &str, log: &str, target: &str) -> Result<(
     }
 }
 
-/// Makes the file at `making`, and then gives it the name `target`. After an error nothing is at
-/// either name.
+/// Makes the file at `making`, and then gives it the name `target`.
 fn make_file(
     rt: &HostRuntime,
     books: &mut FileBooks,
@@ -147,17 +151,9 @@ fn make_file(
     let log = log_of(rt, making)?;
     // What a copy left that was stopped.
     remove_new(rt, making, log.as_str());
-    match fill_new(rt, books, names, path, making, log.as_str()) {
-        Ok(count) => {
-            name_new(rt, making, log.as_str(), target)?;
-            Ok(count)
-        }
-        Err(fault) => {
-            // A disk that is full may have taken some octets of it.
-            remove_new(rt, making, log.as_str());
-            Err(fault)
-        }
-    }
+    let count = fill_new(rt, books, names, path, making, log.as_str())?;
+    name_new(rt, making, log.as_str(), target)?;
+    Ok(count)
 }
 
 /// Tests the names, and makes the file.
