@@ -6,4 +6,3 @@ pub mod FileRefusals
 pub mod OnConnections
 pub mod FileSearches
 pub mod ClosedFiles
-pub mod Copies

@@ -1,6 +1,4 @@
 pub mod CompareLemmas
-pub mod LoopLemmas
+pub mod CopyLemmas
 pub mod ReadLemmas
-pub mod RestLemmas
-pub mod WithoutLemmas
 pub mod WriteLemmas

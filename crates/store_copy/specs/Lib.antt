@@ -1,4 +1,2 @@
-pub mod BooksWithout
 pub mod CopiedRows
 pub mod OnConnections
-pub mod RowsWithout
