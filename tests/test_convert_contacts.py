@@ -460,6 +460,8 @@ card 4, line 13: UID added
             (workbook.getvalue(), "an Excel workbook; save it as CSV UTF-8"),
             (b"version: 1\ndn: cn=Ann\n", "LDIF; export the contacts as vCard or CSV"),
             (b"%PDF-1.4\n", "a PDF; export the contacts as vCard or CSV"),
+            (b"uid,fn,family,given,email,tel,org,note\np,Pat,,,,,,\n",
+             "in the form that contacts import takes as it is"),
         ]:
             for name in "a.csv", "a.vcf":
                 ended = self.convert(octets, name=name)

@@ -25,7 +25,8 @@ fn archive_words(head: &[u8]) -> &'static str {
 
 /// Whether the text is LDIF (RFC 2849).
 fn is_ldif(text: &[u8]) -> bool {
-    text.starts_with(b"dn:") || text.starts_with(b"version: 1\n")
+    text.starts_with(b"dn:")
+        || text.starts_with(b"version: 1\n")
         || text.starts_with(b"version: 1\r\n")
 }
 
@@ -43,6 +44,8 @@ pub(crate) fn foreign_format(head: &[u8]) -> Option<&'static str> {
         Some("a PDF; export the contacts as vCard or CSV")
     } else if head.starts_with(b"\x1F\x8B") {
         Some("compressed by gzip; unpack it, and convert its files")
+    } else if text.starts_with(b"uid,fn,family,given,email,tel,org,note") {
+        Some("in the form that contacts import takes as it is")
     } else if is_ldif(text) {
         Some("LDIF; export the contacts as vCard or CSV")
     } else if text.starts_with(b"<?xml") || text.starts_with(b"<html") {

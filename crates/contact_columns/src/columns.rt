@@ -96,7 +96,9 @@ fn column_names(alloc: Global, header: &ByteRecord) -> Result<Items<Text>, NoMem
 }
 
 fn has_name(names: &[Text], name: &str) -> bool {
-    names.iter().any(|it| it.as_str().eq_ignore_ascii_case(name))
+    names
+        .iter()
+        .any(|it| it.as_str().eq_ignore_ascii_case(name))
 }
 
 /// The program that writes columns of these names.
@@ -166,8 +168,12 @@ fn lower(alloc: Global, text: &str) -> Result<String, NoMemory> {
 fn should_reach(alloc: Global, name: &str) -> Result<bool, NoMemory> {
     let name = lower(alloc, name)?;
     let name = name.as_str();
-    Ok(name.contains("mail") || name.contains("phone") || name.contains("telefon")
-        || name.contains("mobil"))
+    Ok(
+        name.contains("mail")
+            || name.contains("phone")
+            || name.contains("telefon")
+            || name.contains("mobil"),
+    )
 }
 
 /// The columns that should have addresses of electronic mail or numbers of telephones, and have no

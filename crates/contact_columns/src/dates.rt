@@ -131,7 +131,11 @@ fn year_first(parts: (&str, &str, &str)) -> Option<Date> {
     if year.len() != 4 {
         return None;
     }
-    valid_date(Some(year_of(year)?), small_number(month)?, small_number(day)?)
+    valid_date(
+        Some(year_of(year)?),
+        small_number(month)?,
+        small_number(day)?,
+    )
 }
 
 /// The date of day, month and year, in which the month may be a name.
@@ -179,11 +183,13 @@ fn eight_digits(text: &str) -> Option<Date> {
 fn separated(text: &str, separator: char) -> Option<Parsed> {
     let parts = three_parts(text, separator)?;
     let is_ordered = separator == '.';
-    parsed_date(year_first(parts)).or(parsed_date(with_name(parts))).or(if is_ordered {
-        parsed_date(day_first(parts))
-    } else {
-        numbers(parts)
-    })
+    parsed_date(year_first(parts))
+        .or(parsed_date(with_name(parts)))
+        .or(if is_ordered {
+            parsed_date(day_first(parts))
+        } else {
+            numbers(parts)
+        })
 }
 
 /// The text without white space around it, and without a time of midnight after it.
@@ -258,11 +264,7 @@ fn push_year(date: &mut String, year: Option<u16>) -> Result<(), NoMemory> {
 /// The date in the basic form: `19900415`, or `--0415` without a year. `None` if the text is no
 /// date, or if it may be two: in a file whose order isn't known, `05/04/1980`. The only `Err` is
 /// out of memory.
-pub fn basic_date(
-    alloc: Global,
-    text: &str,
-    order: DateOrder,
-) -> Result<Option<String>, NoMemory> {
+pub fn basic_date(alloc: Global, text: &str, order: DateOrder) -> Result<Option<String>, NoMemory> {
     let Some(found) = read_date(text, order) else {
         return Ok(None);
     };

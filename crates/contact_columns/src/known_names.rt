@@ -17,7 +17,7 @@ pub(crate) enum Program {
 }
 
 /// A name in any case, and the name of Google's or Outlook's in English.
-type KnownName = (&'static str, &'static str);
+pub(crate) type KnownName = (&'static str, &'static str);
 
 const OFFICE: &[KnownName] = &[
     ("title", "Job Title"),
@@ -384,7 +384,7 @@ const HOME_PLACES: &[KnownName] = &[
 ];
 
 /// The name for one in a table, if the table has it, in any case.
-fn name_in(table: &[KnownName], name: &str) -> Option<&'static str> {
+pub(crate) fn name_in(table: &[KnownName], name: &str) -> Option<&'static str> {
     for (known, english) in table {
         if known.eq_ignore_ascii_case(name) {
             return Some(*english);

@@ -1,7 +1,6 @@
 //! The names of Google's numbered columns, as `E-mail 1 - Value`, in any case and in German.
 
-/// A name in any case, and Google's in English.
-type KnownName = (&'static str, &'static str);
+use crate::known_names::{KnownName, name_in};
 
 const KINDS: &[KnownName] = &[
     ("e-mail", "E-mail"),
@@ -62,16 +61,6 @@ pub(crate) struct NumberedName<'a> {
     pub(crate) kind: &'static str,
     pub(crate) number: &'a str,
     pub(crate) part: &'static str,
-}
-
-/// The name for one in a table, in any case.
-fn name_in(table: &[KnownName], name: &str) -> Option<&'static str> {
-    for (known, english) in table {
-        if known.eq_ignore_ascii_case(name) {
-            return Some(*english);
-        }
-    }
-    None
 }
 
 /// What the name says, if it is that of a numbered column.

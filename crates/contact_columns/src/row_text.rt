@@ -125,7 +125,11 @@ impl<R: Read + Drop> RowText<R> {
     /// long row are looked at a few times each.
     fn read_more(&mut self) -> io::Result<()> {
         let len = self.unread().len();
-        let size = if len < CHUNK_OCTETS { CHUNK_OCTETS } else { len };
+        let size = if len < CHUNK_OCTETS {
+            CHUNK_OCTETS
+        } else {
+            len
+        };
         let chunk = read_chunk(self.alloc, &mut self.reader, size)?;
         let Ok(input) = joined(self.alloc, self.unread(), chunk.as_slice()) else {
             return Err(no_memory());

@@ -307,7 +307,11 @@ pub(crate) fn is_date_text(lines: &[Line], home: usize, property: &str) -> bool 
         return false;
     }
     match lines.get(home) {
-        Some(line) => line.params.as_slice().iter().any(|it| it.name.as_str() == "VALUE"),
+        Some(line) => line
+            .params
+            .as_slice()
+            .iter()
+            .any(|it| it.name.as_str() == "VALUE"),
         None => false,
     }
 }

@@ -110,12 +110,7 @@ fn is_date_property(property: &str) -> bool {
 }
 
 /// A line with a date: in the form of vCard 4.0, or as a text if it is no date, or may be two.
-fn set_date(
-    alloc: Global,
-    line: &mut Line,
-    text: &str,
-    order: DateOrder,
-) -> Result<(), NoMemory> {
+fn set_date(alloc: Global, line: &mut Line, text: &str, order: DateOrder) -> Result<(), NoMemory> {
     match basic_date(alloc, text, order)? {
         Some(date) => line.value = Text::new(date),
         None => {
@@ -127,12 +122,7 @@ fn set_date(
 }
 
 /// Gives the line its value.
-fn set_value(
-    alloc: Global,
-    line: &mut Line,
-    text: &str,
-    order: DateOrder,
-) -> Result<(), NoMemory> {
+fn set_value(alloc: Global, line: &mut Line, text: &str, order: DateOrder) -> Result<(), NoMemory> {
     if is_date_property(line.name.as_str()) {
         return set_date(alloc, line, text, order);
     }

@@ -126,12 +126,7 @@ impl Kept {
     }
 
     /// Reports a cell with a date that is kept as a text.
-    fn report_text(
-        &mut self,
-        column: &Column,
-        place: usize,
-        home: usize,
-    ) -> Result<(), NoMemory>
+    fn report_text(&mut self, column: &Column, place: usize, home: usize) -> Result<(), NoMemory>
         ensures { OnOk result (ReportsOnly self.old self.new) }
     {
         if is_date_text(self.lines.as_slice(), home, column.property.as_str()) {
@@ -239,4 +234,3 @@ pub(crate) fn keep_cells(
     }
     Ok(made)
 }
-

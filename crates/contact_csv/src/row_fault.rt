@@ -65,11 +65,7 @@ fn has_width(columns: &[Column], row: &ByteRecord) -> bool
 }
 
 /// Why the row isn't converted, whatever its contact is. `cells` are the texts of its cells.
-pub(crate) fn fault_of_row(
-    columns: &[Column],
-    row: &ByteRecord,
-    cells: &[Text],
-) -> Option<RowFault>
+pub(crate) fn fault_of_row(columns: &[Column], row: &ByteRecord, cells: &[Text]) -> Option<RowFault>
     requires { cells.now ≡ map cell_text (fields_of row.now) }
     ensures { IfSome result (IsFaulty columns.now (fields_of row.now)) }
 {

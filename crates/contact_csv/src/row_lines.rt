@@ -19,11 +19,7 @@ pub(crate) struct RowLines {
 
 impl RowLines {
     /// No lines, for a row with this many cells, whose dates have this order.
-    pub(crate) fn new(
-        alloc: Global,
-        cells: usize,
-        dates: DateOrder,
-    ) -> Result<RowLines, NoMemory> {
+    pub(crate) fn new(alloc: Global, cells: usize, dates: DateOrder) -> Result<RowLines, NoMemory> {
         let mut homes = Vec::new(alloc);
         for _place in 0..cells {
             homes.push(0)?;

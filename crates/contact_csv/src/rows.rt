@@ -59,11 +59,7 @@ impl<R: Read + Drop> ContactReader<R> {
     ///
     /// An `Err` is `UnknownHeader` if `read_columns` knows no columns in the first row,
     /// `Unreadable` if the source fails, or `Memory`.
-    pub fn new(
-        alloc: Global,
-        source: R,
-        header: Header,
-    ) -> Result<ContactReader<R>, ContactFault>
+    pub fn new(alloc: Global, source: R, header: Header) -> Result<ContactReader<R>, ContactFault>
         // The reader has read the first record, and goes on after it.
         ensures header { IfOk result (λ reader. HasReadHeader R.remaining source reader) }
 

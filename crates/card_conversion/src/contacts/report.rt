@@ -109,7 +109,11 @@ fn fault_report(
             refused_report(alloc, place, why.as_str())
         }
         RowFault::Width => {
-            refused_report(alloc, place, "the row has more or fewer cells than the header")
+            refused_report(
+                alloc,
+                place,
+                "the row has more or fewer cells than the header",
+            )
         }
         RowFault::Card(fault) => {
             let why = format!(in alloc; "{fault}")?;

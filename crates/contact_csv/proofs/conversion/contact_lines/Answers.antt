@@ -15,7 +15,7 @@ returns-clause-contact c =
     let columns = c.args.columns.now.columns in
     let texts : c.as_slice-texts.result.now ≡ map cell_text fields = c.as_slice-texts.ensures ∙ c.in_ok-cells.ensures in
     let same : uid ≡ row_uid columns (map cell_text fields) =
-        c.in_ok-uid.ensures ∙ ap (λ cs. row_uid cs c.as_slice-texts.result.now) c.as_slice-names.ensures ∙ ap (row_uid columns) texts in
+    c.in_ok-uid.ensures ∙ ap (λ cs. row_uid cs c.as_slice-texts.result.now) c.as_slice-names.ensures ∙ ap (row_uid columns) texts in
     ok_then c.keep_cells.result (λ made keeps. row_kept uid columns fields made same
     (subst (λ count. Keeps uid columns (map cell_text fields) count made) (length-map fields cell_text)
     (subst (λ ts. Keeps uid columns ts (length ts) made) texts

@@ -13,7 +13,7 @@ loop-place-preserved c =
     let text : c.as_str-text.result.now ≡ get_or cells place [] = c.as_str-text.ensures ∙ c.index-cells-place.is ∙ get_or_default cells place _ [] c.loop-place-test.true in
     let name : c.as_str-name.result.now ≡ (column_at columns place).name = c.as_str-name.ensures ∙ ap (λ column. column.name) c.column_at.ensures in
     let pushed : c.push_cell.new.octets.items ≡ c.loop-place.octets.items ++ cell_octets (column_at columns place).name (get_or cells place []) =
-        c.in_ok-push_cell.ensures ∙ ap (λ n. c.loop-place.octets.items ++ cell_octets n c.as_str-text.result.now) name ∙ ap (λ t. c.loop-place.octets.items ++ cell_octets (column_at columns place).name t) text in
+    c.in_ok-push_cell.ensures ∙ ap (λ n. c.loop-place.octets.items ++ cell_octets n c.as_str-text.result.now) name ∙ ap (λ t. c.loop-place.octets.items ++ cell_octets (column_at columns place).name t) text in
     ap (λ l. l ++ octets_from columns (place + 1) (drop (place + 1) cells)) pushed
     ∙ more_octets columns cells place c.loop-place.octets.items (octets_from columns 0 cells) c.loop-place-test.true c.loop-place.invariant
 
