@@ -3,7 +3,7 @@ use Rattle.std.proofs.lemmas.List.{get_or_default}
 use Rattle.contact_csv.specs.Carrying.{column_at}
 use Rattle.contact_csv.specs.internal.Keeping.{KeepsCell}
 use Rattle.contact_csv.proofs.KeepLemmas.{keeps_more, keeps_fewer}
-use Rattle.contact_csv.proofs.keeping.keep_all.Goals as goal
+use Rattle.contact_csv.proofs.keeping.keep_cells.Goals as goal
 
 pub loop-place-preserved : goal.loop-place-preserved
 loop-place-preserved c =
