@@ -2,12 +2,10 @@
 
 /// Whether the octets have these among them.
 fn has_octets(octets: &[u8], wanted: &[u8]) -> bool {
-    let mut rest = octets;
-    while let Some((_, tail)) = rest.split_first() {
-        if rest.starts_with(wanted) {
+    for start in 0..octets.len() {
+        if octets[start..].starts_with(wanted) {
             return true;
         }
-        rest = tail;
     }
     false
 }
