@@ -52,7 +52,11 @@ class Watching(ClientTest):
     def watch(self, *options):
         arguments = ["sync", self.url, "staff", str(self.cards), "--watch", "--every", "0.2"]
         self.process = subprocess.Popen(
-            [*TOSCULAI, *arguments, *options], stdout=subprocess.PIPE, stderr=subprocess.PIPE
+            [*TOSCULAI, *arguments, *options],
+            stdout=subprocess.PIPE,
+            stderr=subprocess.PIPE,
+            # A suite that a shell started in the background ignores it, and so would this.
+            preexec_fn=lambda: signal.signal(signal.SIGINT, signal.SIG_DFL),
         )
         self.addCleanup(self.end)
 
