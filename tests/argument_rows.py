@@ -21,7 +21,7 @@ FORGET = "forget <FILE> <BOOK> <UPTO>"
 MIRROR = "mirror [OPTIONS] <FILE> <BOOK>"
 EXPAND = "expand <FILE> <BOOK> <UID>"
 MIGRATE = "migrate <FILE>"
-COPY = "copy <FILE> <NEW>"
+COPY = "copy [OPTIONS] <FILE> <NEW>"
 RESTORE = "restore [OPTIONS] <BACKUP> <FILE>"
 RESYNC = "resync [OPTIONS] <FILE>"
 CHECK = "check <FILE>"
@@ -127,8 +127,9 @@ MISSING = [
     ("mirror --limit 1 a.db", missing("<BOOK>", "mirror --limit <L> <FILE> <BOOK>")),
     ("expand a.db staff", missing("<UID>", EXPAND)),
     ("migrate", missing("<FILE>", MIGRATE)),
-    ("copy", missing("<FILE> <NEW>", COPY)),
-    ("copy a.db", missing("<NEW>", COPY)),
+    ("copy", missing("<FILE> <NEW>", "copy <FILE> <NEW>")),
+    ("copy a.db", missing("<NEW>", "copy <FILE> <NEW>")),
+    ("copy a.db --without staff", missing("<NEW>", "copy --without <BOOK> <FILE> <NEW>")),
     ("restore", missing("<BACKUP> <FILE>", "restore <BACKUP> <FILE>")),
     ("restore b.db", missing("<FILE>", "restore <BACKUP> <FILE>")),
     ("resync", missing("<FILE>", "resync <FILE>")),
@@ -249,6 +250,7 @@ NO_VALUES = [
     ("run --idle-timeout --log a.db", no_value("--idle-timeout <S>")),
     ("run a.db --max-held", no_value("--max-held <MIB>")),
     ("run a.db --site", no_value("--site <DIR>")),
+    ("copy a.db b.db --without", no_value("--without <BOOK>")),
     ("serve a.db --port", no_value("--port <P>")),
     ("serve a.db --port --", no_value("--port <P>")),
     ("serve --port --connections 1 a.db", no_value("--port <P>")),
@@ -324,6 +326,9 @@ NO_NUMBERS = [
     ("mirror a.db staff --pages 0", out_of_range(0, "--pages <P>", 1, 1000000)),
     ("mirror a.db staff --pages 1000001", out_of_range(1000001, "--pages <P>", 1, 1000000)),
     ("mirror a.db staff --pages=-1", no_digits("-1", "--pages <P>")),
+    ("run a.db --socket=", invalid("", "--socket <PATH>", "it needs the path of a socket")),
+    ("run --socket= --create a.db",
+     invalid("", "--socket <PATH>", "it needs the path of a socket")),
 ]
 
 # A socket takes the place of a port, even of the default one.
@@ -388,6 +393,8 @@ GOOD = [
     "migrate -- --help",
     "copy a.db b.db",
     "copy -- --help -V",
+    "copy a.db b.db --without staff",
+    "copy --without=staff --without desk a.db b.db",
     "restore b.db a.db",
     "restore --skip 2 b.db a.db",
     "resync a.db",

@@ -28,7 +28,7 @@ EXPORTS = [
         "Google's columns of today; a label that is no type of RFC 6350 goes to X-ABLABEL",
         GOOGLE_TODAY.encode(),
         [
-            "UID:urn:uuid:57355341-e8fa-52c8-b2fa-9c7d35ac1400",
+            "UID:urn:uuid:a041bd3b-39d0-54c2-85a0-a3215c9418f1",
             "N:Lee;Ann;;Dr.;",
             "ORG:Acme;Sales",
             "TITLE:Boss",
@@ -56,18 +56,18 @@ EXPORTS = [
         "1 cards written, 1 changed, 0 not carried\n",
     ),
     Export(
-        "Outlook's, with semicolons; a column without a property, and a cell without a column",
+        "Outlook's, with semicolons; columns without a property, and a row without a value",
         (
             "First Name;Middle Name;Last Name;Title;Suffix;Company;Department;Job Title;"
             "Business Street;Business City;E-mail Address;E-mail Type;Mobile Phone;Business Fax;"
             "Birthday;Notes;Categories;Gender\r\n"
             "J\u00fcrgen;;M\u00fcller;;;Acme;;;Hauptstr. 1;Berlin;j@x.test;SMTP;0171;030;"
             "4/15/1990;;"
-            '"Business;Personal";Unspecified;extra\r\n'
+            '"Business;Personal";Unspecified\r\n'
             ";;;;;;;;;;;;;;0/0/00;;;\r\n"
         ).encode(),
         [
-            "UID:urn:uuid:272ee687-ae63-530e-9f46-4ffbe4fc6b37",
+            "UID:urn:uuid:3d7cbb15-385f-52bf-a8e6-dfa8a85ca155",
             "N:M\u00fcller;J\u00fcrgen;;;",
             "ORG:Acme",
             "ADR;TYPE=work:;;Hauptstr. 1;Berlin;;;",
@@ -80,14 +80,11 @@ EXPORTS = [
             "FN:J\u00fcrgen M\u00fcller",
             "X-E-MAIL-TYPE:SMTP",
             "X-GENDER:Unspecified",
-            "X-COLUMN:extra",
         ],
         "row 1, line 2: the cell of E-mail Type kept as X-E-MAIL-TYPE\n"
         "row 1, line 2: the cell of Birthday rewritten\n"
         "row 1, line 2: the cell of Gender kept as X-GENDER\n"
-        "row 1, line 2: the cell of column 19 kept as X-COLUMN\n"
-        "row 2, line 3: not carried: the row has no value\n"
-        "1 cards written, 1 changed, 1 not carried\n",
+        "1 cards written, 1 changed, 0 not carried\n",
     ),
     Export(
         "Google's older columns after a byte order mark; a date without a year",
@@ -99,7 +96,7 @@ EXPORTS = [
             "Home Fax,+1 555\n"
         ).encode(),
         [
-            "UID:urn:uuid:a3889777-5f4b-5b67-995a-ae8e5803d525",
+            "UID:urn:uuid:3565c13b-dd66-5f7e-9f1a-8a5450db56e0",
             "FN:Lee\\, Ann\\; jr.",
             "N:Lee\\, jr.;Ann;;;",
             "BDAY:--0415",
@@ -117,13 +114,14 @@ EXPORTS = [
         b"First Name\tLast Name\tE-mail Address\tOther Phone\tBirthday\tNotes\tNotes\r\n"
         b'\t\t\t555\tin spring\t"a\r\nb\x0bc"\tagain\r\n',
         [
-            "UID:urn:uuid:2e559df8-ed52-52bd-8f58-3b5c370792c2",
+            "UID:urn:uuid:06ddb8a6-dfb4-56e1-b291-6680c76f9e07",
             "TEL:555",
             "BDAY;VALUE=text:in spring",
             "NOTE:a\\nb c",
             "FN:555",
             "X-NOTES:again",
         ],
+        "row 1, line 2: the cell of Birthday kept as text: its day, month or year isn't certain\n"
         "row 1, line 2: the cell of Notes kept as X-NOTES\n"
         "1 cards written, 1 changed, 0 not carried\n",
     ),
@@ -131,11 +129,184 @@ EXPORTS = [
         "an octet that isn't UTF-8 is a character of Latin-1",
         b"First Name,E-mail Address\nA\xff,a@x.test\n",
         [
-            "UID:urn:uuid:da977d58-104a-56c7-bfbc-813a40f44417",
+            "UID:urn:uuid:69498a95-d946-55f3-a8ab-b11af0feb3d6",
             "N:;A\u00ff;;;",
             "EMAIL:a@x.test",
             "FN:A\u00ff",
         ],
         "1 cards written, 0 changed, 0 not carried\n",
+    ),
+]
+
+# A title, a header and one row, and the lines of the card but UID and those that begin with X-.
+KNOWN_HEADERS = [
+    (
+        "a small one",
+        "Name,Email,Phone,Company\nAnn Lee,a@x.test,+1 555,Acme\n",
+        ["EMAIL:a@x.test", "FN:Ann Lee", "ORG:Acme", "TEL:+1 555"],
+    ),
+    (
+        "a small one with names",
+        "First Name,Last Name,Email,Mobile Phone,Company\nAnn,Lee,a@x.test,555,Acme\n",
+        ["EMAIL:a@x.test", "FN:Ann Lee", "N:Lee;Ann;;;", "ORG:Acme", "TEL;TYPE=cell:555"],
+    ),
+    (
+        "Thunderbird in English",
+        "First Name,Last Name,Display Name,Nickname,Primary Email,Secondary Email,Screen Name,"
+        "Work Phone,Home Phone,Fax Number,Pager Number,Mobile Number,Home Address,Home Address 2,"
+        "Home City,Home State,Home ZipCode,Home Country,Work Address,Work Address 2,Work City,"
+        "Work State,Work ZipCode,Work Country,Job Title,Department,Organization,Web Page 1,"
+        "Web Page 2,Birth Year,Birth Month,Birth Day,Custom 1,Notes\n"
+        "Ann,Lee,Ann Lee,Annie,a@x.test,a2@x.test,,1,2,3,4,5,1 Main St,2nd floor,Town,IL,627,US,"
+        "2 Main St,,City,IL,628,US,Boss,Sales,Acme,https://a.test,https://b.test,1980,4,15,,hi\n",
+        [
+            "ADR;TYPE=home:;2nd floor;1 Main St;Town;IL;627;US",
+            "ADR;TYPE=work:;;2 Main St;City;IL;628;US",
+            "EMAIL:a2@x.test",
+            "EMAIL:a@x.test",
+            "FN:Ann Lee",
+            "N:Lee;Ann;;;",
+            "NICKNAME:Annie",
+            "NOTE:hi",
+            "ORG:Acme;Sales",
+            "TEL;TYPE=cell:5",
+            "TEL;TYPE=fax:3",
+            "TEL;TYPE=home:2",
+            "TEL;TYPE=pager:4",
+            "TEL;TYPE=work:1",
+            "TITLE:Boss",
+            "URL:https://a.test",
+            "URL;TYPE=home:https://b.test",
+        ],
+    ),
+    (
+        "Thunderbird in German",
+        "Vorname,Nachname,Anzeigename,Spitzname,Prim\u00e4re E-Mail-Adresse,"
+        "Sekund\u00e4re E-Mail-Adresse,Messenger-Name,Tel. dienstlich,Tel. privat,Fax-Nummer,"
+        "Pager-Nummer,Mobil-Tel.-Nr.,Privat: Adresse,Privat: Adresse 2,Privat: Ort,"
+        "Privat: Bundesland,Privat: PLZ,Privat: Land,Dienstlich: Adresse,Dienstlich: Ort,"
+        "Dienstlich: PLZ,Arbeitstitel,Abteilung,Organisation,Webseite 1,Geburtsjahr,Geburtsmonat,"
+        "Geburtstag,Notizen\n"
+        "Ann,Lee,Ann Lee,,a@x.test,,,1,2,3,,5,Weg 1,,Ort,,10115,DE,Platz 2,Stadt,10117,Leiterin,"
+        "Einkauf,Acme,,1980,4,15,\n",
+        [
+            "ADR;TYPE=home:;;Weg 1;Ort;;10115;DE",
+            "ADR;TYPE=work:;;Platz 2;Stadt;;10117;",
+            "EMAIL:a@x.test",
+            "FN:Ann Lee",
+            "N:Lee;Ann;;;",
+            "ORG:Acme;Einkauf",
+            "TEL;TYPE=cell:5",
+            "TEL;TYPE=fax:3",
+            "TEL;TYPE=home:2",
+            "TEL;TYPE=work:1",
+            "TITLE:Leiterin",
+        ],
+    ),
+    (
+        "the users of Office 365",
+        "Block credential,City,Country,Department,Display name,Fax,First name,Last name,"
+        "Mobile Phone,Object Id,Office,Phone number,Postal code,Proxy addresses,State,"
+        "Street address,Title,User principal name\n"
+        "FALSE,Town,US,Sales,Ann Lee,3,Ann,Lee,5,1-2-3,B12,1,627,SMTP:a@x.test,IL,1 Main St,Boss,"
+        "a@x.test\n",
+        [
+            "ADR;TYPE=work:;;1 Main St;Town;IL;627;US",
+            "EMAIL:a@x.test",
+            "FN:Ann Lee",
+            "N:Lee;Ann;;;",
+            "ORG:;Sales",
+            "TEL;TYPE=cell:5",
+            "TEL;TYPE=work,fax:3",
+            "TEL;TYPE=work:1",
+            "TITLE:Boss",
+        ],
+    ),
+    (
+        "Outlook in German",
+        "Anrede,Vorname,Weitere Vornamen,Nachname,Suffix,Firma,Abteilung,Position,"
+        "Stra\u00dfe gesch\u00e4ftlich,Ort gesch\u00e4ftlich,Postleitzahl gesch\u00e4ftlich,"
+        "Land/Region gesch\u00e4ftlich,Stra\u00dfe privat,Ort privat,Fax gesch\u00e4ftlich,"
+        "Telefon gesch\u00e4ftlich,Telefon (privat),Mobiltelefon,E-Mail-Adresse,"
+        "E-Mail 2: Adresse,Geburtstag,Kategorien,Notizen,Webseite\n"
+        "Dr.,Ann,Ruth,Lee,,Acme,Einkauf,Leiterin,Weg 1,Ort,10115,DE,Gasse 3,Dorf,3,1,2,5,a@x.test,"
+        "a2@x.test,15.04.1980,Kunden,hallo,https://a.test\n",
+        [
+            "ADR;TYPE=home:;;Gasse 3;Dorf;;;",
+            "ADR;TYPE=work:;;Weg 1;Ort;;10115;DE",
+            "BDAY:19800415",
+            "CATEGORIES:Kunden",
+            "EMAIL:a2@x.test",
+            "EMAIL:a@x.test",
+            "FN:Dr. Ann Ruth Lee",
+            "N:Lee;Ann;Ruth;Dr.;",
+            "NOTE:hallo",
+            "ORG:Acme;Einkauf",
+            "TEL;TYPE=cell:5",
+            "TEL;TYPE=home:2",
+            "TEL;TYPE=work,fax:3",
+            "TEL;TYPE=work:1",
+            "TITLE:Leiterin",
+            "URL:https://a.test",
+        ],
+    ),
+    (
+        "Outlook in French",
+        "Titre,Pr\u00e9nom,Nom,Soci\u00e9t\u00e9,Service,Rue (bureau),Ville (bureau),"
+        "Code postal (bureau),T\u00e9l\u00e9phone (bureau),T\u00e9l\u00e9phone (domicile),"
+        "T\u00e9l. mobile,T\u00e9l\u00e9copie (bureau),Adresse de messagerie,Cat\u00e9gories,"
+        "Notes,Page Web\n"
+        "Mme,Ann,Lee,Acme,Achats,1 rue,Paris,75001,1,2,5,3,a@x.test,Clients,note,https://a.test\n",
+        [
+            "ADR;TYPE=work:;;1 rue;Paris;;75001;",
+            "CATEGORIES:Clients",
+            "EMAIL:a@x.test",
+            "FN:Mme Ann Lee",
+            "N:Lee;Ann;;Mme;",
+            "NOTE:note",
+            "ORG:Acme;Achats",
+            "TEL;TYPE=cell:5",
+            "TEL;TYPE=home:2",
+            "TEL;TYPE=work,fax:3",
+            "TEL;TYPE=work:1",
+            "URL:https://a.test",
+        ],
+    ),
+    (
+        "LinkedIn",
+        "First Name,Last Name,URL,Email Address,Company,Position,Connected On\n"
+        "Ann,Lee,https://a.test,a@x.test,Acme,Boss,15 Apr 2020\n",
+        [
+            "EMAIL:a@x.test",
+            "FN:Ann Lee",
+            "N:Lee;Ann;;;",
+            "ORG:Acme",
+            "TITLE:Boss",
+            "URL:https://a.test",
+        ],
+    ),
+    (
+        "HubSpot",
+        "Record ID,First Name,Last Name,Email,Phone Number,Company name,Lead Status\n"
+        "12,Ann,Lee,a@x.test,1,Acme,New\n",
+        ["EMAIL:a@x.test", "FN:Ann Lee", "N:Lee;Ann;;;", "ORG:Acme", "TEL:1"],
+    ),
+    (
+        "Google in German",
+        "Vorname,Nachname,E-Mail 1 - Label,E-Mail 1 - Wert,Telefon 1 - Label,Telefon 1 - Wert,"
+        "Adresse 1 - Label,Adresse 1 - Stra\u00dfe,Adresse 1 - Ort,Adresse 1 - Postleitzahl\n"
+        "Ann,Lee,* Work,a@x.test,Mobile,5,Home,Weg 1,Ort,10115\n",
+        [
+            "ADR;TYPE=home:;;Weg 1;Ort;;10115;",
+            "EMAIL;TYPE=work;PREF=1:a@x.test",
+            "FN:Ann Lee",
+            "N:Lee;Ann;;;",
+            "TEL;TYPE=cell:5",
+        ],
+    ),
+    (
+        "given names beside names",
+        "Name,Vorname,Telefon,E-Mail\nLee,Ann,1,a@x.test\n",
+        ["EMAIL:a@x.test", "FN:Ann Lee", "N:Lee;Ann;;;", "TEL:1"],
     ),
 ]

@@ -26,7 +26,7 @@ book's initial report
   mirror   Sync a book to a new device page by page, and print the device's copy
   expand   List the people in a group and in its nested groups
   migrate  Convert a store file from schema 1 to schema 2, and print its number of books
-  copy     Copy all books of a store file into a new file, and print their number
+  copy     Copy the books of a store file into a new file, and print their number
   restore  Put a copy back in place of a store file, and make every device start again
   resync   Make every device start again after the file was put back from a copy, and print its \
 number of books
@@ -117,8 +117,8 @@ connect
       --host <NAME>       A name of this server, which requests may have in their Host field; \
 127.0.0.1, localhost and [::1] are always allowed. May be given more than once
       --max-open <M>      Maximum number of connections open at once, 1 to 1000 [default: 256]
-      --idle-timeout <S>  Seconds after which an idle connection is closed, or one whose request \
-headers are incomplete, 1 to 3600 [default: 60]
+      --idle-timeout <S>  Seconds after which a silent connection is closed, or one whose request \
+isn't complete, 1 to 3600; a long request has one more for each 4096 bytes [default: 60]
       --max-held <MIB>    Maximum memory for long requests and replies that are on their way, in \
 MiB, 16 to 1024; one by itself may have more [default: 64]
       --create            Create the file if it isn't there
@@ -290,23 +290,27 @@ Example:
 """
 
 HELP["copy"] = """\
-Copy all books of a store file into a new file, and print their number
+Copy the books of a store file into a new file, and print their number
 
-Usage: contacts copy <FILE> <NEW>
+Usage: contacts copy [OPTIONS] <FILE> <NEW>
 
 Arguments:
   <FILE>  Path of the store file
   <NEW>   Path of the copy; nothing may be there
 
 Options:
-  -h, --help  Print help
+      --without <BOOK>  Name of a book to leave out. May be given more than once
+  -h, --help            Print help
 
 Example:
   contacts copy office.db backup.db
 
 The copy is one file, without a log beside it. It was opened and compared before the command ends. \
-It holds no text of a card that was removed or replaced. While a server has the file open, it can't \
-be copied.
+It holds no text of a card that was removed or replaced, nor of a book that is left out. While a \
+server has the file open, it can't be copied.
+
+If a book is left out, the others keep their names and cards, but get new ids. So every device \
+copies them anew, as after `resync`.
 """
 
 HELP["restore"] = """\

@@ -34,6 +34,18 @@ PIECES = [
 ]
 
 
+# Names of character sets, each with the name of Python's codec. What is called ISO/IEC 8859-1, -9 or
+# -11 is mostly Windows-1252, -1254 or -874, which only have more characters.
+CHARSETS = [
+    ("ISO-8859-1", "cp1252"), ("windows-1252", "cp1252"), ("latin1", "latin-1"),
+    *((f"ISO-8859-{number}", f"iso8859-{number}") for number in range(2, 9)),
+    ("ISO-8859-9", "cp1254"), ("iso_8859-10", "iso8859-10"), ("ISO-8859-11", "cp874"),
+    *((f"ISO-8859-{number}", f"iso8859-{number}") for number in range(13, 17)),
+    *((f"windows-{number}", f"cp{number}") for number in (874, *range(1250, 1259))),
+    ("CP1251", "cp1251"), ("latin2", "iso8859-2"), ("KOI8-R", "koi8-r"), ("koi8-u", "koi8-u"),
+]
+
+
 def text(lines, end="\r\n"):
     return "".join(line + end for line in lines)
 
@@ -102,6 +114,22 @@ class Convert(OrderTest):
                 self.assertEqual(0, ended.status, ended)
                 wanted = card("4.0", "UID:a", "FN:Zoë Ångström")
                 self.assertEqual(wanted, unfolded(rows_of(ended.out)[0][1].encode()))
+
+    def test_charsets(self):
+        """Each octet from 160 on of each known character set, as Python decodes it. Where the set
+        has no character for it, the octet is U+FFFD."""
+        for name, codec in CHARSETS:
+            for octets in bytes(range(160, 208)), bytes(range(208, 256)):
+                wanted = octets.decode(codec, "replace")
+                encoded = "".join(f"={octet:02X}" for octet in octets).encode()
+                for encoding, value in [(b"", octets), (b";QUOTED-PRINTABLE", encoded)]:
+                    with self.subTest(name, octets=octets[0], encoding=encoding):
+                        note = b"NOTE;CHARSET=" + name.encode() + encoding + b":" + value + b"\r\n"
+                        before, after = text(card("2.1", "UID:a", "FN:A", "|")).encode().split(b"|\r\n")
+                        ended = self.convert(before + note + after)
+                        self.assertEqual(0, ended.status, ended)
+                        made = card("4.0", "UID:a", "FN:A", "NOTE:" + wanted)
+                        self.assertEqual(made, unfolded(rows_of(ended.out)[0][1].encode()))
 
     def test_a_character_of_two_units(self):
         """RFC 2781, section 5: the Egyptian god Ra as a character, an equals sign, and his name."""

@@ -1,4 +1,4 @@
-"""`contacts convert`: contacts that Google and Outlook export as CSV, and rows of `export`.
+"""`contacts convert`: contacts that programs export as CSV, and rows of `export`.
 
 The expected cards and reports are worked out by hand. Whatever is converted must pass `check`, and
 the same file gives the same octets.
@@ -6,10 +6,12 @@ the same file gives the same octets.
 
 import csv
 import io
+import random
 import unittest
 import uuid
+import zipfile
 
-from contact_rows import EXPORTS
+from contact_rows import EXPORTS, KNOWN_HEADERS
 from converted_cards import added_uid
 from order_trials import OrderTest
 from program import ROOT, Ended, run
@@ -61,7 +63,7 @@ row 2, line 6: the cell of Birthday rewritten
 """
 
 # Outlook's columns. The second row has no value, the fourth is the first one again, and the fifth
-# has a cell without a column.
+# has one cell more than the header.
 OUTLOOK_HEAD = ["First Name", "Last Name", "Company", "Business Street", "E-mail Address",
                 "E-mail Type", "Mobile Phone", "Birthday", "Notes", "Sensitivity"]
 JURGEN = ["Jürgen", "Müller", "Acme", "Hauptstr. 1", "j@x.test", "SMTP", "0171", "4/15/1990",
@@ -87,16 +89,14 @@ OUTLOOK = [
         "X-SENSITIVITY:Normal",
     ],
     ["FN:Ann", "N:;Ann;;;"],
-    ["FN:Bob", "N:;Bob;;;", "X-COLUMN:more"],
 ]
 OUTLOOK_REPORT = """\
 row 1, line 2: the cell of E-mail Type kept as X-E-MAIL-TYPE
 row 1, line 2: the cell of Birthday rewritten
 row 1, line 2: the cell of Sensitivity kept as X-SENSITIVITY
-row 2, line 4: not carried: the row has no value
-row 4, line 6: not carried: an earlier row has the same cells
-row 5, line 8: the cell of column 11 kept as X-COLUMN
-3 cards written, 2 changed, 2 not carried
+row 4, line 6: an earlier row has the same cells
+row 5, line 8: not carried: the row has more or fewer cells than the header
+2 cards written, 1 changed, 1 not carried
 """
 
 
@@ -112,9 +112,16 @@ def rows_of(octets):
     return list(csv.reader(io.StringIO(octets.decode(), newline="")))[1:]
 
 
-def row_uid(cells):
-    """The UUID of version 5 of the cells, each with ASCII's unit separator after it."""
-    return added_uid("".join(cell + "\x1f" for cell in cells).encode())
+def row_uid(header, cells):
+    """The UUID of version 5 of the cells that have a value, each after the name of its column."""
+    texts = [(name, cell.replace("\r\n", "\n")) for name, cell in zip(header, cells)]
+    filled = [(name, text) for name, text in texts if text.strip() not in ("", "*", "0/0/00")]
+    return added_uid("".join(f"{name}\x1f{text}\x1e" for name, text in filled).encode())
+
+
+def header_of(octets):
+    """The cells of the first row."""
+    return next(csv.reader(io.StringIO(octets.decode("utf-8-sig"), newline="")))
 
 
 class ConvertContacts(OrderTest):
@@ -143,7 +150,8 @@ class ConvertContacts(OrderTest):
         rows = rows_of(ended.out)
         self.assertEqual(GOOGLE, [self.lines(row) for row in rows])
         self.assertEqual((0, GOOGLE_REPORT), (ended.status, ended.err.decode()))
-        self.assertEqual([row_uid(cells) for cells in rows_of(octets)], [row[0] for row in rows])
+        uids = [row_uid(header_of(octets), cells) for cells in rows_of(octets)]
+        self.assertEqual(uids, [row[0] for row in rows])
         self.checked(ended.out, 3)
         self.assertEqual(ended, self.convert(octets), "not the same again")
         # Lines are counted alike whatever ends them.
@@ -161,9 +169,9 @@ class ConvertContacts(OrderTest):
                 rows = rows_of(ended.out)
                 self.assertEqual(OUTLOOK, [self.lines(row) for row in rows])
                 self.assertEqual((1, OUTLOOK_REPORT), (ended.status, ended.err.decode()))
-                wanted = [row_uid(OUTLOOK_ROWS[place]) for place in (0, 2, 4)]
+                wanted = [row_uid(OUTLOOK_HEAD, OUTLOOK_ROWS[place]) for place in (0, 2)]
                 self.assertEqual(wanted, [row[0] for row in rows])
-                self.checked(ended.out, 3)
+                self.checked(ended.out, 2)
 
     def test_whole_cards(self):
         """The lines of each card in their order, with its UID."""
@@ -214,7 +222,7 @@ class ConvertContacts(OrderTest):
         ended = self.convert(octets, "--to", "to")
         self.assertEqual((0, b"", GOOGLE_REPORT), (ended.status, ended.out, ended.err.decode()))
         names = sorted(path.name for path in (self.folder / "to").iterdir())
-        uids = [uuid.UUID(row_uid(cells)) for cells in rows_of(octets)]
+        uids = [uuid.UUID(row_uid(header_of(octets), cells)) for cells in rows_of(octets)]
         self.assertEqual(sorted(f"{uid}.vcf" for uid in uids), names)
         ended = self.convert(octets, "--rows", 2)
         self.assertEqual((0, b"", GOOGLE_REPORT), (ended.status, ended.out, ended.err.decode()))
@@ -270,11 +278,15 @@ card 4, line 13: UID added
                 self.assertEqual(Ended(refused, HEAD, report), ended)
 
     def test_unknown_headers(self):
-        words = "has no header of Google's or Outlook's contacts in English"
-        for title, octets in [
-            ("no octet", b""),
-            ("another language", b"Vorname,Nachname,E-Mail-Adresse\nAnn,Lee,a@x.test\n"),
-            ("other columns", b"uid,vcards\na,b\n"),
+        known = "has no header of contacts that is known"
+        unread = "has a header whose columns aren't known: "
+        for title, octets, words in [
+            ("no octet", b"", known),
+            ("another language", b"Imi\xc4\x99,Nazwisko,Poczta\nAnn,Lee,a@x.test\n", known),
+            ("other columns", b"uid,vcards\na,b\n", known),
+            # A file whose addresses and numbers would all be kept aside isn't converted.
+            ("unknown reach", b"First Name;Labels;Mail (priv.);Mobil 2\nA;b;a@x.test;1\n",
+             unread + "Mail (priv.), Mobil 2"),
         ]:
             for name in "a.csv", "a.CSV":
                 with self.subTest(title, name=name):
@@ -290,6 +302,189 @@ card 4, line 13: UID added
             ended = self.convert(octets, name="cards.csv")
             self.assertEqual((0, report), (ended.status, ended.err))
             self.assertEqual([["a", card.decode()]], rows_of(ended.out))
+
+    def names(self, ended):
+        """The FN of each card, in order."""
+        lines = [line for row in rows_of(ended.out) for line in self.lines(row)]
+        return [line[3:] for line in lines if line.startswith("FN:")]
+
+    def test_a_quote_that_is_not_closed(self):
+        """Of 1,000 rows one is told, and all others are carried."""
+        header = "First Name,Last Name,E-mail Address,Notes\n"
+        rows = [f"A{number},Lee,a{number}@x.test,plain\n" for number in range(1, 1001)]
+        wanted = [f"A{number} Lee" for number in range(1, 1001) if number != 11]
+        report = (b"row 11, line 12: not carried: a quote isn't closed in its row\n"
+                  b"999 cards written, 0 changed, 1 not carried\n")
+        for title, row, other in [
+            ("to the end of the file", 'A11,Lee,a11@x.test,"plain\n', "plain"),
+            ("up to a quote of a later row", 'A11,Lee,a11@x.test,"plain\n', '"in quotes"'),
+            ("in the first cell", '"A11,Lee,a11@x.test,plain\n', "plain"),
+            ("text after a quote", 'A11,Lee,a11@x.test,"pl"ain\n', "plain"),
+            ("so that cells are missing", 'A11,"Lee,a11@x.test,plain\n', 'with a quote",'),
+        ]:
+            with self.subTest(title):
+                rows[10] = row
+                rows[50] = rows[50].replace("plain", other)
+                if other.endswith(","):
+                    rows[50] = "A51,Lee,with a quote\",a\n"
+                ended = self.convert((header + "".join(rows)).encode())
+                self.assertEqual((1, report), (ended.status, ended.err))
+                self.assertEqual(wanted, self.names(ended))
+                rows[50] = "A51,Lee,a51@x.test,plain\n"
+
+    def test_cells_of_several_lines(self):
+        """Cells of up to 200 lines are read as Python's csv reads them; a longer one is told."""
+        header = ["First Name", "E-mail Address", "Notes"]
+        for count in 1, 2, 199, 200, 201, 300:
+            note = "\n".join(f'line "{number}"' for number in range(count))
+            octets = csv_text([header, ["Ann", "", note], ["Bob", "", ""]]).encode()
+            ended = self.convert(octets)
+            with self.subTest(count):
+                if count <= 200:
+                    [ann, _bob] = rows_of(ended.out)
+                    self.assertIn("NOTE:" + note.replace("\n", "\\n"), self.lines(ann))
+                    self.assertEqual(0, ended.status)
+                else:
+                    self.assertEqual(["Bob"], self.names(ended))
+                    self.assertEqual(1, ended.status)
+                    self.assertIn(b"row 1, line 2: not carried: a quote", ended.err)
+
+    def test_faults_of_rows(self):
+        header = "First Name,E-mail Address,Notes\r\n"
+        for title, row, why in [
+            ("more cells", "Ann,a@x.test,,\r\n", "the row has more or fewer cells than the header"),
+            ("fewer cells", "Ann,a@x.test\r\n", "the row has more or fewer cells than the header"),
+            ("a NUL", "Ann,a@x.test,a\0b\r\n", "the cell of Notes has a NUL"),
+        ]:
+            with self.subTest(title):
+                ended = self.convert((header + row + "Bob,,\r\n").encode())
+                report = (f"row 1, line 2: not carried: {why}\n"
+                          f"1 cards written, 0 changed, 1 not carried\n")
+                self.assertEqual((1, report), (ended.status, ended.err.decode()))
+                self.assertEqual(["Bob"], self.names(ended))
+
+    def test_rows_that_are_no_loss(self):
+        octets = b"First Name,E-mail Address\nAnn,a@x.test\n,\nAnn,a@x.test\nBob,\n\n"
+        report = (b"row 3, line 4: an earlier row has the same cells\n"
+                  b"2 cards written, 0 changed, 0 not carried\n")
+        ended = self.convert(octets)
+        self.assertEqual((0, report), (ended.status, ended.err))
+        self.assertEqual(["Ann", "Bob"], self.names(ended))
+
+    def test_long_lines(self):
+        """Lines of 9,000,000 octets are told, also with a quote; the lines after them are read."""
+        for front in b"", b'"', b'x,"':
+            octets = b"First Name,E-mail Address\n" + front + b"x" * 9_000_000 + b"\nBob,\n"
+            ended = self.convert(octets)
+            self.assertEqual((1, ["Bob"]), (ended.status, self.names(ended)), front)
+
+    def test_uids_last(self):
+        """A column without a value changes no UID."""
+        header = ["First Name", "Last Name", "E-mail 1 - Value"]
+        rows = [["Ann", "Lee", "a@x.test"], ["Bob", "", ""]]
+        first = self.convert(csv_text([header, *rows]).encode())
+        more = [row[:1] + [""] + row[1:] + ["* "] for row in rows]
+        header = ["First Name", "Middle Name", *header[1:], "Phone 1 - Label"]
+        later = self.convert(csv_text([header, *more]).encode())
+        uids = [[row[0] for row in rows_of(ended.out)] for ended in (first, later)]
+        self.assertEqual(*uids)
+        self.assertEqual(2, len(set(uids[0])))
+
+    def test_dates(self):
+        """One order for the whole file; a date that may be two stays as it is, and is reported."""
+        told = "the cell of Birthday kept as text: its day, month or year isn't certain"
+        for cells, values in [
+            (["05/04/1980", "15/04/1980"], [":19800405", ":19800415"]),
+            (["05/04/1980", "04/15/1980"], [":19800504", ":19800415"]),
+            (["05/04/1980", "05/05/1980"], [";VALUE=text:05/04/1980", ":19800505"]),
+            (["15/04/1980", "04/15/1980", "05/04/1980"],
+             [":19800415", ":19800415", ";VALUE=text:05/04/1980"]),
+            (["15.04.1980", "5.4.80", "05.04.29"], [":19800415", ":19800405", ":20290405"]),
+            (["15-Apr-80", "1-Dez-2001", "3 M\u00e4r 1999"], [":19800415", ":20011201", ":19990303"]),
+            (["1980-04-15", "1980/04/15", "19800415", "--04-15"],
+             [":19800415", ":19800415", ":19800415", ":--0415"]),
+            (["1980-04-15T00:00:00", "15.04.1980 00:00"], [":19800415", ":19800415"]),
+            (["30.02.1980", "in spring"], [";VALUE=text:30.02.1980", ";VALUE=text:in spring"]),
+        ]:
+            with self.subTest(cells):
+                rows = [[f"A{place}", "a@x.test", cell] for place, cell in enumerate(cells)]
+                header = ["First Name", "E-mail Address", "Birthday"]
+                ended = self.convert(csv_text([header, *rows]).encode())
+                found = [line[4:] for row in rows_of(ended.out) for line in self.lines(row)
+                         if line.startswith("BDAY")]
+                self.assertEqual(values, found)
+                texts = [value.startswith(";VALUE=text") for value in values]
+                self.assertEqual(sum(texts), ended.err.decode().count(told))
+                self.assertEqual(0, ended.status)
+
+    def test_known_headers(self):
+        """The lines of a card, without its FN, for the columns of other programs."""
+        for title, text, lines in KNOWN_HEADERS:
+            shouted = "".join(c.upper() if c.isascii() else c for c in text)
+            for octets in text.encode(), shouted.encode():
+                header, _, row = text.partition("\n")
+                header = octets.decode().partition("\n")[0]
+                with self.subTest(title, header=header[:20]):
+                    ended = self.convert(f"{header}\n{row}".encode())
+                    [made] = rows_of(ended.out)
+                    found = [it for it in self.lines(made) if not it.startswith("X-")]
+                    self.assertEqual(sorted(lines), found)
+                    self.assertEqual(0, ended.status)
+
+    def test_lines_before_the_header(self):
+        card = ["EMAIL:a@x.test", "FN:Ann Lee", "N:Lee;Ann;;;"]
+        header = "First Name;Last Name;E-mail Address"
+        linked = ('Notes:\n"Some addresses, of friends, are missing."\n\n'
+                  "First Name,Last Name,Email Address,Position\nAnn,Lee,a@x.test,\nBob,,,,\n")
+        for title, octets, line in [
+            ("sep=", f"sep=;\r\n{header}\r\nAnn;Lee;a@x.test\r\nBob;;;\r\n", 4),
+            ("notes", linked, 6),
+            ("a vertical bar", f"{header}\nAnn;Lee;a@x.test\nBob;;;\n".replace(";", "|"), 3),
+        ]:
+            with self.subTest(title):
+                ended = self.convert(octets.encode())
+                self.assertEqual([card], [self.lines(row) for row in rows_of(ended.out)])
+                self.assertIn(f"row 2, line {line}: not carried".encode(), ended.err)
+
+    def test_utf_16_without_a_mark(self):
+        octets = (ROOT / "examples/google.csv").read_bytes()
+        ended = self.convert(octets)
+        for encoding in "utf-16-le", "utf-16-be":
+            self.assertEqual(ended, self.convert(octets.decode().encode(encoding)), encoding)
+
+    def test_files_of_other_formats(self):
+        workbook = io.BytesIO()
+        with zipfile.ZipFile(workbook, "w") as archive:
+            archive.writestr("xl/workbook.xml", "")
+        for octets, words in [
+            (workbook.getvalue(), "an Excel workbook; save it as CSV UTF-8"),
+            (b"version: 1\ndn: cn=Ann\n", "LDIF; export the contacts as vCard or CSV"),
+            (b"%PDF-1.4\n", "a PDF; export the contacts as vCard or CSV"),
+            (b"uid,fn,family,given,email,tel,org,note\np,Pat,,,,,,\n",
+             "in the form that contacts import takes as it is"),
+        ]:
+            for name in "a.csv", "a.vcf":
+                ended = self.convert(octets, name=name)
+                self.assertEqual(Ended(3, b"", f"fault device 1: {name} is {words}\n".encode()), ended)
+
+    def test_random_rows(self):
+        """Cells with quotes, commas and line ends are those that Python's csv reads."""
+        chance = random.Random(7)
+        header = ["First Name", "E-mail Address", "Notes"]
+        rows = []
+        for number in range(300):
+            note = "".join(chance.choice('ab ",;\n') for _ in range(chance.randrange(12)))
+            rows.append([f"A{number}", "", note])
+        quoting = chance.choice([csv.QUOTE_MINIMAL, csv.QUOTE_ALL])
+        file = io.StringIO(newline="")
+        csv.writer(file, quoting=quoting).writerows([header, *rows])
+        ended = self.convert(file.getvalue().encode())
+        self.assertEqual(0, ended.status)
+        for row, made in zip(rows, rows_of(ended.out), strict=True):
+            note = row[2].replace("\\", "\\\\").replace("\n", "\\n")
+            note = note.replace(",", "\\,").replace(";", "\\;")
+            notes = ["NOTE:" + note] if row[2].strip() else []
+            self.assertEqual(notes, [it for it in self.lines(made) if it.startswith("NOTE")])
 
 
 if __name__ == "__main__":

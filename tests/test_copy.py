@@ -1,5 +1,7 @@
 """`contacts copy FILE NEW`: the new file holds the books of the old one, and no text besides.
 
+With `--without BOOK` it holds the other books, and every device starts again.
+
 What the new file has to hold is read from the old one by sqlite3, or laid by it; what is served of
 it is computed by tests/model from the same requests. SQLite's own check finds each copy sound.
 """
@@ -16,7 +18,8 @@ from model.http import Session
 from office_files import (
     QuickFolder, contents, copy as copy_by_hand, fault, log_of, make, run_order, serve, up_to,
 )
-from program import Ended, Server
+from program import Ended, Server, run
+from test_resync import TOO_OLD, after, ask
 from tables import Tables, first_store, setUpModule, small_store  # noqa: F401
 
 SEEDS = range(1, 4)
@@ -163,6 +166,163 @@ class Erased(CopyTest):
             self.assertNotIn(text.encode(), self.new.read_bytes())
         self.assertIn(b"Name 199", self.new.read_bytes())
         self.assertLess(self.new.stat().st_size, 100_000)
+
+
+def without(rows, names):
+    """The rows of all tables without the books with these names, and after a resync.
+
+    The ids of the other books close up. Each takes as many numbers as the greatest number of any
+    book of the old file, if that is even, or else one fewer, and 1,000,000 more.
+    """
+    meta, books, members, imports, keeps = rows
+    gone = {it[0] for it in books if it[1].decode() in names}
+    kept = sorted(it[0] for it in books if it[0] not in gone)
+    new = {old: at for at, old in enumerate(kept, 1)}
+    greatest = max(it[2] for it in books)
+
+    def others(rows):
+        return [(new[book], *more) for book, *more in rows if book not in gone]
+
+    return after([meta, *map(others, [books, members, imports, keeps])],
+                 greatest - greatest % 2 + 1_000_000)
+
+
+def leave_out(file, new, *names):
+    return run("copy", file, new, *(f"--without={it}" for it in names))
+
+
+class WithoutBooks(CopyTest):
+    """Files that are copied without some of their books."""
+
+    def assert_left_out(self, count, *names):
+        """The new file alone has the rows of the other books, and the old file is as it was."""
+        before = self.contents(self.file)
+        self.assertEqual(copied(count), leave_out(self.file, self.new, *names))
+        self.assertEqual(["new.db"], [it.name for it in self.folder.glob("new*")])
+        after_it = self.contents(self.new)
+        self.assertEqual(before.declared, after_it.declared)
+        for table, rows in zip(without(before.rows, names), after_it.rows):
+            self.assertEqual(sorted(table, key=repr), sorted(rows, key=repr))
+        self.assertEqual(before, self.contents(self.file))
+        self.assertEqual(0, run("verify", self.new).status)
+        for file in self.new, log_of(self.new):
+            file.unlink()
+
+    def test_each_choice_of_books(self):
+        """One, two, all, and the same twice; each book has tombstones, imports and a keep."""
+        filled = small_store()
+        filled[4] = ("keeping", [(1, 3), (2, 17), (3, 10_000)])
+        self.lay(filled)
+        names = [it[1] for it in dict(filled)["book"]]
+        self.assertEqual(3, len(names))
+        for name in names:
+            self.assert_left_out(2, name)
+            self.assert_left_out(2, name, name)
+            self.assert_left_out(1, *(it for it in names if it != name))
+        self.assert_left_out(0, *names)
+
+    def test_histories(self):
+        """After any requests."""
+        for seed in SEEDS:
+            with self.subTest(seed=seed):
+                self.file = self.folder / f"{seed}.db"
+                make(self.file, "staff", "clients", "desk")
+                drawing = Drawing(seed)
+                serve(self.file, b"".join(drawing.draw() for _ in range(300)))
+                for names in [["staff"], ["clients"], ["desk", "staff"]]:
+                    self.assert_left_out(3 - len(names), *names)
+
+    def test_names_that_are_no_books(self):
+        """Nothing is written, whatever else is named."""
+        self.lay(small_store())
+        run("verify", self.file)
+        before = self.there()
+        for names in [["nobody"], ["staff", "nobody"], ["nobody", "staff"], [""], ["Staff"]]:
+            with self.subTest(names=names):
+                ended = leave_out(self.file, self.new, *names)
+                said = f"{self.file}: there is no such book; contacts books {self.file} lists them"
+                line = "refused no-such-book 1"
+                self.assertEqual(Ended(1, b"", f"{said}\n{line}\n".encode()), ended)
+                self.assertEqual(before, self.there())
+
+    def test_no_text_of_a_book_that_is_left_out(self):
+        make(self.file, "trial", "staff")
+        serve(self.file, put("trial", "t", SECRET), put("staff", "a", "Ann"),
+              put("staff", "b", GONE_PHOTO), remove("staff", "b"))
+        self.assertEqual(copied(1), leave_out(self.file, self.new, "trial"))
+        octets = self.new.read_bytes()
+        for text in SECRET, GONE_PHOTO, "trial":
+            self.assertNotIn(text.encode(), octets)
+        self.assertIn(b"FN:Ann", octets)
+
+    def test_devices_start_again(self):
+        """The token of a book that gets another's id is refused, also if it was the newer one."""
+        make(self.file, "trial", "staff", "desk")
+        serve(self.file, *(put("trial", f"t{it}", "Try") for it in range(9)),
+              put("staff", "a", "Ann"), put("desk", "d", "Dee"), put("desk", "e", "Eve"))
+        self.assertEqual(copied(2), leave_out(self.file, self.new, "trial"))
+        old = ["1/9/9", "1/3/9", "2/1/1", "3/2/2", "3/1/2"]
+        asked = [sync(book, token) for book in ["staff", "desk"] for token in old]
+        wrong, too_old = {"cause": 2, "fault": "valid-sync-token", "number": 10}, TOO_OLD
+        self.assertEqual([too_old, too_old, wrong, wrong, wrong,
+                          wrong, wrong, too_old, wrong, wrong], ask(self.new, *asked))
+        served = serve(self.new, sync("staff"), sync("desk"), put("desk", "f", "Fay"))
+        for text in b"FN:Ann", b"FN:Dee", b"FN:Eve", b"1/1000009", b'"version":1000011':
+            self.assertIn(text, served)
+
+    def test_a_book_that_has_no_numbers_left(self):
+        """The resync refuses it, and there is no new file."""
+        half = 300_000_000_000
+        self.lay([("meta", [("schema", 2)]),
+                  ("book", [(1, "trial", *[0] * 9),
+                            (2, "staff", 2 * half, 2 * half, half, 0, 0, 0, 0, half, 0)]),
+                  ("member", []), ("import_key", []), ("keeping", [(1, 3), (2, 3)])])
+        run("verify", self.file)
+        before = self.there()
+        ended = leave_out(self.file, self.new, "trial")
+        line = ended.err.splitlines(True)[-1]
+        self.assertEqual((1, b"refused changes-spent 13\n"), (ended.status, line))
+        self.assertEqual(before, self.there())
+
+    def test_what_is_at_the_other_names(self):
+        """A log or a file at NEW is kept. What a stopped copy left is replaced."""
+        self.lay(small_store())
+        run("verify", self.file)
+        for name in "new.db", "new.db-wal":
+            with self.subTest(name=name):
+                (self.folder / name).write_bytes(b"text")
+                before = self.there()
+                self.assertEqual(3, leave_out(self.file, self.new, "staff").status)
+                self.assertEqual(before, self.there())
+                self.assertEqual(b"text", (self.folder / name).read_bytes())
+                (self.folder / name).unlink()
+        for ending in "", "-wal":
+            (self.folder / f"new.db.copying{ending}").write_bytes(self.file.read_bytes())
+        self.assert_left_out(2, "staff")
+
+    def test_each_write(self):
+        """A full disk, or a kill, at any write: NEW is the finished file, or isn't there."""
+        self.lay(small_store())
+        run("verify", self.file)
+        before, done = self.contents(self.file), self.folder / "done.db"
+        self.assertEqual(copied(2), leave_out(self.file, done, "staff"))
+        whole, last = self.contents(done), 4 * done.stat().st_size
+        for room in [*range(0, last, last // 40), last]:
+            for is_killed in [False, True]:
+                with self.subTest(room=room, is_killed=is_killed):
+                    place = self.folder / f"{room} {is_killed}"
+                    file = copy_by_hand(self.file, place)
+                    new = place / "new.db"
+                    ended = run("copy", file, new, "--without", "staff",
+                                preexec_fn=up_to(room, is_killed))
+                    self.assertEqual(before, self.contents(file))
+                    self.assertEqual(ended.status == 0, new.exists())
+                    left = [it.name for it in place.glob("new*")]
+                    if ended.status == 0:
+                        self.assertEqual(whole, self.contents(new))
+                        self.assertEqual(["new.db"], left)
+                    elif not is_killed:
+                        self.assertEqual([], left)
 
 
 class Refusals(CopyTest):

@@ -135,9 +135,18 @@ class OtherFiles(RefusedFile):
                 file = self.folder / f"{order}.db"
                 file.write_bytes(b"")
                 self.assertEqual(fault(NOT_OURS), run(order, file, *more))
-                # It may have been written to, but has no tables.
+                # It is as it was, and has no log.
+                self.assertEqual(b"", file.read_bytes())
+                self.assertEqual([file], list(self.folder.glob(f"{order}.db*")))
                 self.assertEqual(MADE, run("init", file))
         self.file.write_bytes(b"")
+        self.assertEqual(MADE, run("init", self.file))
+
+    def test_empty_file_with_a_log(self):
+        """It may have been written to, but has no tables."""
+        self.file.write_bytes(b"")
+        log_of(self.file).write_bytes(b"")
+        self.assertEqual(fault(NOT_OURS), run("tally", self.file, "staff"))
         self.assertEqual(MADE, run("init", self.file))
 
     def test_databases_of_others(self):

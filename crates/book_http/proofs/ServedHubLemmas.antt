@@ -127,7 +127,7 @@ module _ {S : Type 0} (model : StoreModel S) where
   guard_serves old new head body reply done =
       answered old new (requested_command head.method head.target body) head.close reply done.0 done.1
 
-  guard_keeps : KeepsScreens (guarded (ServiceStep model))
+  pub guard_keeps : KeepsScreens (guarded (ServiceStep model))
   guard_keeps old new head body reply done =
       let screen : List (List ℕ) → Screen = λ names method fields. first_fault (guard names method fields) None in
       ap screen done.0

@@ -53,7 +53,7 @@ module _ {S : Type 0} (model : StoreModel S) where
       (replied_own (own_reply files one) one old.1.1 middle.1.1 answers, all_replied files handled middle new kept rest)
 
   -- no step changes the names
-  server_keeps : KeepsScreens (ServerStep model)
+  pub server_keeps : KeepsScreens (ServerStep model)
   server_keeps old new head body reply done =
       let screen : List (List ℕ) → Screen = λ names method fields. first_fault (guard names method fields) None in
       ap screen done.0

@@ -1,8 +1,9 @@
 //! Laws of any number of connections to the service. Each law is a function that does nothing.
 ghost use Rattle.book_http.specs.OctetPromise.{ServiceStep};
 ghost use Rattle.book_http.specs.ServedHubs.{HubsAreOneRun, behind_guard};
-ghost use Rattle.book_http.specs.ServedSites.{ServedSitesAreOneRun};
+ghost use Rattle.book_http.specs.ServedSites.{ServedSitesAreOneRun, ServerStep};
 ghost use Rattle.http_requests.specs.GuardedHandlers.{guarded};
+ghost use Rattle.http_requests.specs.HandlerRuns.{KeepsScreens};
 
 use sync_core::BookStore;
 
@@ -26,4 +27,11 @@ pub fn guarded_hubs_are_one_run<S: BookStore>()
 /// (`specs/ServedSites.antt`).
 pub fn served_sites_are_one_run<S: BookStore>()
     ensures { ServedSitesAreOneRun S.model }
+{}
+
+/// No step of the service behind a guard changes which heads are refused, with the files of a site
+/// beside it or without. That is the premise of the laws on the runs of hubs and servers.
+pub fn servers_keep_screens<S: BookStore>()
+    ensures guarded { KeepsScreens (guarded (ServiceStep S.model)) }
+    ensures beside_site { KeepsScreens (ServerStep S.model) }
 {}

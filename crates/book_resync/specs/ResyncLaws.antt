@@ -111,7 +111,7 @@ ResyncsKeepVersions = (limits : Bounds) (book : Book) (pairs : ℕ) →
 -- ---- devices after a resync
 
 -- A token of the book from before is refused as too old, and so is each token of the lost time
--- whose base is below the new number.
+-- whose base is below the new number and that names no number above it.
 abbrev pub ResyncsExpireTokens : Type 0
 ResyncsExpireTokens =
     (limits : Bounds) (books after : Books) (pairs : ℕ) (name : List ℕ) (book : Book) →

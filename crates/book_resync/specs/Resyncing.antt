@@ -1,7 +1,7 @@
 -- A resync: taking many numbers at once, so that every device starts again. It is for a store that
--- was put back from a copy. Each token of the time that was lost then has a number below the new
--- horizon, and is refused as too old (RFC 6578, section 3.2, the precondition valid-sync-token).
--- The way it is done is this project's own.
+-- was put back from a copy. If fewer numbers were lost than are skipped, each token of the lost time
+-- has a number below the new horizon, and is refused as too old (RFC 6578, section 3.2, the
+-- precondition valid-sync-token). The way it is done is this project's own.
 use Rattle.std.specs.Prelude.{ℕ, ◌+◌, ◌*◌, Bool, nat_le, nat_lt, List, [], ◌∷◌, map, slice_get}
 use Rattle.std.specs.Prelude.{Option, Some, None, Result, Ok, if◌then◌else◌}
 use Rattle.std.specs.FinMap as finite

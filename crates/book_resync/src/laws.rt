@@ -38,14 +38,15 @@ pub fn resyncs_keep_cards()
 {}
 
 /// After a resync each device starts again.
-/// - `tokens`: a token whose base is below the new number is refused as too old.
+/// - `tokens`: a token whose base is below the new number, and that names no number above it, is
+///   refused as too old.
 /// - `initial`: a device without a token has the live cards after a page that isn't truncated.
 pub fn resyncs_restart_devices()
     ensures tokens { ResyncsExpireTokens }
     ensures initial { InitialPagesCompleteCopies }
 {}
 
-/// After a resync and any calls, nothing of the lost time comes again.
+/// After a resync and any calls, no version or token below the new number comes again.
 /// - `versions`: a live card has its version from before, or one that isn't below the new number.
 /// - `tokens`: a token that the resync expired is still refused as too old.
 pub fn lost_times_never_return()

@@ -6,3 +6,4 @@ pub mod FileRefusals
 pub mod OnConnections
 pub mod FileSearches
 pub mod ClosedFiles
+pub mod Copies

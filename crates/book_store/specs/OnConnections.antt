@@ -1,9 +1,12 @@
 -- Definitions over connections, for contracts, as in `store_tables`. This project's own.
+use Rattle.std.specs.Prelude.{ℕ, ℤ, List}
 use Rattle.sqlite.specs.Held.{Held, state}
 use Rattle.book_model.specs.Bounds.{Bounds}
 use Rattle.store_tables.specs.OnConnections.{Ghosts}
 use Rattle.book_store.specs.OpenOutcomes as outcomes
 use Rattle.book_store.specs.StoreViews as views
+use Rattle.book_store.specs.Copies as copies
+use Rattle.store_copy.specs.declared.reading.StoredRows.{StoredRows}
 
 module _ {S : Type 0} (store : Ghosts S) (conn : Held S) where
   abbrev pub IsNewStoreCommitted : Type 0
@@ -11,3 +14,12 @@ module _ {S : Type 0} (store : Ghosts S) (conn : Held S) where
 
   abbrev pub IsStore : Bounds → Type 0
   IsStore = views.IsStore (state store conn)
+
+  abbrev pub HasStoreRows : StoredRows → Type 0
+  HasStoreRows = copies.AreStoreRows (state store conn)
+
+  abbrev pub IsMade : List ℤ → StoredRows → Type 0
+  IsMade = copies.AreMade (state store conn)
+
+  abbrev pub IsMadeWithout : List (List ℕ) → StoredRows → Type 0
+  IsMadeWithout = copies.AreMadeWithout (state store conn)

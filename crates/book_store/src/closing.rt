@@ -1,7 +1,7 @@
 //! Closes the store in a file, and copies a store into a new file.
 ghost use Rattle.book_store.specs.StoreViews.{table_model};
-ghost use Rattle.book_store.specs.ClosedFiles.{AreBooksAlone};
-ghost use Rattle.sqlite.specs.Files.{over_files};
+ghost use Rattle.book_store.specs.ClosedFiles.{AreBooksAlone, AreTreesAlone};
+ghost use Rattle.sqlite.specs.Files.{file_state, over_files};
 ghost use Rattle.sqlite.specs.WalReads.{AreClean};
 ghost use Rattle.store_lookups.specs.OnConnections.{IsOpenOnHonestDisk, stored_books};
 ghost use Rattle.store_tables.specs.OnConnections.{OnlyReads};
@@ -24,11 +24,13 @@ use sync_core::BookStore;
 
 impl<D: Disk + Drop> SqlStore<FileStore<D>> {
     /// Closes the store and copies its log into the file, which then holds the books without the
-    /// log.
+    /// log, and all other rows of the store's tables as they were.
     ///
     /// Fails with `Memory` if memory runs out, and with `Store` if the disk fails. An error drops
-    /// the files; what was committed is still in the file and its log.
+    /// the files. What they hold then, or after a crash on the way, is only tested.
     pub fn close(self) -> Result<Files<D>, OpenFault>
+        ensures whole { IfOk result (λ files. AreClean D.Disk files.log files.db
+            → AreTreesAlone D.Disk files (file_state self.conn).now.trees) }
         ensures alone { IfOk result (λ files. AreClean D.Disk files.log files.db
             → AreBooksAlone D.Disk files (stored_books over_files self.conn)) }
         ensures was_open { IfOk result (λ files. AreClean D.Disk files.log files.db
@@ -56,7 +58,7 @@ impl<S: Alter> SqlStore<S> {
             → AreClean D.Disk files.log files.db
             → AreBooksAlone D.Disk files (stored_books S.Store self.old.conn)) }
 
-        // No tables are overwritten.
+        // A copy is made only where there were no tables.
         ensures was_empty { OnOk result (target.schema ≡ empty_schema) }
 
         // This store is only read.
@@ -80,9 +82,16 @@ fn check_free(rt: &HostRuntime, path: &str) -> Result<(), OpenFault> {
     }
 }
 
+/// `check_free` for the path of a new file and for that of its log.
+pub(crate) fn check_both_free(rt: &HostRuntime, target: &str) -> Result<(), OpenFault> {
+    let log = log_of(rt, target)?;
+    check_free(rt, target)?;
+    check_free(rt, log.as_str())
+}
+
 /// Removes the new file and its log if no copy was made in them. An error is ignored: then what is
 /// left doesn't open as a store.
-fn remove_new(rt: &HostRuntime, target: &str, log: &str) {
+pub(crate) fn remove_new(rt: &HostRuntime, target: &str, log: &str) {
     let _removed = fs::remove_file(rt, target);
     let _removed_log = fs::remove_file(rt, log);
 }
@@ -103,7 +112,7 @@ fn take_mode(rt: &HostRuntime, path: &str, target: &str, log: &str) -> io::Resul
 }
 
 /// Opens a new file, with the mode of the file at the path. If that fails, an empty file is removed.
-fn open_new(
+pub(crate) fn open_new(
     rt: &HostRuntime,
     path: &str,
     target: &str,
@@ -129,7 +138,29 @@ fn open_new(
     }
 }
 
-/// Copies the books of the file at the path into a new file, which needs no log.
+/// Copies the books into the new file of the connection, which needs no log.
+fn fill_new(
+    rt: &HostRuntime,
+    books: &mut FileBooks,
+    connection: Connection<FileStore<FileFrom<Unknown>>>,
+    target: &str,
+    log: &str,
+) -> Result<(), OpenFault>
+    requires { connection.in_transaction ≡ false }
+{
+    match books.copy_to(connection) {
+        Ok(_files) => {
+            let _removed = fs::remove_file(rt, log);
+            Ok(())
+        }
+        Err(fault) => {
+            remove_new(rt, target, log);
+            Err(fault)
+        }
+    }
+}
+
+/// Copies the books of the file at the path into a new file.
 fn copy_to_new(
     rt: &HostRuntime,
     books: &mut FileBooks,
@@ -141,15 +172,15 @@ fn copy_to_new(
     if !is_schema_empty(connection.schema()) {
         return Err(OpenFault::NotEmpty);
     }
-    match books.copy_to(connection) {
-        Ok(_files) => {}
-        Err(fault) => {
-            remove_new(rt, target, log);
-            return Err(fault);
-        }
+    fill_new(rt, books, connection, target, log)
+}
+
+/// The number of the books.
+fn book_count(books: &mut FileBooks) -> Result<u64, OpenFault> {
+    match books.books() {
+        Ok(lines) => Ok(lines.len() as u64),
+        Err(_) => Err(OpenFault::Store),
     }
-    let _removed = fs::remove_file(rt, log);
-    Ok(())
 }
 
 /// Copies the books of the file at the path into a new file, and returns their number.
@@ -160,15 +191,13 @@ fn copy_books(
     target: &str,
     log: &str,
 ) -> Result<u64, OpenFault> {
-    let Ok(lines) = books.books() else {
-        return Err(OpenFault::Store);
-    };
+    let count = book_count(books)?;
     copy_to_new(rt, books, path, target, log)?;
-    Ok(lines.len() as u64)
+    Ok(count)
 }
 
 /// The name of a file's log.
-fn log_of(rt: &HostRuntime, path: &str) -> Result<String, OpenFault> {
+pub(crate) fn log_of(rt: &HostRuntime, path: &str) -> Result<String, OpenFault> {
     match format!(in rt.alloc(); "{path}-wal") {
         Ok(log) => Ok(log),
         Err(_) => Err(OpenFault::Memory),
@@ -188,10 +217,25 @@ fn may_hold_change(rt: &HostRuntime, log: &str) -> bool {
 
 /// Removes a log that the opening of the file made: the file had none before, and it holds no
 /// change. The file must be held meanwhile, so that nobody else writes the log.
-fn forget_log(rt: &HostRuntime, had_log: bool, log: &str) {
+pub(crate) fn forget_log(rt: &HostRuntime, had_log: bool, log: &str) {
     if !had_log && !may_hold_change(rt, log) {
         let _removed = fs::remove_file(rt, log);
     }
+}
+
+/// Opens the file at the path, and copies its books. Leaves no log that the opening made.
+fn copy_opened(
+    rt: &HostRuntime,
+    path: &str,
+    old_log: &str,
+    target: &str,
+    log: &str,
+) -> Result<u64, OpenFault> {
+    let had_log = fs::exists(rt, old_log).unwrap_or(true);
+    let mut books = SqlStore::open(rt, path, Limits::standard())?;
+    let copied = copy_books(rt, &mut books, path, target, log);
+    forget_log(rt, had_log, old_log);
+    copied
 }
 
 impl SqlStore<FileStore<FileFrom<Unknown>>> {
@@ -201,16 +245,12 @@ impl SqlStore<FileStore<FileFrom<Unknown>>> {
     /// had no log, none stays beside it either.
     ///
     /// Fails with `NotEmpty` if something is at the path `target`, or at that of its log; as `open`
-    /// does for the file; and as `copy_to` does. An error removes the new file.
+    /// does for the file; and as `copy_to` does. An error removes the new file, but for one: if the
+    /// disk is full at the first pages, some octets may stay there, which are no store.
     pub fn copy_file(rt: &HostRuntime, path: &str, target: &str) -> Result<u64, OpenFault> {
+        check_both_free(rt, target)?;
         let log = log_of(rt, target)?;
-        check_free(rt, target)?;
-        check_free(rt, log.as_str())?;
         let old_log = log_of(rt, path)?;
-        let had_log = fs::exists(rt, old_log.as_str()).unwrap_or(true);
-        let mut books = SqlStore::open(rt, path, Limits::standard())?;
-        let copied = copy_books(rt, &mut books, path, target, log.as_str());
-        forget_log(rt, had_log, old_log.as_str());
-        copied
+        copy_opened(rt, path, old_log.as_str(), target, log.as_str())
     }
 }

@@ -19,6 +19,7 @@ ghost use Rattle.sqlite.specs.WalFiles.{image_at};
 ghost use Rattle.std.specs.FinMap as finite;
 ghost use Rattle.std.specs.Prelude.{◌≡◌, IfErr, IfOk};
 
+use crate::closing::log_of;
 use crate::schema_creation::is_schema_empty;
 use crate::sql_store::SqlStore;
 use book_model::Limits;
@@ -198,6 +199,22 @@ impl<S: Start> SqlStore<FileStore<FileFrom<S>>> {
     }
 }
 
+/// Whether there is a file at the path, and it is empty.
+fn is_empty_file(rt: &HostRuntime, path: &str) -> bool {
+    match fs::metadata(rt, path) {
+        Ok(found) => found.is_file() && found.len() == 0,
+        Err(_) => false,
+    }
+}
+
+/// Whether the file is there and empty, and has no log. Opening a connection would write to it.
+fn holds_nothing(rt: &HostRuntime, path: &str) -> bool {
+    let Ok(log) = log_of(rt, path) else {
+        return false;
+    };
+    is_empty_file(rt, path) && !fs::exists(rt, log.as_str()).unwrap_or(true)
+}
+
 impl SqlStore<FileStore<FileFrom<Unknown>>> {
     /// `create_from`, for a program that proves nothing about the previous contents of the file.
     pub fn create(rt: &HostRuntime, path: &str, limits: Limits) -> Result<FileBooks, OpenFault>
@@ -213,12 +230,16 @@ impl SqlStore<FileStore<FileFrom<Unknown>>> {
     }
 
     /// `open_from`, for a program that proves nothing about the contents of the file. The clauses
-    /// here state nothing about a file that wasn't empty.
+    /// here state nothing about a file that wasn't empty. Only tested: an empty file without a log
+    /// is refused as `NotOurs`, and stays as it is.
     pub fn open(rt: &HostRuntime, path: &str, limits: Limits) -> Result<FileBooks, OpenFault>
         ensures well_formed { IfOk result (λ store. IsOpenOnHonestDisk (file_state store.conn)
             → HoldsWellFormed max_limits (file_state store.conn).now) }
         ensures limits { IfOk result (λ store. store.limits ≡ limits) }
     {
+        if holds_nothing(rt, path) {
+            return Err(OpenFault::NotOurs);
+        }
         match SqlStore::open_from(rt, path, limits, Unknown) {
             Ok(store) => Ok(store),
             Err((fault, _left)) => Err(fault),

@@ -4,16 +4,19 @@
 
 mod calls;
 mod closing;
+mod copy_fault;
 mod copying;
 mod faulty;
 mod files;
 mod keeps;
 pub mod laws;
+mod leaving_out;
 mod opening;
 mod resyncing;
 mod schema_creation;
 mod sql_store;
 
+pub use copy_fault::CopyFault;
 pub use faulty::FileSearch;
 pub use files::{FileBooks, FileBooksFrom};
 pub use sql_store::SqlStore;

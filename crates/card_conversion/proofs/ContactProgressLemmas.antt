@@ -9,7 +9,7 @@ use Rattle.std.proofs.lemmas.List.Kept.{AllPairs-cons}
 use Rattle.csv.specs.Reading.{ReadRecord}
 use Rattle.csv.specs.declared.reader.Reader.{Reader}
 use Rattle.base_types.specs.TextMaps.{text_cmp}
-use Rattle.vcard_lines.specs.declared.fault.CardFault.{CardFault}
+use Rattle.contact_csv.specs.declared.row_fault.RowFault.{RowFault}
 use Rattle.vcard_lines.specs.declared.line.Line.{Line}
 use Rattle.vcard_text.specs.Cards.{IsCard, uid_of}
 use Rattle.vcard_import.specs.declared.conversion.Conversion.{Conversion}
@@ -108,10 +108,10 @@ module _ {R : Type 0} (remaining : R → Option (List ℕ)) where
   more_read (e ∷ es) fields fate a b c first then = (first.0, first.1, more_read es fields fate first.0 b c first.2 then)
 
 -- the row with these fields became a card or a fault, which has the fate
-card_of : (columns : List Column) (fields : List (List ℕ)) (row : Result Conversion CardFault) (made : Conversion) → Becomes columns fields row → row ≡ Ok made → IsCard made.card → IsRowContact columns fields made
+card_of : (columns : List Column) (fields : List (List ℕ)) (row : Result Conversion RowFault) (made : Conversion) → Becomes columns fields row → row ≡ Ok made → IsCard made.card → IsRowContact columns fields made
 card_of columns fields row made becomes is card = record { card = card; contact = subst (Becomes columns fields) is becomes }
 
-fate_of : (columns : List Column) (fields : List (List ℕ)) (uids : List (List ℕ)) (row : Result Conversion CardFault) (fate : RowFate) → Becomes columns fields row → IsFateOf uids row fate → IsFate columns uids fields fate
+fate_of : (columns : List Column) (fields : List (List ℕ)) (uids : List (List ℕ)) (row : Result Conversion RowFault) (fate : RowFate) → Becomes columns fields row → IsFateOf uids row fate → IsFate columns uids fields fate
 fate_of columns fields uids row (Refused fault) becomes is = subst (Becomes columns fields) is becomes
 fate_of columns fields uids row (Repeated made) becomes is = (card_of columns fields row made becomes is.0 is.1, is.2)
 fate_of columns fields uids row (Declined made words) becomes is = (card_of columns fields row made becomes is.0 is.1, is.2)
@@ -149,7 +149,7 @@ module _ {A : Type 0} (writes : List Line → A → A → Type 0) where
       written = p.written;
     }
 
-    pub one_row : (now then : A) (old new : ContactReader R) (map after : finite.FinMap text_cmp (Unit {0})) (row : Result Conversion CardFault) (fate : RowFate) (summary more : Summary)
+    pub one_row : (now then : A) (old new : ContactReader R) (map after : finite.FinMap text_cmp (Unit {0})) (row : Result Conversion RowFault) (fate : RowFate) (summary more : Summary)
         → SoFar now old map summary
         → ReadsRow remaining old new (Some row)
         → columns_of new ≡ columns_of old

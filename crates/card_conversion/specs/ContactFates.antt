@@ -6,7 +6,9 @@ use Rattle.vcard_text.specs.Cards.{IsCard, uid_of}
 use Rattle.vcard_import.specs.declared.conversion.Conversion.{Conversion}
 use Rattle.card_conversion.specs.Counts.{nothing_counted, with_refused, with_written}
 use Rattle.card_conversion.specs.declared.ledger.Summary.{Summary}
-use Rattle.contact_csv.specs.Contacts.{IsContact, IsRefused}
+use Rattle.contact_csv.specs.Contacts.{IsContact, IsFaulty}
+use Rattle.contact_csv.specs.declared.row_fault.RowFault.{RowFault}
+use Rattle.contact_csv.specs.declared.row_fault.RowFault.TheVariants as row
 use Rattle.contact_columns.specs.declared.columns.Column.{Column}
 use Rattle.card_conversion.specs.declared.contacts.fate.RowFate.{RowFate}
 use Rattle.card_conversion.specs.declared.contacts.fate.RowFate.TheVariants.{Refused, Repeated}
@@ -20,7 +22,7 @@ pub record IsRowContact (columns : List Column) (fields : List (List ℕ)) (made
 
 -- The fate of a row after rows whose cards had these UIDs.
 abbrev pub IsFate : List Column → List (List ℕ) → List (List ℕ) → RowFate → Type 0
-IsFate columns uids fields (Refused fault) = IsRefused columns fields fault
+IsFate columns uids fields (Refused fault) = IsFaulty columns fields fault
 IsFate columns uids fields (Repeated made) =
     IsRowContact columns fields made × Contains uids (uid_of made.card)
 IsFate columns uids fields (Declined made words) =
@@ -42,10 +44,18 @@ cards_of_fate (Repeated made) = []
 cards_of_fate (Declined made words) = []
 cards_of_fate (Written made) = made.card ∷ []
 
--- the numbers after a row with this fate
+-- the numbers after a row that isn't converted: one without a value is no loss
+abbrev pub with_fault : Summary → RowFault → Summary
+with_fault summary row.Empty = summary
+with_fault summary row.Broken = with_refused summary
+with_fault summary (row.Nul place) = with_refused summary
+with_fault summary row.Width = with_refused summary
+with_fault summary (row.Card fault) = with_refused summary
+
+-- the numbers after a row with this fate: one that an earlier row repeats is no loss
 abbrev pub counted : Summary → RowFate → Summary
-counted summary (Refused fault) = with_refused summary
-counted summary (Repeated made) = with_refused summary
+counted summary (Refused fault) = with_fault summary fault
+counted summary (Repeated made) = summary
 counted summary (Declined made words) = with_refused summary
 counted summary (Written made) = with_written summary made
 

@@ -67,6 +67,14 @@ is_command_line None = false
 abbrev pub is_given : Text → List Row → Bool
 is_given id rows = is_command_line (source_of id rows)
 
+abbrev pub is_empty_text : Option Text → Bool
+is_empty_text (Some text) = bytes_eq text []
+is_empty_text None = false
+
+-- the option was given with an empty text
+abbrev pub is_given_empty : Text → List Row → Bool
+is_given_empty id rows = is_empty_text (text_arg id rows)
+
 -- ---- the orders
 
 abbrev pub with_file : (Text → Option Order) → List Row → Option Order
@@ -96,10 +104,10 @@ run_order_of rows = with_file (λ file. option_and_then (λ port. option_and_the
     (u64_arg (codes "MIB") rows)) (u64_arg (codes "S") rows)) (u64_arg (codes "M") rows))
     (port_arg rows)) rows
 
--- a socket and a port exclude each other
+-- a socket and a port exclude each other, and a socket has a path
 abbrev pub run_order : List Row → Option Order
 run_order rows = if is_given (codes "PATH") rows && is_given (codes "P") rows
-    then None else run_order_of rows
+    then None else (if is_given_empty (codes "PATH") rows then None else run_order_of rows)
 
 abbrev pub import_order : List Row → Option Order
 import_order rows = with_book (λ file book. option_and_then (λ key.
@@ -136,7 +144,9 @@ abbrev pub pairs_arg : List Row → Option ℕ
 pairs_arg rows = option_and_then half_of (u64_arg (codes "N") rows)
 
 abbrev pub copy_order : List Row → Option Order
-copy_order rows = with_file (λ file. option_map (Copy file) (text_arg (codes "NEW") rows)) rows
+copy_order rows = with_file (λ file.
+    option_map (λ target. Copy file target (texts_arg (codes "BOOK") rows))
+    (text_arg (codes "NEW") rows)) rows
 
 abbrev pub resync_order : List Row → Option Order
 resync_order rows = with_file (λ file. option_map (Resync file) (pairs_arg rows)) rows

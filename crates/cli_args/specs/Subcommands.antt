@@ -148,8 +148,13 @@ expand_command = order_command (codes "expand") (file_arg ∷ book_arg ∷ argum
 abbrev pub migrate_command : Shape
 migrate_command = order_command (codes "migrate") (file_arg ∷ [])
 
+-- the names of the books that are left out
+abbrev pub without_option : Rule
+without_option = repeated_option (codes "BOOK") (codes "without")
+
 abbrev pub copy_command : Shape
-copy_command = order_command (codes "copy") (file_arg ∷ argument (codes "NEW") ∷ [])
+copy_command = order_command (codes "copy")
+    (file_arg ∷ argument (codes "NEW") ∷ without_option ∷ [])
 
 -- how many change numbers each book takes
 abbrev pub skip_option : Rule

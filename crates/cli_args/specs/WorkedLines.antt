@@ -110,6 +110,7 @@ WorkedSockets =
     × (order_from (over_file (codes "run") (codes "--socket" ∷ codes "s" ∷ codes "--port=8080" ∷ []))
     ≡ None)
     × (order_from (over_file (codes "run") (codes "--socket=s" ∷ codes "--socket=s" ∷ [])) ≡ None)
+    × (order_from (over_file (codes "run") (codes "--socket" ∷ [] ∷ [])) ≡ None)
     × (order_from (over_file (codes "serve") (codes "--socket=s" ∷ [])) ≡ None)
 
 abbrev pub WorkedLimits : Type 0
@@ -162,8 +163,12 @@ WorkedPages =
 abbrev pub WorkedCopies : Type 0
 WorkedCopies =
     (order_from (over_file (codes "copy") (codes "b.db" ∷ []))
-    ≡ Some (order.Copy db (codes "b.db")))
+    ≡ Some (order.Copy db (codes "b.db") []))
     × (order_from (over_file (codes "copy") []) ≡ None)
+    × (order_from (over_file (codes "copy") (codes "b.db" ∷ codes "--without=staff"
+    ∷ codes "--without" ∷ codes "desk" ∷ []))
+    ≡ Some (order.Copy db (codes "b.db") (staff ∷ codes "desk" ∷ [])))
+    × (order_from (over_file (codes "copy") (codes "b.db" ∷ codes "--without" ∷ [])) ≡ None)
     × (order_from (codes "restore" ∷ codes "b.db" ∷ db ∷ [])
     ≡ Some (order.Restore (codes "b.db") db 500000))
     × (order_from (codes "restore" ∷ codes "b.db" ∷ db ∷ codes "--skip=2" ∷ [])

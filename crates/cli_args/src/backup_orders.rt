@@ -6,15 +6,26 @@ ghost use Rattle.cli_args.specs.ParsedOrders.{ParsesTo};
 ghost use Rattle.cli_args.specs.Subcommands as lines;
 ghost use Rattle.cli_args.specs.Subcommands.{IsArgument, IsOrderCommand};
 
-use crate::arguments::{argument, file_arg, number_option};
+use crate::arguments::{argument, file_arg, number_option, repeated_option};
 use crate::fault::LineFault;
 use crate::order::Order;
 use crate::subcommands::order_command;
-use crate::values::{refuse, text_arg, u64_arg};
+use crate::values::{given_texts, refuse, text_arg, u64_arg};
 use clap::{Arg, ArgMatches, Command};
 use std::alloc::{AllocError, Global};
 
 // ---- the command lines
+
+fn without_option<'a>(alloc: Global) -> Arg<'a>
+    ensures { IsArgument lines.without_option result }
+{
+    repeated_option(
+        alloc,
+        "BOOK",
+        "without",
+        "Name of a book to leave out. May be given more than once",
+    )
+}
 
 pub(crate) fn copy_command<'a>(alloc: Global) -> Result<Command<'a>, AllocError>
     ensures { IfOk result (IsOrderCommand lines.copy_command) }
@@ -23,11 +34,13 @@ pub(crate) fn copy_command<'a>(alloc: Global) -> Result<Command<'a>, AllocError>
     order_command(
         alloc,
         "copy",
-        "Copy all books of a store file into a new file, and print their number",
+        "Copy the books of a store file into a new file, and print their number",
         "Example:\n  contacts copy office.db backup.db\n\nThe copy is one file, without a log \
          beside it. It was opened and compared before the command ends. It holds no text of a card \
-         that was removed or replaced. While a server has the file open, it can't be copied.",
-        Vec::from_array(alloc, [file_arg(alloc), target])?,
+         that was removed or replaced, nor of a book that is left out. While a server has the file \
+         open, it can't be copied.\n\nIf a book is left out, the others keep their names and cards, \
+         but get new ids. So every device copies them anew, as after `resync`.",
+        Vec::from_array(alloc, [file_arg(alloc), target, without_option(alloc)])?,
     )
 }
 
@@ -114,7 +127,12 @@ pub(crate) fn copy_order(alloc: Global, matches: &ArgMatches<'_>) -> Result<Orde
 {
     let file = text_arg(alloc, matches, "FILE")?;
     let target = text_arg(alloc, matches, "NEW")?;
-    Ok(Order::Copy { file, target })
+    let without = given_texts(alloc, matches, "BOOK")?;
+    Ok(Order::Copy {
+        file,
+        target,
+        without,
+    })
 }
 
 pub(crate) fn resync_order(alloc: Global, matches: &ArgMatches<'_>) -> Result<Order, LineFault>

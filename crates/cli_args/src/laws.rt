@@ -22,7 +22,7 @@ ghost use Rattle.cli_args.specs.WorkedLines.{WorkedSockets, WorkedVersions};
 /// - `runs`: `run` without options and with all of them, `--host` twice; not with a number of
 ///   connections.
 /// - `sockets`: `run` with a socket; not with a socket and a port, even if it is the default, nor
-///   with two sockets; `serve` has none.
+///   with two sockets or an empty path; `serve` has none.
 /// - `limits`: of `run`; 1 and 1000 open connections are accepted, 0 and 1001 are not; 1 and 3600
 ///   seconds are accepted, 0 and 3601 are not.
 /// - `holds`: of `run`; 16 and 1024 MiB are accepted, 15 and 1025 are not; `serve` has no such
@@ -33,8 +33,9 @@ ghost use Rattle.cli_args.specs.WorkedLines.{WorkedSockets, WorkedVersions};
 /// - `numbers`: `forget` accepts 999999999999999, and not one more.
 /// - `pages`: `mirror` accepts a limit of 0 with 1000000 pages; not 1000001 or 0 pages, nor a limit
 ///   of 1000000000000000.
-/// - `copies`: `copy` with a file and the name of its copy, and not without that; `restore` with a
-///   copy and a file, without an option and with 2 numbers to skip, and not without a file.
+/// - `copies`: `copy` with a file and the name of its copy, and not without that; with two books to
+///   leave out, and not with an option that names none; `restore` with a copy and a file, without an
+///   option and with 2 numbers to skip, and not without a file.
 /// - `resyncs`: `resync` without an option skips 1000000 numbers, which are 500000 pairs; 2 and
 ///   1000000000 are accepted, and 3, 0 and 1000000002 are not.
 /// - `faults`: `tally` without a book or with a further argument, `more`, `help` and `--help` have

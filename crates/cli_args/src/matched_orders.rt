@@ -7,7 +7,7 @@ use crate::backup_orders::{copy_order, restore_order, resync_order};
 use crate::fault::LineFault;
 use crate::order::Order;
 use crate::values::{
-    form_arg, given_text, given_texts, given_u64, is_given, port_arg, refuse,
+    form_arg, given_text, given_texts, given_u64, is_given, is_given_empty, port_arg, refuse,
     refuse_socket_and_port, text_arg, u64_arg,
 };
 use clap::ArgMatches;
@@ -67,12 +67,17 @@ fn run_order_of(alloc: Global, matches: &ArgMatches<'_>) -> Result<Order, LineFa
     })
 }
 
-/// The order `run`, if a socket and a port weren't both given.
+/// What is wrong with an empty path, and the name of the option, for messages.
+const EMPTY_PATH: &str = "'--socket <PATH>': it needs the path of a socket";
+
+/// The order `run`, if a socket and a port weren't both given, and the socket has a path.
 fn run_order(alloc: Global, matches: &ArgMatches<'_>) -> Result<Order, LineFault>
     ensures { ParsesTo (parsed.run_order (rows_of (found_of matches.now))) result }
 {
     if is_given(matches, "PATH") && is_given(matches, "P") {
         refuse_socket_and_port(alloc)
+    } else if is_given_empty(matches, "PATH") {
+        refuse(alloc, EMPTY_PATH, "")
     } else {
         run_order_of(alloc, matches)
     }

@@ -41,8 +41,8 @@ pub enum Order {
         names: Items<Text>,
         /// The maximum number of connections open at once, 1 to 1,000; 256 if it wasn't given.
         max_open: u64,
-        /// The seconds that a connection may be idle, and that the head of a request may take, 1 to
-        /// 3,600; 60 if it wasn't given.
+        /// The seconds that a connection may be silent, and that a request may take, but for one
+        /// more for each 4,096 octets of it, 1 to 3,600; 60 if it wasn't given.
         idle_timeout: u64,
         /// The MiB that all connections together may hold of long requests and replies, 16 to
         /// 1,024; 64 if it wasn't given.
@@ -115,12 +115,14 @@ pub enum Order {
         /// The path of a store file of schema 1.
         file: Text,
     },
-    /// Copy all books of a store file into a new file.
+    /// Copy the books of a store file into a new file.
     Copy {
         /// The path of a store file.
         file: Text,
         /// The path of the new file.
         target: Text,
+        /// The names of the books that are left out.
+        without: Items<Text>,
     },
     /// Put a copy back in place of a store file, and make every device start again.
     Restore {

@@ -163,8 +163,8 @@ fn idle_timeout_option<'a>(alloc: Global) -> Arg<'a>
         1,
         3_600,
         "60",
-        "Seconds after which an idle connection is closed, or one whose request headers are \
-         incomplete, 1 to 3600",
+        "Seconds after which a silent connection is closed, or one whose request isn't complete, 1 \
+         to 3600; a long request has one more for each 4096 bytes",
     )
 }
 

@@ -1,5 +1,5 @@
 //! The values of matched arguments and options.
-ghost use Rattle.std.specs.Prelude.{◌≡◌, IfOk, None, Some, map};
+ghost use Rattle.std.specs.Prelude.{◌≡◌, [], IfOk, None, Some, bytes_eq, map};
 ghost use Rattle.clap.specs.Words.{found_of, rows_of};
 ghost use Rattle.cli_args.specs.ParsedOrders as parsed;
 ghost use Rattle.cli_args.specs.ParsedOrders.{ParsesTo};
@@ -46,6 +46,23 @@ pub(crate) fn text_arg(alloc: Global, matches: &ArgMatches<'_>, id: &str) -> Res
     match matches.get_str(id) {
         Some(text) => Ok(Text::copy_of(alloc, text)?),
         None => refuse(alloc, id, ""),
+    }
+}
+
+/// Whether the text is empty.
+fn is_empty(text: &str) -> bool
+    ensures { result ≡ bytes_eq text.now [] }
+{
+    text == ""
+}
+
+/// Whether the option was given with an empty text.
+pub(crate) fn is_given_empty(matches: &ArgMatches<'_>, id: &str) -> bool
+    ensures { result ≡ parsed.is_given_empty id.now (rows_of (found_of matches.now)) }
+{
+    match matches.get_str(id) {
+        Some(text) => is_empty(text),
+        None => false,
     }
 }
 

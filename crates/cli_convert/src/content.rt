@@ -1,30 +1,30 @@
-//! What a file has: cards, rows of cards, or contacts of Google or Outlook.
+//! What a file has: cards, rows of cards, or contacts.
 ghost use Rattle.std.specs.Prelude.{◌≡◌, IfOk, IsTrue};
 ghost use Rattle.csv_cards.specs.Exports.{is_export};
 ghost use Rattle.cli_convert.specs.declared.content.Content.TheVariants.{Export};
 
 use base_types::NoMemory;
-use contact_csv::delimiter_of;
+use contact_csv::{Header, find_header};
 use csv_cards::is_export;
 use import_text::begins_with_word;
 use std::alloc::Global;
 use std::io::{ErrorKind, Read};
 
 /// The number of octets from which a file's content is known.
-pub(crate) const HEAD_OCTETS: usize = 65_536;
+pub(crate) const HEAD_OCTETS: usize = 1_048_576;
 
 /// The most reads of the head. Each returns at least one octet, is interrupted, or is the last.
 const READS_MAX: u32 = 1_000_000;
 
 /// What a file has.
-#[derive(Clone, Copy, PartialEq, Eq)]
+#[derive(Clone, Copy)]
 pub(crate) enum Content {
     /// Cards, or what is no card.
     Cards,
     /// Rows `uid,vcard`.
     Export,
-    /// Contacts of Google or Outlook, with this octet between the fields.
-    Contacts(u8),
+    /// Contacts with this header.
+    Contacts(Header),
     /// Rows with another header.
     OtherRows,
 }
@@ -44,11 +44,14 @@ pub(crate) fn content_of(alloc: Global, path: &str, head: &[u8]) -> Result<Conte
     if is_export(head) {
         return Ok(Content::Export);
     }
-    if let Some(delimiter) = delimiter_of(alloc, head)? {
-        return Ok(Content::Contacts(delimiter));
-    }
     let text = head.strip_prefix(b"\xEF\xBB\xBF").unwrap_or(head);
-    if is_csv_path(path) && !begins_with_word(text, b"BEGIN:VCARD") {
+    if begins_with_word(text, b"BEGIN:VCARD") {
+        return Ok(Content::Cards);
+    }
+    if let Some(header) = find_header(alloc, head)? {
+        return Ok(Content::Contacts(header));
+    }
+    if is_csv_path(path) {
         return Ok(Content::OtherRows);
     }
     Ok(Content::Cards)
@@ -69,10 +72,14 @@ impl From<std::alloc::AllocError> for HeadFault {
     }
 }
 
-/// The first octets of a reader, at most 65,536.
-pub(crate) fn read_head<R: Read>(alloc: Global, reader: &mut R) -> Result<Vec<u8>, HeadFault> {
+/// The first octets of a reader, at most `size`.
+pub(crate) fn read_head<R: Read>(
+    alloc: Global,
+    reader: &mut R,
+    size: usize,
+) -> Result<Vec<u8>, HeadFault> {
     let mut head = Vec::new(alloc);
-    head.resize(HEAD_OCTETS, 0)?;
+    head.resize(size, 0)?;
     let mut count = 0;
     for _read in 0..READS_MAX {
         let Some(room) = head.as_mut_slice().get_mut(count..) else {

@@ -4,6 +4,7 @@ ghost use Rattle.cli_convert.specs.Endings.{status_of};
 
 use base_types::{NoMemory, Text};
 use card_conversion::{ConversionFault, Summary};
+use contact_columns::unknown_columns;
 use std::alloc::Global;
 use std::io::Write;
 
@@ -42,9 +43,27 @@ pub(crate) fn unreadable(alloc: Global, file: &str) -> ConvertStop {
     }
 }
 
-/// The stop for a file of CSV whose header isn't known.
-pub(crate) fn no_known_header(alloc: Global, file: &str) -> ConvertStop {
-    match format!(in alloc; "{file} has no header of Google's or Outlook's contacts in English") {
+/// The words for a file of rows whose header isn't known.
+fn header_words(alloc: Global, file: &str, head: &[u8]) -> Result<String, NoMemory> {
+    let names = unknown_columns(alloc, head)?;
+    let names = names.as_str();
+    if names.is_empty() {
+        return Ok(format!(in alloc; "{file} has no header of contacts that is known")?);
+    }
+    Ok(format!(in alloc; "{file} has a header whose columns aren't known: {names}")?)
+}
+
+/// The stop for a file of rows whose header isn't known. `head` is the beginning of the file.
+pub(crate) fn unknown_header(alloc: Global, file: &str, head: &[u8]) -> ConvertStop {
+    match header_words(alloc, file, head) {
+        Ok(words) => ConvertStop::Device(Text::new(words)),
+        Err(_) => ConvertStop::Memory,
+    }
+}
+
+/// The stop for a file in a format that isn't converted, with words on the format.
+pub(crate) fn foreign_file(alloc: Global, file: &str, words: &str) -> ConvertStop {
+    match format!(in alloc; "{file} is {words}") {
         Ok(words) => ConvertStop::Device(Text::new(words)),
         Err(_) => ConvertStop::Memory,
     }

@@ -3,19 +3,19 @@ ghost use Rattle.std.specs.Prelude.{◌≡◌, ◌⊎◌, ◌<◌, IfOk, IsTrue}
 ghost use Rattle.cli_convert.specs.Endings.{Ends, Prints, prints_rows};
 
 use crate::card_files::CardFiles;
-use crate::content::{Content, HeadFault, content_of, read_head};
-use crate::exit::{ConvertStop, end, no_known_header, stop_of, unreadable};
+use crate::content::Content;
+use crate::exit::{ConvertStop, end, stop_of};
 use crate::names::rows_front;
+use crate::opening::{open_file, read_content, text_after, with_dates};
 use crate::row_files::RowFiles;
 use crate::sources::{convert_to, convert_to_writer};
 use crate::wanted::Wanted;
 use base_types::Text;
 use card_conversion::{ConversionFault, RowsOutlet, Summary};
-use import_text::TextReader;
 use std::alloc::Global;
 use std::fs;
 use std::fs::Files;
-use std::io::{ErrorKind, Read, Write};
+use std::io::{Read, Write};
 
 /// The most rows of an import.
 const ROWS_MAX: u64 = 10_000;
@@ -77,35 +77,34 @@ fn convert_opened<F: Files, R: Read + Drop, W: Write, E: Write>(
     }
 }
 
-/// A reader of the text of a file that was opened.
-fn read_as_text<R: Read + Drop>(
-    alloc: Global,
-    path: &str,
-    file: R,
-) -> Result<TextReader<R>, ConvertStop> {
-    match TextReader::new(alloc, file) {
-        Ok(reader) => Ok(reader),
-        Err(error) if error.kind() == ErrorKind::OutOfMemory => Err(ConvertStop::Memory),
-        Err(_) => Err(unreadable(alloc, path)),
+/// The number of octets before what is converted.
+fn start_of(content: Content) -> usize {
+    match content {
+        Content::Contacts(header) => header.start,
+        _ => 0,
     }
 }
 
-/// Reads the head of the file, and what the file has.
-fn read_content<R: Read>(
+/// Converts the text of a file that was opened.
+fn convert_text<F: Files, R: Read + Drop, W: Write, E: Write>(
     alloc: Global,
-    file: &str,
-    reader: &mut R,
-) -> Result<(Vec<u8>, Content), ConvertStop> {
-    let head = match read_head(alloc, reader) {
-        Ok(head) => head,
-        Err(HeadFault::Memory) => return Err(ConvertStop::Memory),
-        Err(HeadFault::Unreadable) => return Err(unreadable(alloc, file)),
-    };
-    let content = content_of(alloc, file, head.as_slice())?;
-    if content == Content::OtherRows {
-        return Err(no_known_header(alloc, file));
+    files: &F,
+    wanted: Wanted<'_>,
+    text: R,
+    rows: &mut RowsOutlet<W>,
+    errors: &mut E,
+) -> Result<Summary, ConvertStop>
+    ensures { IfOk result (λ summary. IsTrue (prints_rows wanted.entry)
+        → Prints (W.contents rows.old.writer) (W.contents rows.new.writer) summary) }
+{
+    let mut reader = text;
+    let (head, content) = read_content(alloc, wanted.file, &mut reader)?;
+    let content = with_dates(alloc, files, wanted.file, content)?;
+    let reader = head.get(start_of(content)..).unwrap_or(&[]).chain(reader);
+    match convert_opened(alloc, files, wanted, content, reader, rows, errors) {
+        Ok(summary) => Ok(summary),
+        Err(fault) => Err(stop_of(alloc, fault, wanted.file)),
     }
-    Ok((head, content))
 }
 
 /// Opens the file and converts it.
@@ -119,17 +118,10 @@ fn convert<F: Files, W: Write, E: Write>(
     ensures { IfOk result (λ summary. IsTrue (prints_rows wanted.entry)
         → Prints (W.contents rows.old.writer) (W.contents rows.new.writer) summary) }
 {
-    let Ok(file) = fs::open(files, wanted.file) else {
-        return Err(unreadable(alloc, wanted.file));
-    };
+    let (front, file) = open_file(alloc, files, wanted.file)?;
     check_folder(alloc, files, wanted.folder)?;
-    let mut reader = read_as_text(alloc, wanted.file, file)?;
-    let (head, content) = read_content(alloc, wanted.file, &mut reader)?;
-    let reader = head.as_slice().chain(reader);
-    match convert_opened(alloc, files, wanted, content, reader, rows, errors) {
-        Ok(summary) => Ok(summary),
-        Err(fault) => Err(stop_of(alloc, fault, wanted.file)),
-    }
+    let text = text_after(alloc, wanted.file, front.as_slice(), file)?;
+    convert_text(alloc, files, wanted, text, rows, errors)
 }
 
 /// Converts the cards or the contacts of a file. Writes their cards as rows to standard output, as

@@ -8,20 +8,22 @@ use card_conversion::{
     ConversionFault, Outlet, RowsOutlet, Summary, convert_contacts, convert_contacts_to_rows,
     convert_file, convert_to_rows,
 };
-use contact_csv::{ContactFault, ContactReader};
+use contact_columns::RowText;
+use contact_csv::{ContactFault, ContactReader, Header};
 use csv_cards::ExportText;
 use std::alloc::Global;
 use std::io::{Read, Write};
 
-/// A reader of contacts, after its header.
+/// A reader of contacts, after its header. `reader` begins with the header.
 fn read_contacts<R: Read + Drop>(
     alloc: Global,
     reader: R,
-    delimiter: u8,
-) -> Result<ContactReader<R>, ConversionFault>
+    header: Header,
+) -> Result<ContactReader<RowText<R>>, ConversionFault>
     ensures { IfOk result IsReady }
 {
-    match ContactReader::new(alloc, reader, delimiter) {
+    let rows = RowText::new(alloc, reader, header.delimiter, header.width);
+    match ContactReader::new(alloc, rows, header) {
         Ok(contacts) => Ok(contacts),
         Err(ContactFault::Memory) => Err(ConversionFault::Memory),
         Err(_) => Err(ConversionFault::Input),
@@ -38,8 +40,8 @@ pub(crate) fn convert_to<R: Read + Drop, O: Outlet, E: Write>(
 ) -> Result<Summary, ConversionFault> {
     match content {
         Content::Export => convert_file(alloc, ExportText::new(alloc, reader), outlet, errors),
-        Content::Contacts(delimiter) => {
-            let contacts = read_contacts(alloc, reader, delimiter)?;
+        Content::Contacts(header) => {
+            let contacts = read_contacts(alloc, reader, header)?;
             convert_contacts(alloc, contacts, outlet, errors)
         }
         Content::Cards | Content::OtherRows => convert_file(alloc, reader, outlet, errors),
@@ -59,8 +61,8 @@ pub(crate) fn convert_to_writer<R: Read + Drop, W: Write, E: Write>(
 {
     match content {
         Content::Export => convert_to_rows(alloc, ExportText::new(alloc, reader), outlet, errors),
-        Content::Contacts(delimiter) => {
-            let contacts = read_contacts(alloc, reader, delimiter)?;
+        Content::Contacts(header) => {
+            let contacts = read_contacts(alloc, reader, header)?;
             convert_contacts_to_rows(alloc, contacts, outlet, errors)
         }
         Content::Cards | Content::OtherRows => convert_to_rows(alloc, reader, outlet, errors),

@@ -81,22 +81,25 @@ module _ {S P L H : Type 0} (calls : HostCall S P L → H → H → Type 0) wher
 
   -- ---- a copy
 
-  pub file_uncopied : (old new : H) (file target : List ℕ) (fault : OpenFault) (w : Option (List ℕ)) → calls (Copies file target (Err fault)) old new → LogsCalls calls old new (StopsCopying file target (Open fault) w w)
-  file_uncopied old new file target fault w made = one_call old new (Copies file target (Err fault)) (StopsCopying file target (Open fault) w w) made (inl (fault, refl, unopened fault w))
+  pub file_uncopied : (old new : H) (file target : List ℕ) (without : List (List ℕ)) (stop : Stop) (w : Option (List ℕ)) → calls (Copies file target without (Err stop)) old new → LogsCalls calls old new (StopsCopying file target without stop w w)
+  file_uncopied old new file target without stop w made = one_call old new (Copies file target without (Err stop)) (StopsCopying file target without stop w w) made (inl (refl, kept_same w))
 
-  pub copy_without_text : (old new : H) (file target : List ℕ) (count : ℕ) (w : Option (List ℕ)) → calls (Copies file target (Ok count)) old new → LogsCalls calls old new (StopsCopying file target out_of_memory w w)
-  copy_without_text old new file target count w made = one_call old new (Copies file target (Ok count)) (StopsCopying file target out_of_memory w w) made (inr (count, refl, inl (record { stop_is = refl; unwritten = kept_same w })))
+  pub copy_without_text : (old new : H) (file target : List ℕ) (without : List (List ℕ)) (count : ℕ) (w : Option (List ℕ)) → calls (Copies file target without (Ok count)) old new
+      → LogsCalls calls old new (StopsCopying file target without out_of_memory w w)
+  copy_without_text old new file target without count w made =
+      one_call old new (Copies file target without (Ok count)) (StopsCopying file target without out_of_memory w w) made (inr (count, refl, inl (record { stop_is = refl; unwritten = kept_same w })))
 
-  pub file_copied : (result : Result (Unit {0}) Stop) (old new : H) (file target : List ℕ) (count : ℕ) (before after : Option (List ℕ)) → calls (Copies file target (Ok count)) old new → OnOk result (Appends before after (copy_output count))
-      → OnOk result (LogsCalls calls old new (CopiesFile file target before after))
-  file_copied (Ok done) old new file target count before after made printed = one_call old new (Copies file target (Ok count)) (CopiesFile file target before after) made (record { count = count; calls = refl; printed = printed })
-  file_copied (Err stop) old new file target count before after made printed = tt
+  pub file_copied : (result : Result (Unit {0}) Stop) (old new : H) (file target : List ℕ) (without : List (List ℕ)) (count : ℕ) (before after : Option (List ℕ)) → calls (Copies file target without (Ok count)) old new
+      → OnOk result (Appends before after (copy_output count)) → OnOk result (LogsCalls calls old new (CopiesFile file target without before after))
+  file_copied (Ok done) old new file target without count before after made printed =
+      one_call old new (Copies file target without (Ok count)) (CopiesFile file target without before after) made (record { count = count; calls = refl; printed = printed })
+  file_copied (Err stop) old new file target without count before after made printed = tt
 
-  pub file_copied_unprinted : (result : Result (Unit {0}) Stop) (old new : H) (file target : List ℕ) (count : ℕ) (before after : Option (List ℕ)) → calls (Copies file target (Ok count)) old new → WritesPrefix (copy_output count) before after
-      → IfErr result (λ stop. stop ≡ Device) → IfErr result (λ stop. LogsCalls calls old new (StopsCopying file target stop before after))
-  file_copied_unprinted (Ok done) old new file target count before after made front device = tt
-  file_copied_unprinted (Err stop) old new file target count before after made front device =
-      one_call old new (Copies file target (Ok count)) (StopsCopying file target stop before after) made (inr (count, refl, inr (record { stop_is = device; front = front })))
+  pub file_copied_unprinted : (result : Result (Unit {0}) Stop) (old new : H) (file target : List ℕ) (without : List (List ℕ)) (count : ℕ) (before after : Option (List ℕ)) → calls (Copies file target without (Ok count)) old new
+      → WritesPrefix (copy_output count) before after → IfErr result (λ stop. stop ≡ Device) → IfErr result (λ stop. LogsCalls calls old new (StopsCopying file target without stop before after))
+  file_copied_unprinted (Ok done) old new file target without count before after made front device = tt
+  file_copied_unprinted (Err stop) old new file target without count before after made front device =
+      one_call old new (Copies file target without (Ok count)) (StopsCopying file target without stop before after) made (inr (count, refl, inr (record { stop_is = device; front = front })))
 
   -- ---- a copy that is put back
 

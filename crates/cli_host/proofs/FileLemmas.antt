@@ -37,10 +37,10 @@ module _ {S P L : Type 0} where
   migrating_leaves file stop before after log (inr (count, migrated, inl s)) = keeps_leaves stop before after s.unwritten
   migrating_leaves file stop before after log (inr (count, migrated, inr s)) = output_kept_by_device stop before after s.stop_is
 
-  copying_leaves : (file target : List ℕ) (stop : Stop) (before after : Option (List ℕ)) (log : List (HostCall S P L)) → StopsCopying file target stop before after log → KeepsOutput stop before after
-  copying_leaves file target stop before after log (inl s) = keeps_leaves stop before after s.2.unwritten
-  copying_leaves file target stop before after log (inr (count, copied, inl s)) = keeps_leaves stop before after s.unwritten
-  copying_leaves file target stop before after log (inr (count, copied, inr s)) = output_kept_by_device stop before after s.stop_is
+  copying_leaves : (file target : List ℕ) (without : List (List ℕ)) (stop : Stop) (before after : Option (List ℕ)) (log : List (HostCall S P L)) → StopsCopying file target without stop before after log → KeepsOutput stop before after
+  copying_leaves file target without stop before after log (inl s) = keeps_leaves stop before after s.1
+  copying_leaves file target without stop before after log (inr (count, copied, inl s)) = keeps_leaves stop before after s.unwritten
+  copying_leaves file target without stop before after log (inr (count, copied, inr s)) = output_kept_by_device stop before after s.stop_is
 
   restoring_leaves : (backup file : List ℕ) (pairs : ℕ) (stop : Stop) (before after : Option (List ℕ)) (log : List (HostCall S P L)) → StopsRestoring backup file pairs stop before after log → KeepsOutput stop before after
   restoring_leaves backup file pairs stop before after log (inl s) = keeps_leaves stop before after s.1
@@ -134,7 +134,7 @@ module _ {S P L Connection : Type 0} (model : StoreModel S) (effects : EndpointR
   ]
   work_leaves (CreateFile file) stop before after log s = inl (making_leaves file stop before after log s)
   work_leaves (MigrateFile file) stop before after log s = inl (migrating_leaves file stop before after log s)
-  work_leaves (CopyFile file target) stop before after log s = inl (copying_leaves file target stop before after log s)
+  work_leaves (CopyFile file target without) stop before after log s = inl (copying_leaves file target without stop before after log s)
   work_leaves (RestoreFile backup file pairs) stop before after log s = inl (restoring_leaves backup file pairs stop before after log s)
   work_leaves (ServeFile file port connections) stop before after log s = inl (turns_leave model stream coming file port connections stop before after log s)
   work_leaves (RunFile file creates names address limits is_logged site) stop before after log s = elim (run_leaves model effects file creates names address limits site stop before after log s) [

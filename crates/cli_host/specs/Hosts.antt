@@ -29,9 +29,9 @@ pub data HostCall (Store Endpoint Listener : Type 0) : Type 0 where
   FindsFault : List ℕ → Result (Option FaultyRow) OpenFault → HostCall Store Endpoint Listener
   -- migrating the file to the current schema, which returns its number of books
   Migrates : List ℕ → Result ℕ OpenFault → HostCall Store Endpoint Listener
-  -- copying the store in the first file into the second, a new one, which returns its number of
-  -- books
-  Copies : List ℕ → List ℕ → Result ℕ OpenFault → HostCall Store Endpoint Listener
+  -- copying the store in the first file into the second, a new one, without the books with these
+  -- names, which returns the number of books that it has
+  Copies : List ℕ → List ℕ → List (List ℕ) → Result ℕ Stop → HostCall Store Endpoint Listener
   -- putting the copy in the first file back in place of the second, and making every device start
   -- again with this many pairs of numbers
   Restores : List ℕ → List ℕ → ℕ → Result Restored Stop → HostCall Store Endpoint Listener

@@ -71,7 +71,7 @@ work_of Version = PrintVersion
 work_of (Check file) = CheckFile file
 work_of (Init file) = CreateFile file
 work_of (Migrate file) = MigrateFile file
-work_of (Copy file target) = CopyFile file target
+work_of (Copy file target without) = CopyFile file target without
 work_of (Restore backup file pairs) = RestoreFile backup file pairs
 work_of (Run file port socket names max_open idle_timeout max_held creates is_logged site) =
     RunFile file creates names (address_of port socket)

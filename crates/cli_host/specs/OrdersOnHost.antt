@@ -127,20 +127,20 @@ module _ {S P L : Type 0} where
 
   -- ---- a copy
 
-  -- the store in the file was copied into a new file, and its number of books is printed
-  pub record CopiesFile (file target : List ℕ) (before after : Option (List ℕ))
-      (log : List (HostCall S P L)) : Type 0 where
+  -- the store in the file was copied into a new file without the books with these names, and the
+  -- number of books that it has is printed
+  pub record CopiesFile (file target : List ℕ) (without : List (List ℕ))
+      (before after : Option (List ℕ)) (log : List (HostCall S P L)) : Type 0 where
     pub count : ℕ
-    pub calls : log ≡ Copies file target (Ok count) ∷ []
+    pub calls : log ≡ Copies file target without (Ok count) ∷ []
     pub printed : Appends before after (copy_output count)
 
   -- it wasn't copied, or memory ran out or the writer failed over the text
-  abbrev pub StopsCopying : List ℕ → List ℕ → Stop → Option (List ℕ) → Option (List ℕ)
-      → List (HostCall S P L) → Type 0
-  StopsCopying file target stop before after log =
-      ((fault : OpenFault) × (log ≡ Copies file target (Err fault) ∷ [])
-      × StopsUnopened fault stop before after)
-      ⊎ ((count : ℕ) × (log ≡ Copies file target (Ok count) ∷ [])
+  abbrev pub StopsCopying : List ℕ → List ℕ → List (List ℕ) → Stop → Option (List ℕ)
+      → Option (List ℕ) → List (HostCall S P L) → Type 0
+  StopsCopying file target without stop before after log =
+      ((log ≡ Copies file target without (Err stop) ∷ []) × Keeps before after)
+      ⊎ ((count : ℕ) × (log ≡ Copies file target without (Ok count) ∷ [])
       × (StopsForMemory stop before after
       ⊎ StopsOverText (copy_output count) stop before after))
 
@@ -470,7 +470,8 @@ module _ {S P L Connection : Type 0} (model : StoreModel S) (effects : EndpointR
   DoesWork (CheckFile file) before after log = ChecksFile file before after log
   DoesWork (CreateFile file) before after log = MakesStore file before after log
   DoesWork (MigrateFile file) before after log = MigratesFile file before after log
-  DoesWork (CopyFile file target) before after log = CopiesFile file target before after log
+  DoesWork (CopyFile file target without) before after log =
+      CopiesFile file target without before after log
   DoesWork (RestoreFile backup file pairs) before after log =
       RestoresFile backup file pairs before after log
   DoesWork (ServeFile file port connections) before after log =
@@ -490,8 +491,8 @@ module _ {S P L Connection : Type 0} (model : StoreModel S) (effects : EndpointR
   StopsWork (CheckFile file) stop before after log = StopsChecking file stop before after log
   StopsWork (CreateFile file) stop before after log = StopsMaking file stop before after log
   StopsWork (MigrateFile file) stop before after log = StopsMigrating file stop before after log
-  StopsWork (CopyFile file target) stop before after log =
-      StopsCopying file target stop before after log
+  StopsWork (CopyFile file target without) stop before after log =
+      StopsCopying file target without stop before after log
   StopsWork (RestoreFile backup file pairs) stop before after log =
       StopsRestoring backup file pairs stop before after log
   StopsWork (ServeFile file port connections) stop before after log =

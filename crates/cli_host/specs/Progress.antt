@@ -1,12 +1,6 @@
 -- What is said on a terminal of a long import or a long opening. This project's own.
 use Rattle.std.specs.Prelude.{ℕ, ◌/◌, List, [], ◌∷◌, ◌++◌, codes, decimal}
-use Rattle.std.specs.List.{count_by}
-use Rattle.std.specs.Prelude.{◌==◌}
 use Rattle.base_types.specs.Octets.{line_feed}
-
--- the number of lines of a file of rows
-abbrev pub line_count : List ℕ → ℕ
-line_count rows = count_by (λ octet. octet == line_feed) rows
 
 -- before a file is opened that has this number of octets
 abbrev pub opening_line : List ℕ → ℕ → List ℕ

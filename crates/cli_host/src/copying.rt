@@ -5,26 +5,27 @@ ghost use Rattle.cli_host.specs.OrdersOnHost.{CopiesFile, RestoresFile, StopsCop
 ghost use Rattle.cli_host.specs.OrdersOnHost.{StopsRestoring};
 
 use crate::host::Host;
-use base_types::Text;
+use base_types::{Items, Text};
 use cli_orders::{Stop, copy_text, restore_text, write_out};
 use std::alloc::Global;
 use std::io::Write;
 
-/// Copies the store in the file into a new file, and prints its number of books. The copy remains
-/// if this can't be written.
+/// Copies the store in the file into a new file, without the books with these names, and prints the
+/// number of books that it has. The copy remains if this can't be written.
 pub(crate) fn run_copy<S, P, L, M: Host<S, P, L>, W: Write>(
     alloc: Global,
     host: &mut M,
     file: Text,
     target: Text,
+    without: Items<Text>,
     writer: &mut W,
 ) -> Result<(), Stop>
     ensures done { OnOk result (LogsCalls M.calls host.old host.new
-        (CopiesFile file target (W.contents writer.old) (W.contents writer.new))) }
+        (CopiesFile file target without (W.contents writer.old) (W.contents writer.new))) }
     ensures stopped { IfErr result (λ stop. LogsCalls M.calls host.old host.new
-        (StopsCopying file target stop (W.contents writer.old) (W.contents writer.new))) }
+        (StopsCopying file target without stop (W.contents writer.old) (W.contents writer.new))) }
 {
-    let books = host.copy_file(file.as_str(), target.as_str())?;
+    let books = host.copy_file(file.as_str(), target.as_str(), without.as_slice())?;
     let text = copy_text(alloc, books)?;
     write_out(writer, text.as_slice())
 }

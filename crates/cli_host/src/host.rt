@@ -9,8 +9,8 @@ ghost use Rattle.cli_orders.specs.Stops.{out_of_memory};
 
 use crate::causes::{port_cause, rows_cause, socket_cause, store_cause};
 use crate::restoring::restore_file;
-use base_types::Items;
-use book_store::{FileBooks, OpenFault, SqlStore};
+use base_types::{Items, Text};
+use book_store::{CopyFault, FileBooks, OpenFault, SqlStore};
 use cli_orders::{Address, FoundCause, Restored, Stop, read_rows_of};
 use request_log::RequestLog;
 use site_files::{Site, SiteFault, read_site};
@@ -60,13 +60,14 @@ pub trait Host<S, P, L>: RequestLog {
     fn migrate_file(&mut self, file: &str) -> Result<u64, OpenFault>
         ensures { calls (Migrates file.now result) self.old self.new };
 
-    /// Copies the store in the file into a new file, and returns its number of books. `NotEmpty` if
-    /// something is there.
-    fn copy_file(&mut self, file: &str, target: &str) -> Result<u64, OpenFault>
-        ensures { calls (Copies file.now target.now result) self.old self.new };
+    /// Copies the store in the file into a new file, without the books with these names, and returns
+    /// the number of books that it has. `NotEmpty` if something is there, and refused with
+    /// `NoSuchBook` if a name isn't that of a book. No clause says what a stop leaves.
+    fn copy_file(&mut self, file: &str, target: &str, without: &[Text]) -> Result<u64, Stop>
+        ensures { calls (Copies file.now target.now without.now result) self.old self.new };
 
     /// Puts the copy in the file `backup` back in place of the file, and makes every device start
-    /// again. Returns what became of the file. After an error the file is as it was.
+    /// again. Returns what became of the file. No clause says what a stop leaves.
     fn restore_file(&mut self, backup: &str, file: &str, pairs: u64) -> Result<Restored, Stop>
         ensures { calls (Restores backup.now file.now pairs result) self.old self.new };
 
@@ -257,8 +258,12 @@ impl Host<FileBooks, SocketEndpoint, TcpListener> for HostRuntime {
         migrate(self, file)
     }
 
-    fn copy_file(&mut self, file: &str, target: &str) -> Result<u64, OpenFault> {
-        SqlStore::copy_file(self, file, target)
+    fn copy_file(&mut self, file: &str, target: &str, without: &[Text]) -> Result<u64, Stop> {
+        match SqlStore::copy_file_without(self, file, target, without) {
+            Ok(books) => Ok(books),
+            Err(CopyFault::Refused(refusal)) => Err(Stop::Refused(refusal)),
+            Err(CopyFault::Open(fault)) => Err(Stop::Open(fault)),
+        }
     }
 
     fn restore_file(&mut self, backup: &str, file: &str, pairs: u64) -> Result<Restored, Stop> {

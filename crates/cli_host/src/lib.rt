@@ -8,6 +8,7 @@ mod copying;
 mod exit;
 mod file_care;
 mod host;
+mod keeping;
 mod listing;
 mod lost_numbers;
 mod naming;

@@ -124,7 +124,7 @@ fn names_of(alloc: Global, order: &Order) -> Result<OrderNames, NoMemory>
         Order::Migrate { file } => of_file(alloc, OrderKind::Other, file),
         Order::Books { file } => of_file(alloc, OrderKind::Books, file),
         Order::Verify { file } => of_file(alloc, OrderKind::Verify, file),
-        Order::Copy { file, target } => {
+        Order::Copy { file, target, .. } => {
             named(
                 alloc,
                 OrderKind::Copy,

@@ -1,7 +1,7 @@
 //! Says on a terminal that a long import or a long opening goes on.
 ghost use Rattle.std.specs.Prelude.{◌≡◌, ◌/◌, IfErr, IfOk, OnOk};
 ghost use Rattle.cli_host.specs.Hosts.{Opens};
-ghost use Rattle.cli_host.specs.Progress.{begin_line, end_line, line_count, opening_line};
+ghost use Rattle.cli_host.specs.Progress.{begin_line, end_line, opening_line};
 ghost use Rattle.cli_orders.specs.CommandRuns.{PrintsCommand, StopsCommand};
 
 use crate::host::Host;
@@ -18,13 +18,6 @@ const SILENT_LINES_MAX: usize = 1_000;
 
 /// The most octets of a file that is opened without a word: those of about 100,000 small cards.
 const SILENT_OCTETS_MAX: u64 = 20_000_000;
-
-/// The number of lines of a file of rows.
-pub(crate) fn line_count(rows: &[u8]) -> usize
-    ensures { result ≡ line_count rows.now }
-{
-    rows.iter().filter(|octet| **octet == b'\n').count()
-}
 
 /// What is said before a long opening.
 fn opening_text(alloc: Global, file: &str, octets: u64) -> Result<Vec<u8>, NoMemory>

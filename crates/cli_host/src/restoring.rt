@@ -4,9 +4,10 @@
 
 use crate::admin_store::AdminStore;
 use crate::file_care::{
-    are_same_file, copy_synced, is_there, log_of, on_device, real_name, remove_if_vacant,
-    remove_log, remove_with_log, sync_folder_of, take_access,
+    are_same_file, log_of, on_device, real_name, remove_if_vacant, remove_log, remove_with_log,
+    sync_folder_of, take_access,
 };
+use crate::keeping::{add_copy, keep_old, look_at};
 use crate::lost_numbers::pairs_past;
 use base_types::{Items, NoMemory, Text};
 use book_store::{FileBooks, OpenFault, SqlStore};
@@ -18,9 +19,6 @@ use std::io::Write;
 use std::rt::HostRuntime;
 use std::{fs, io};
 use sync_core::{BookLine, BookStore, Denied, Limits, Refusal};
-
-/// The most names that are tried for a file that is kept.
-const KEPT_NAMES_MAX: u32 = 10_000;
 
 /// A file and its log that nobody else can open.
 type HeldFiles = Files<FileFrom<Unknown>>;
@@ -38,13 +36,6 @@ enum Old {
 
 /// What became of the books: the names of those that were made again, and the number of all.
 type Renewed = (Items<Text>, u64);
-
-fn add(names: &mut Vec<Text>, name: Text) -> Result<(), NoMemory> {
-    if names.push(name).is_err() {
-        return Err(NoMemory);
-    }
-    Ok(())
-}
 
 // ---- the old file
 
@@ -70,29 +61,27 @@ fn hold_unread(rt: &HostRuntime, file: &str, fault: OpenFault) -> Result<Old, St
     }
 }
 
+/// The store that is to be replaced, with its books.
+fn read_books(store: FileBooks) -> Result<Old, Stop> {
+    let mut store = store;
+    let books = store.books()?;
+    Ok(Old::Read(store, books))
+}
+
 /// Opens the file that is to be replaced.
 fn read_old(rt: &HostRuntime, file: &str) -> Result<Old, Stop> {
     match SqlStore::open(rt, file, Limits::standard()) {
-        Ok(store) => {
-            let mut store = store;
-            let books = store.books()?;
-            Ok(Old::Read(store, books))
-        }
+        Ok(store) => read_books(store),
         Err(fault) => hold_unread(rt, file, fault),
     }
 }
 
 /// Looks at what is to be replaced, and holds it.
 fn look_at_old(rt: &HostRuntime, file: &str) -> Result<Old, Stop> {
-    match fs::metadata(rt, file) {
-        Ok(found) if found.is_file() && found.len() == 0 => {
-            Ok(Old::Vacant(hold(rt, file)?, false))
-        }
-        Ok(_) => read_old(rt, file),
-        Err(error) if error.kind() == io::ErrorKind::NotFound => {
-            Ok(Old::Vacant(hold(rt, file)?, true))
-        }
-        Err(_) => Err(Stop::Device),
+    match look_at(rt, file)? {
+        Some((true, 0)) => Ok(Old::Vacant(hold(rt, file)?, false)),
+        Some(_) => read_old(rt, file),
+        None => Ok(Old::Vacant(hold(rt, file)?, true)),
     }
 }
 
@@ -114,38 +103,63 @@ fn make_if_missing<S: BookStore>(
     made: &mut Vec<Text>,
 ) -> Result<(), Stop> {
     match store.create_book(name) {
-        Ok(_id) => {
-            add(made, Text::copy_of(alloc, name)?)?;
-            Ok(())
-        }
+        Ok(_id) => add_copy(alloc, name, made),
         Err(Denied::Refused(Refusal::BookExists)) => Ok(()),
         Err(denied) => Err(Stop::from(denied)),
     }
 }
 
+/// The same for the book with this id.
+fn make_with_id<S: BookStore>(
+    alloc: Global,
+    store: &mut S,
+    books: &[BookLine],
+    id: u64,
+    made: &mut Vec<Text>,
+) -> Result<(), Stop> {
+    for book in books {
+        if book.id == id {
+            make_if_missing(alloc, store, book.name.as_str(), made)?;
+        }
+    }
+    Ok(())
+}
+
 /// Creates each of these books that the store hasn't, the oldest first, so that it gets its id
-/// again. Returns their names.
+/// again. Adds their names.
+fn make_all<S: BookStore>(
+    alloc: Global,
+    store: &mut S,
+    books: &[BookLine],
+    made: &mut Vec<Text>,
+) -> Result<(), Stop> {
+    for id in 1..=books.len() as u64 {
+        make_with_id(alloc, store, books, id, made)?;
+    }
+    Ok(())
+}
+
+/// The same. Returns their names.
 fn make_missing<S: BookStore>(
     alloc: Global,
     store: &mut S,
     books: &[BookLine],
 ) -> Result<Items<Text>, Stop> {
     let mut made = Vec::new(alloc);
-    for id in 1..=books.len() as u64 {
-        for book in books {
-            if book.id == id {
-                make_if_missing(alloc, store, book.name.as_str(), &mut made)?;
-            }
-        }
-    }
+    make_all(alloc, store, books, &mut made)?;
     Ok(Items::from_vec(made))
 }
 
-/// Makes every device start again. Each book's numbers pass those of the old file's, so also those
-/// that an earlier restore or resync took.
-fn resync_past(store: &mut FileBooks, old: &[BookLine], pairs: u64) -> Result<u64, Stop> {
+/// So many pairs that each book's numbers pass those of the old file's, so also those that an
+/// earlier restore or resync took.
+fn enough_pairs(store: &mut FileBooks, old: &[BookLine], pairs: u64) -> Result<u64, Stop> {
     let books = store.books()?;
-    let past = pairs_past(old, books.as_slice(), pairs);
+    Ok(pairs_past(old, books.as_slice(), pairs))
+}
+
+/// Makes every device start again.
+fn resync_past(store: &mut FileBooks, old: &[BookLine], pairs: u64) -> Result<u64, Stop> {
+    let past = enough_pairs(store, old, pairs)?;
     let count = store.resync_books(past)?;
     Ok(count)
 }
@@ -168,12 +182,24 @@ fn close_alone(rt: &HostRuntime, store: FileBooks, file: &str) -> Result<(), Sto
     remove_log(rt, file)
 }
 
-/// Renews the books of the new file, and folds the log into the file.
-fn renew(rt: &HostRuntime, fresh: &str, old: &[BookLine], pairs: u64) -> Result<Renewed, Stop> {
-    let mut store: FileBooks = SqlStore::open(rt, fresh, Limits::standard())?;
+/// Renews the books of the store in the new file, and folds the log into the file.
+fn renew_store(
+    rt: &HostRuntime,
+    store: FileBooks,
+    fresh: &str,
+    old: &[BookLine],
+    pairs: u64,
+) -> Result<Renewed, Stop> {
+    let mut store = store;
     let renewed = renew_books(rt.alloc(), &mut store, old, pairs)?;
     close_alone(rt, store, fresh)?;
     Ok(renewed)
+}
+
+/// Renews the books of the new file.
+fn renew(rt: &HostRuntime, fresh: &str, old: &[BookLine], pairs: u64) -> Result<Renewed, Stop> {
+    let store: FileBooks = SqlStore::open(rt, fresh, Limits::standard())?;
+    renew_store(rt, store, fresh, old, pairs)
 }
 
 /// Makes the new file of the copy. After an error there is none.
@@ -187,66 +213,13 @@ fn make_new(
     // What a restore left that was stopped.
     remove_with_log(rt, fresh)?;
     let _books = SqlStore::copy_file(rt, backup, fresh)?;
-    let renewed = renew(rt, fresh, old, pairs);
-    if renewed.is_err() {
-        let _removed = remove_with_log(rt, fresh);
-    }
-    renewed
-}
-
-// ---- keeping the old file
-
-/// The name of this number under which the file can be kept, if neither it nor its log is there.
-fn name_if_free(rt: &HostRuntime, file: &str, number: u32) -> Result<Option<String>, NoMemory> {
-    let name = format!(in rt.alloc(); "{file}.before-restore-{number}")?;
-    let log = log_of(rt.alloc(), name.as_str())?;
-    if is_there(rt, name.as_str()) || is_there(rt, log.as_str()) {
-        return Ok(None);
-    }
-    Ok(Some(name))
-}
-
-/// The first name under which the file can be kept.
-fn free_name(rt: &HostRuntime, file: &str) -> Result<String, Stop> {
-    for number in 1..KEPT_NAMES_MAX {
-        if let Some(name) = name_if_free(rt, file, number)? {
-            return Ok(name);
+    match renew(rt, fresh, old, pairs) {
+        Ok(renewed) => Ok(renewed),
+        Err(stop) => {
+            let _removed = remove_with_log(rt, fresh);
+            Err(stop)
         }
     }
-    Err(Stop::Device)
-}
-
-/// Keeps what is at the path under the other name, unless it is nothing or has no octets.
-fn keep(rt: &HostRuntime, path: &str, kept: &str, names: &mut Vec<Text>) -> Result<(), Stop> {
-    match fs::metadata(rt, path) {
-        Ok(found) if found.len() == 0 => return Ok(()),
-        Ok(_) => {}
-        Err(error) if error.kind() == io::ErrorKind::NotFound => return Ok(()),
-        Err(_) => return Err(Stop::Device),
-    }
-    copy_synced(rt, path, kept)?;
-    add(names, Text::copy_of(rt.alloc(), kept)?)?;
-    Ok(())
-}
-
-/// Keeps the file and its log under this name.
-fn keep_as(rt: &HostRuntime, file: &str, name: &str) -> Result<Items<Text>, Stop> {
-    let mut names = Vec::new(rt.alloc());
-    let log = log_of(rt.alloc(), file)?;
-    let kept_log = log_of(rt.alloc(), name)?;
-    keep(rt, file, name, &mut names)?;
-    keep(rt, log.as_str(), kept_log.as_str(), &mut names)?;
-    Ok(Items::from_vec(names))
-}
-
-/// Keeps the file and its log under new names, which it returns. After an error nothing is kept.
-fn keep_old(rt: &HostRuntime, file: &str) -> Result<Items<Text>, Stop> {
-    let name = free_name(rt, file)?;
-    let kept = keep_as(rt, file, name.as_str());
-    if kept.is_err() {
-        let _removed = remove_with_log(rt, name.as_str());
-    }
-    kept
 }
 
 // ---- putting the new file in place
@@ -258,6 +231,14 @@ fn put(rt: &HostRuntime, fresh: &str, file: &str) -> Result<(), Stop> {
     Ok(())
 }
 
+/// Keeps the old file without its log, and puts the new one in its place.
+fn replace_alone(rt: &HostRuntime, fresh: &str, file: &str) -> Result<Items<Text>, Stop> {
+    remove_log(rt, file)?;
+    let kept = keep_old(rt, file)?;
+    put(rt, fresh, file)?;
+    Ok(kept)
+}
+
 /// Replaces a store that was read. Its log was folded into it, so either file is whole without one.
 fn replace_read(
     rt: &HostRuntime,
@@ -267,10 +248,13 @@ fn replace_read(
 ) -> Result<Items<Text>, Stop> {
     // Held until the new file is in its place, so that no server opens the old one.
     let _files = store.close()?;
+    replace_alone(rt, fresh, file)
+}
+
+/// Removes the old file's log, and puts the new file in its place.
+fn put_without_log(rt: &HostRuntime, fresh: &str, file: &str) -> Result<(), Stop> {
     remove_log(rt, file)?;
-    let kept = keep_old(rt, file)?;
-    put(rt, fresh, file)?;
-    Ok(kept)
+    put(rt, fresh, file)
 }
 
 /// Writes over the first octets of the file, so that it is no store without its log either.
@@ -285,16 +269,14 @@ fn spoil(rt: &HostRuntime, file: &str) -> io::Result<()> {
 fn replace_unread(rt: &HostRuntime, fresh: &str, file: &str) -> Result<Items<Text>, Stop> {
     let kept = keep_old(rt, file)?;
     on_device(spoil(rt, file))?;
-    remove_log(rt, file)?;
-    put(rt, fresh, file)?;
+    put_without_log(rt, fresh, file)?;
     Ok(kept)
 }
 
 /// Replaces a file without octets. A log without its file is kept as well.
 fn replace_vacant(rt: &HostRuntime, fresh: &str, file: &str) -> Result<Items<Text>, Stop> {
     let kept = keep_old(rt, file)?;
-    remove_log(rt, file)?;
-    put(rt, fresh, file)?;
+    put_without_log(rt, fresh, file)?;
     Ok(kept)
 }
 
@@ -307,6 +289,24 @@ fn put_in_place(rt: &HostRuntime, old: Old, fresh: &str, file: &str) -> Result<I
     }
 }
 
+/// Whether the old file was made to be held.
+fn is_made(old: &Old) -> bool {
+    match old {
+        Old::Vacant(_, is_made) => *is_made,
+        Old::Unread(_) | Old::Read(_, _) => false,
+    }
+}
+
+/// Gives the new file the access of the old one, unless that was made to be held. After an error
+/// there is no new file.
+fn make_alike(rt: &HostRuntime, fresh: &str, file: &str, old: &Old) -> Result<(), Stop> {
+    if is_made(old) || take_access(rt, file, fresh).is_ok() {
+        return Ok(());
+    }
+    let _removed = remove_with_log(rt, fresh);
+    Err(Stop::Device)
+}
+
 /// Makes the new file and gives it the access of the old one, or of the copy if there is none.
 fn make_like_old(
     rt: &HostRuntime,
@@ -317,21 +317,13 @@ fn make_like_old(
     pairs: u64,
 ) -> Result<Renewed, Stop> {
     let renewed = make_new(rt, backup, fresh, books_of(old), pairs)?;
-    if matches!(old, Old::Vacant(_, true)) {
-        return Ok(renewed);
-    }
-    match take_access(rt, file, fresh) {
-        Ok(()) => Ok(renewed),
-        Err(_) => {
-            let _removed = remove_with_log(rt, fresh);
-            Err(Stop::Device)
-        }
-    }
+    make_alike(rt, fresh, file, old)?;
+    Ok(renewed)
 }
 
 /// Removes the files that were made to be held, if nothing was put in their place.
 fn forget_vacant(rt: &HostRuntime, file: &str, old: &Old) {
-    if matches!(old, Old::Vacant(_, true)) {
+    if is_made(old) {
         let _removed = remove_if_vacant(rt, file);
         if let Ok(log) = log_of(rt.alloc(), file) {
             let _removed_log = remove_if_vacant(rt, log.as_str());
@@ -349,30 +341,71 @@ fn fresh_name(rt: &HostRuntime, backup: &str, file: &str) -> Result<String, NoMe
     Ok(first)
 }
 
-/// Restores the file that has no link in its name.
-fn restore_real(rt: &HostRuntime, backup: &str, file: &str, pairs: u64) -> Result<Restored, Stop> {
-    let fresh = fresh_name(rt, backup, file)?;
-    let old = look_at_old(rt, file)?;
-    let is_read = !matches!(&old, Old::Unread(_));
-    let (made, books) = match make_like_old(rt, backup, fresh.as_str(), file, &old, pairs) {
-        Ok(renewed) => renewed,
+/// The same. After an error it removes what was made to be held.
+fn make_or_forget(
+    rt: &HostRuntime,
+    backup: &str,
+    fresh: &str,
+    file: &str,
+    old: &Old,
+    pairs: u64,
+) -> Result<Renewed, Stop> {
+    match make_like_old(rt, backup, fresh, file, old, pairs) {
+        Ok(renewed) => Ok(renewed),
         Err(stop) => {
-            forget_vacant(rt, file, &old);
-            return Err(stop);
-        }
-    };
-    match put_in_place(rt, old, fresh.as_str(), file) {
-        Ok(kept) => Ok(Restored {
-            kept,
-            is_read,
-            made,
-            books,
-        }),
-        Err(stop) => {
-            let _removed = remove_with_log(rt, fresh.as_str());
+            forget_vacant(rt, file, old);
             Err(stop)
         }
     }
+}
+
+/// Puts the new file in place of the old one. After an error there is no new file.
+fn put_or_remove(rt: &HostRuntime, old: Old, fresh: &str, file: &str) -> Result<Items<Text>, Stop> {
+    match put_in_place(rt, old, fresh, file) {
+        Ok(kept) => Ok(kept),
+        Err(stop) => {
+            let _removed = remove_with_log(rt, fresh);
+            Err(stop)
+        }
+    }
+}
+
+/// Puts the new file with these books in place of the old one.
+fn finish(
+    rt: &HostRuntime,
+    old: Old,
+    renewed: Renewed,
+    fresh: &str,
+    file: &str,
+) -> Result<Restored, Stop> {
+    let is_read = !matches!(&old, Old::Unread(_));
+    let kept = put_or_remove(rt, old, fresh, file)?;
+    let (made, books) = renewed;
+    Ok(Restored {
+        kept,
+        is_read,
+        made,
+        books,
+    })
+}
+
+/// Restores the file by a new one at the path `fresh`.
+fn restore_by(
+    rt: &HostRuntime,
+    backup: &str,
+    fresh: &str,
+    file: &str,
+    pairs: u64,
+) -> Result<Restored, Stop> {
+    let old = look_at_old(rt, file)?;
+    let renewed = make_or_forget(rt, backup, fresh, file, &old, pairs)?;
+    finish(rt, old, renewed, fresh, file)
+}
+
+/// Restores the file that has no link in its name.
+fn restore_real(rt: &HostRuntime, backup: &str, file: &str, pairs: u64) -> Result<Restored, Stop> {
+    let fresh = fresh_name(rt, backup, file)?;
+    restore_by(rt, backup, fresh.as_str(), file, pairs)
 }
 
 /// Puts the copy in the file `backup` back in place of the file. The copy is tested first, and is

@@ -13,7 +13,7 @@ use crate::admin_store::AdminStore;
 use crate::copying::{run_copy, run_restore};
 use crate::host::Host;
 use crate::listing::run_listing;
-use crate::progress::{line_count, open_watched, run_import};
+use crate::progress::{open_watched, run_import};
 use crate::resyncing::run_resync;
 use crate::serving::{run_file, run_serve};
 use crate::verifying::run_verify;
@@ -24,8 +24,8 @@ use book_service::Command;
 use book_store::FileBooks;
 use cli_args::Order;
 use cli_orders::{
-    Stop, kind_of_file, made_text, migrate_text, run_check, run_command, run_mirror, version_text,
-    write_out,
+    Stop, kind_of_file, line_feed_count, made_text, migrate_text, run_check, run_command,
+    run_mirror, version_text, write_out,
 };
 use hub_server::Endpoint;
 use socket_endpoint::SocketEndpoint;
@@ -104,7 +104,7 @@ fn import_rows<S: BookStore, P, L, M: Host<S, P, L>, W: Write>(
         (W.contents writer.old) (W.contents writer.new) store.new log)) }
 {
     let body = host.read_rows(alloc, csv)?;
-    let lines = line_count(body.as_slice());
+    let lines = line_feed_count(body.as_slice());
     let command = Command::Import { book, key, body };
     run_import(alloc, &*host, store, &command, lines, writer)
 }
@@ -174,7 +174,11 @@ fn do_work<S: AdminStore + Drop, P: Endpoint, L: Listener + Drop, M: Host<S, P, 
         Work::CheckFile { file } => run_check_of(alloc, host, file.as_str(), writer),
         Work::CreateFile { file } => run_init(host, file, writer),
         Work::MigrateFile { file } => run_migrate(alloc, host, file, writer),
-        Work::CopyFile { file, target } => run_copy(alloc, host, file, target, writer),
+        Work::CopyFile {
+            file,
+            target,
+            without,
+        } => run_copy(alloc, host, file, target, without, writer),
         Work::RestoreFile {
             backup,
             file,

@@ -36,12 +36,14 @@ pub enum Work {
         /// The file's name.
         file: Text,
     },
-    /// Copies the store in the file into a new file.
+    /// Copies the store in the file into a new file, without some of its books.
     CopyFile {
         /// The file's name.
         file: Text,
         /// The name of the new file.
         target: Text,
+        /// The names of the books that are left out.
+        without: Items<Text>,
     },
     /// Puts a copy back in place of the file, and makes every device start again.
     RestoreFile {
@@ -207,7 +209,15 @@ pub fn work_of(order: Order) -> Work
         Order::Check { file } => Work::CheckFile { file },
         Order::Init { file } => Work::CreateFile { file },
         Order::Migrate { file } => Work::MigrateFile { file },
-        Order::Copy { file, target } => Work::CopyFile { file, target },
+        Order::Copy {
+            file,
+            target,
+            without,
+        } => Work::CopyFile {
+            file,
+            target,
+            without,
+        },
         Order::Restore {
             backup,
             file,

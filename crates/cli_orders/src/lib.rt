@@ -45,6 +45,7 @@ pub use faulty_row::report_damage;
 pub use finding::{FileKind, Finding, kind_of_file};
 pub use found_cause::FoundCause;
 pub use input::read_input;
+pub use line_starts::line_feed_count;
 pub use mirror_output::mirror_text;
 pub use one_line_outputs::{
     book_text, copy_text, forget_text, import_text, made_text, migrate_text, resync_text,

@@ -1,5 +1,6 @@
 //! The places of a text at which its lines start.
-ghost use Rattle.std.specs.Prelude.{◌≡◌, ◌⊎◌, ◌+◌, ◌<◌, ◌≤◌, length, true};
+ghost use Rattle.base_types.specs.Octets.{line_feed};
+ghost use Rattle.std.specs.Prelude.{◌≡◌, ◌==◌, ◌⊎◌, ◌+◌, ◌<◌, ◌≤◌, length, true};
 ghost use Rattle.cli_orders.specs.FaultLines.{NoneStartsBetween, line_feed_count};
 ghost use Rattle.cli_orders.specs.FaultLines.{starts_line};
 ghost use Rattle.vcard_lines.specs.LogicalLines.{continues};
@@ -51,10 +52,22 @@ pub(crate) fn last_start(text: &[u8], upto: usize) -> usize
     0
 }
 
+fn is_line_feed(octet: u8) -> bool
+    ensures { result ≡ (octet == line_feed) }
+{
+    octet == b'\n'
+}
+
 /// The number of line feeds.
-pub(crate) fn line_feed_count(octets: &[u8]) -> usize
+pub fn line_feed_count(octets: &[u8]) -> usize
     ensures count { result ≡ line_feed_count octets.now }
     ensures bound { result ≤ length octets.now }
 {
-    octets.iter().filter(|octet| **octet == b'\n').count()
+    let mut count = 0usize;
+    for i in 0..octets.len() {
+        if is_line_feed(octets[i]) {
+            count += 1;
+        }
+    }
+    count
 }

@@ -30,7 +30,8 @@ abbrev pub is_blank : ℕ → Bool
 is_blank octet = octet == space || octet == tab || octet == line_feed
 
 -- The text is what the programs write where there is no value: white space, Google's `* ` for a
--- preferred value without a label, or Outlook's `0/0/00` for no date.
+-- preferred value without a label, or Outlook's `0/0/00` or `0.0.00` for no date.
 abbrev pub is_void : List ℕ → Bool
 is_void text =
     list_all is_blank text || bytes_eq text (codes "* ") || bytes_eq text (codes "0/0/00")
+    || bytes_eq text (codes "0.0.00")

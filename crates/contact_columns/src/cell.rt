@@ -65,9 +65,9 @@ fn is_blank(text: &str) -> bool
 }
 
 /// Whether the text is what the programs write where there is no value: white space, Google's `* `
-/// for a preferred value without a label, or Outlook's `0/0/00` for no date.
+/// for a preferred value without a label, or Outlook's `0/0/00` or `0.0.00` for no date.
 pub fn is_void(text: &str) -> bool
     ensures { result ≡ is_void text.now }
 {
-    is_blank(text) || text == "* " || text == "0/0/00"
+    is_blank(text) || text == "* " || text == "0/0/00" || text == "0.0.00"
 }

@@ -1,9 +1,12 @@
 //! `ContactColumns`: the columns of an export.
 
 use crate::cell::cell_text;
+use crate::dates::DateOrder;
 use crate::fields::row_field;
 use crate::google::{google_meaning, name_meaning};
+use crate::known_names::{Program, known_name};
 use crate::meaning::{Meaning, Part};
+use crate::numbered_names::numbered_name;
 use crate::outlook::outlook_meaning;
 use crate::slots::{Slot, add_column};
 use csv::ByteRecord;
@@ -15,6 +18,8 @@ use vcard_text::{Items, NoMemory, Text};
 pub struct Column {
     /// The name, as the header has it.
     pub name: Text,
+    /// The name that Google or Outlook has for it in English. The name itself if none is known.
+    pub known: Text,
     /// The name of the property that holds its cells. `X-ABLABEL` for labels, which become types
     /// where vCard 4.0 has them. Empty for a column that has no property.
     pub property: Text,
@@ -27,13 +32,16 @@ pub struct ContactColumns {
     pub columns: Items<Column>,
     /// The properties that they give, each once, in the order of their first columns.
     pub slots: Vec<Slot>,
+    /// The order of day and month in the dates of the file.
+    pub dates: DateOrder,
 }
 
-/// What a column of this name means, if it is one of Google's or Outlook's.
-fn meaning_of(name: &str) -> Option<Meaning<'_>> {
-    name_meaning(name)
-        .or(google_meaning(name))
-        .or(outlook_meaning(name))
+/// What a column means that is known by a name of Google's or Outlook's in English. `key` is its
+/// name in the header.
+fn meaning_of<'a>(known: &'a str, key: &'a str) -> Option<Meaning<'a>> {
+    name_meaning(known)
+        .or(google_meaning(known))
+        .or(outlook_meaning(known, key))
 }
 
 /// The property that holds the cells of a column with the meaning.
@@ -45,58 +53,167 @@ fn property_of(meaning: Meaning<'_>) -> &str {
     }
 }
 
-/// The column, without a property.
-fn unknown_column(alloc: Global, name: &str) -> Result<Column, NoMemory> {
-    let name = Text::copy_of(alloc, name)?;
-    let property = Text::copy_of(alloc, "")?;
-    Ok(Column { name, property })
+/// The name in English that Google or Outlook has for a column of this name; the name itself if
+/// none is known.
+fn english_name(alloc: Global, program: Program, name: &str) -> Result<String, NoMemory> {
+    match numbered_name(name) {
+        Some(it) => {
+            let kind = it.kind;
+            let number = it.number;
+            let part = it.part;
+            Ok(format!(in alloc; "{kind} {number} - {part}")?)
+        }
+        None => Ok(String::from_str(alloc, known_name(program, name))?),
+    }
 }
 
-/// The column of this name. Adds it to the slot of its property, unless another column has its
-/// place there.
-fn column_of(
+/// The property of a column that has these names, or an empty text. Adds the column to the slot of
+/// its property, unless another column has its place there.
+fn column_property(
     alloc: Global,
     slots: &mut Vec<Slot>,
     place: usize,
+    known: &str,
     name: &str,
-) -> Result<Column, NoMemory> {
-    let Some(meaning) = meaning_of(name) else {
-        return unknown_column(alloc, name);
+) -> Result<Text, NoMemory> {
+    let Some(meaning) = meaning_of(known, name) else {
+        return Text::copy_of(alloc, "");
     };
     if !add_column(alloc, slots, place, meaning)? {
-        return unknown_column(alloc, name);
+        return Text::copy_of(alloc, "");
     }
-    let name = Text::copy_of(alloc, name)?;
-    let property = Text::copy_of(alloc, property_of(meaning))?;
-    Ok(Column { name, property })
+    Text::copy_of(alloc, property_of(meaning))
+}
+
+/// The names of the columns that a header row has.
+fn column_names(alloc: Global, header: &ByteRecord) -> Result<Items<Text>, NoMemory> {
+    let mut names = Items::new(alloc);
+    for place in 0..header.len() {
+        let name = cell_text(alloc, row_field(header, place))?;
+        names.push(Text::copy_of(alloc, name.as_str().trim())?)?;
+    }
+    Ok(names)
+}
+
+fn has_name(names: &[Text], name: &str) -> bool {
+    names
+        .iter()
+        .any(|it| it.as_str().eq_ignore_ascii_case(name))
+}
+
+/// The program that writes columns of these names.
+fn program_of(names: &[Text]) -> Program {
+    if has_name(names, "User principal name") {
+        Program::Office
+    } else if has_name(names, "Primary Email") {
+        Program::Thunderbird
+    } else if has_name(names, "Geburtsjahr") {
+        Program::ThunderbirdGerman
+    } else if has_name(names, "Vorname") || has_name(names, "Prénom") {
+        Program::GivenNames
+    } else {
+        Program::Other
+    }
+}
+
+/// The columns of these names, and what they give.
+fn columns_of(alloc: Global, names: &[Text]) -> Result<ContactColumns, NoMemory> {
+    let program = program_of(names);
+    let mut columns = Items::new(alloc);
+    let mut slots = Vec::new(alloc);
+    for place in 0..names.len() {
+        let name = names[place].as_str();
+        let known = Text::new(english_name(alloc, program, name)?);
+        let property = column_property(alloc, &mut slots, place, known.as_str(), name)?;
+        let name = Text::copy_of(alloc, name)?;
+        columns.push(Column {
+            name,
+            known,
+            property,
+        })?;
+    }
+    Ok(ContactColumns {
+        columns,
+        slots,
+        dates: DateOrder::Unknown,
+    })
 }
 
 fn has_slot(slots: &[Slot], property: &str) -> bool {
     slots.iter().any(|slot| slot.property.as_str() == property)
 }
 
-/// Whether the slots are those of contacts: of names, and of addresses of electronic mail,
-/// telephones or categories.
-fn are_of_contacts(slots: &[Slot]) -> bool {
-    has_slot(slots, "N")
-        && (has_slot(slots, "EMAIL") || has_slot(slots, "TEL") || has_slot(slots, "CATEGORIES"))
+/// Whether one of the properties is there by which a person is reached.
+fn reaches(slots: &[Slot]) -> bool {
+    has_slot(slots, "EMAIL") || has_slot(slots, "TEL")
 }
 
-/// The columns that a header row of Google's or Outlook's exports in English names: those of a
-/// name, and of addresses of electronic mail, telephones or categories. `None` for any other row.
-/// The only `Err` is out of memory.
+/// Whether the slots are those of contacts: of names or organizations, and of addresses of
+/// electronic mail, telephones or categories.
+fn are_of_contacts(slots: &[Slot]) -> bool {
+    let has_name = has_slot(slots, "N") || has_slot(slots, "FN") || has_slot(slots, "ORG");
+    has_name && (reaches(slots) || has_slot(slots, "CATEGORIES"))
+}
+
+/// The text in lower case, where it is ASCII.
+fn lower(alloc: Global, text: &str) -> Result<String, NoMemory> {
+    let mut lower = String::new(alloc);
+    for c in text.chars() {
+        lower.push(c.to_ascii_lowercase())?;
+    }
+    Ok(lower)
+}
+
+/// Whether a column of this name should have addresses of electronic mail or numbers of telephones.
+fn should_reach(alloc: Global, name: &str) -> Result<bool, NoMemory> {
+    let name = lower(alloc, name)?;
+    let name = name.as_str();
+    Ok(
+        name.contains("mail")
+            || name.contains("phone")
+            || name.contains("telefon")
+            || name.contains("mobil"),
+    )
+}
+
+/// The columns that should have addresses of electronic mail or numbers of telephones, and have no
+/// property: their names, with commas between them.
+fn unread_names(alloc: Global, columns: &[Column]) -> Result<String, NoMemory> {
+    let mut names = String::new(alloc);
+    for column in columns {
+        if column.property.is_empty() && should_reach(alloc, column.name.as_str())? {
+            if !names.is_empty() {
+                names.push_str(", ")?;
+            }
+            names.push_str(column.name.as_str())?;
+        }
+    }
+    Ok(names)
+}
+
+/// The columns that a header row of contacts names: those of a name or an organization, and of
+/// addresses of electronic mail, telephones or categories. `None` for any other row, and if all
+/// columns that should have addresses or numbers by their names have no property. The only `Err` is
+/// out of memory.
 pub fn read_columns(
     alloc: Global,
     header: &ByteRecord,
 ) -> Result<Option<ContactColumns>, NoMemory> {
-    let mut columns = Items::new(alloc);
-    let mut slots = Vec::new(alloc);
-    for place in 0..header.len() {
-        let name = cell_text(alloc, row_field(header, place))?;
-        columns.push(column_of(alloc, &mut slots, place, name.as_str().trim())?)?;
-    }
-    if !are_of_contacts(slots.as_slice()) {
+    let names = column_names(alloc, header)?;
+    let read = columns_of(alloc, names.as_slice())?;
+    if !are_of_contacts(read.slots.as_slice()) {
         return Ok(None);
     }
-    Ok(Some(ContactColumns { columns, slots }))
+    if !reaches(read.slots.as_slice()) && !unread_columns(alloc, header)?.is_empty() {
+        return Ok(None);
+    }
+    Ok(Some(read))
+}
+
+/// The names of the columns of a header that should have addresses of electronic mail or numbers of
+/// telephones, and that aren't known, with commas between them. The only `Err` is out of memory.
+pub fn unread_columns(alloc: Global, header: &ByteRecord) -> Result<String, NoMemory> {
+    let names = column_names(alloc, header)?;
+    let read = columns_of(alloc, names.as_slice())?;
+    unread_names(alloc, read.columns.as_slice())
 }

@@ -95,7 +95,7 @@ fn numbered_meaning<'a>(kind: &str, key: &'a str, part: &str) -> Option<Meaning<
     }
 }
 
-/// What the column of this name means, if Google's exports have it.
+/// What the column of this name means, if Google's exports in English have it.
 pub(crate) fn google_meaning(name: &str) -> Option<Meaning<'_>> {
     if let Some((head, part)) = name.split_once(" - ") {
         let (kind, key) = head.rsplit_once(' ')?;

@@ -1,21 +1,30 @@
-//! Which property a column of Google's and Outlook's exports of contacts (CSV, RFC 4180) has, and
+//! Which property a column of an export of contacts (CSV, RFC 4180) has, where its rows end, and
 //! the texts of its cells.
 #![tactic(auto)]
 
 mod cell;
 mod columns;
 mod components;
-mod delimiter;
+mod date_scan;
+mod dates;
 mod fields;
 mod google;
+mod header;
+mod known_names;
 mod meaning;
+mod numbered_names;
 mod outlook;
+mod row_scan;
+mod row_text;
 mod slots;
 
 pub use cell::{cell_text, is_void};
-pub use columns::{Column, ContactColumns, read_columns};
+pub use columns::{Column, ContactColumns, read_columns, unread_columns};
 pub use components::component_of;
-pub use delimiter::delimiter_of;
+pub use date_scan::read_date_order;
+pub use dates::{DateOrder, basic_date};
 pub use fields::row_field;
+pub use header::{Header, find_header, unknown_columns};
 pub use meaning::{Part, component_count};
+pub use row_text::{BROKEN_ROW, RowText};
 pub use slots::{Slot, SlotColumn};

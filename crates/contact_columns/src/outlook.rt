@@ -2,14 +2,14 @@
 
 use crate::meaning::{Meaning, Part};
 
-/// A column with an address of electronic mail or of the web.
-fn net_meaning(name: &str) -> Option<Meaning<'_>> {
+/// A column with an address of electronic mail or of the web. `key` is its name in the header.
+fn net_meaning<'a>(name: &str, key: &'a str) -> Option<Meaning<'a>> {
     let meaning = match name {
-        "E-mail Address" => Meaning::value("EMAIL", "", ""),
-        "E-mail 2 Address" => Meaning::value("EMAIL", "2", ""),
-        "E-mail 3 Address" => Meaning::value("EMAIL", "3", ""),
-        "Web Page" => Meaning::value("URL", "", ""),
-        "Personal Web Page" => Meaning::value("URL", "", "home"),
+        "E-mail Address" | "E-mail 2 Address" | "E-mail 3 Address" => {
+            Meaning::value("EMAIL", key, "")
+        }
+        "Web Page" => Meaning::value("URL", key, ""),
+        "Personal Web Page" => Meaning::value("URL", key, "home"),
         "Internet Free Busy" => Meaning::value("FBURL", "", ""),
         _ => return None,
     };
@@ -77,15 +77,16 @@ fn address_meaning<'a>(part: &str, types: &'a str) -> Option<Meaning<'a>> {
     Some(Meaning::component("ADR", "", place, types))
 }
 
-/// What the column of this name means, if Outlook's exports have it.
-pub(crate) fn outlook_meaning(name: &str) -> Option<Meaning<'_>> {
+/// What the column of this name means, if Outlook's exports in English have it. `key` is its name
+/// in the header.
+pub(crate) fn outlook_meaning<'a>(name: &'a str, key: &'a str) -> Option<Meaning<'a>> {
     if let Some(types) = phone_types(name) {
-        return Some(Meaning::value("TEL", name, types));
+        return Some(Meaning::value("TEL", key, types));
     }
     match name.split_once(' ') {
         Some(("Business", part)) => address_meaning(part, "work"),
         Some(("Home", part)) => address_meaning(part, "home"),
         Some(("Other", part)) => address_meaning(part, "x-other"),
-        _ => net_meaning(name).or(person_meaning(name)),
+        _ => net_meaning(name, key).or(person_meaning(name)),
     }
 }

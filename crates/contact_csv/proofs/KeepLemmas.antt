@@ -15,9 +15,10 @@ use Rattle.vcard_lines.specs.declared.line.Line.{Line}
 use Rattle.vcard_text.specs.Cards.{uid_of}
 use Rattle.vcard_text.specs.Making.{upper_line, upper_lines}
 use Rattle.vcard_property.specs.Lines.{plain_line}
+use Rattle.vcard_property.specs.declared.change_kind.ChangeKind.{ChangeKind}
 use Rattle.vcard_property.specs.declared.change_kind.ChangeKind.TheVariants.{Rewritten, KeptAside}
 use Rattle.contact_csv.specs.Carrying.{IsCarried, IsAsideName, column_at, component_in, change, is_date_column, is_date_name, as_date, in_parts, kept_aside, whole}
-use Rattle.contact_csv.specs.internal.Keeping.{BeginsWithUid, IsCarriedWhole, KeepsAside, KeepsCell, Keeps}
+use Rattle.contact_csv.specs.internal.Keeping.{BeginsWithUid, IsCarriedWhole, KeepsAside, KeepsCell, Keeps, ReportsOnly}
 use Rattle.contact_columns.specs.declared.columns.Column.{Column}
 use Rattle.contact_csv.specs.declared.keeping.Kept.{Kept}
 use Rattle.contact_csv.proofs.CarryLemmas.{carried_stays}
@@ -63,16 +64,27 @@ last_is xs x = Contains-append_right xs (x ∷ []) x (0, omega arith, refl)
 
 -- ---- what is kept of a cell
 
--- nothing, where the lines carry it
-pub whole_keeps : (column : Column) (place : ℕ) (text : List ℕ) (old : Kept) → IsCarried column place text old.lines old.changes → KeepsCell column place text old old
-whole_keeps column place text old carried = record {
+-- a report, where the lines carry it and it is a date in words
+pub report_keeps : (column : Column) (place : ℕ) (text : List ℕ) (old new : Kept) → IsCarried column place text old.lines old.changes → ReportsOnly old new → KeepsCell column place text old new
+report_keeps column place text old new carried reports = record {
   lines = [];
   upper = refl;
-  lines_are = sym (append-nil old.lines);
-  changes = [];
-  changes_are = sym (append-nil old.changes);
-  carried = carried;
+  lines_are = reports.lines_are ∙ sym (append-nil old.lines);
+  changes = reports.changes;
+  changes_are = reports.changes_are;
+  carried = subst (λ (ls : List Line). IsCarried column place text ls new.changes) (sym reports.lines_are)
+      (subst (λ cs. IsCarried column place text old.lines cs) (sym reports.changes_are)
+      (subst (λ (ls : List Line). IsCarried column place text ls (old.changes ++ reports.changes)) (append-nil old.lines)
+      (carried_stays column place text old.lines [] old.changes reports.changes carried)));
 }
+
+-- one report
+pub reports_one : (place : ℕ) (kind : ChangeKind) (old new : Kept) → new.lines ≡ old.lines → new.changes ≡ old.changes ++ change place kind ∷ [] → ReportsOnly old new
+reports_one place kind old new lines changes = record { lines_are = lines; changes = change place kind ∷ []; changes_are = changes }
+
+-- no report
+pub reports_none : (old : Kept) → ReportsOnly old old
+reports_none old = record { lines_are = refl; changes = []; changes_are = sym (append-nil old.changes) }
 
 -- a report, where it is a date
 pub date_keeps : (column : Column) (place : ℕ) (text : List ℕ) (old new : Kept) → is_date_column column.property ≡ true → list_any (λ line. is_date_name line.name) old.lines ≡ true → new.lines ≡ old.lines → new.changes ≡ old.changes ++ change place Rewritten ∷ [] → KeepsCell column place text old new
@@ -99,7 +111,7 @@ aside_keeps column place text old new kept = record {
 }
 
 -- the contact of a row
-pub row_kept : (uid : List ℕ) (columns : List Column) (row : List (List ℕ)) (made : Kept) → uid ≡ row_uid row → Keeps uid columns (map cell_text row) (length row) made → IsContact columns row made.lines made.changes
+pub row_kept : (uid : List ℕ) (columns : List Column) (row : List (List ℕ)) (made : Kept) → uid ≡ row_uid columns (map cell_text row) → Keeps uid columns (map cell_text row) (length row) made → IsContact columns row made.lines made.changes
 row_kept uid columns row made is keeps = record {
   cells = λ place small. subst (λ text. IsCarried (column_at columns place) place text made.lines made.changes) (get_or-map cell_text row place [] [] small) (keeps.cells place small);
   uid = ap uid_of keeps.begins.lines_are ∙ is;

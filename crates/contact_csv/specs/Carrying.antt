@@ -112,7 +112,7 @@ IsAsideName name = (rest : List ℕ) × (name ≡ codes "X-" ++ rest)
 
 -- the component of its property that the cells of the column are
 abbrev pub component_in : Column → Option ℕ
-component_in column = component_of column.property column.name
+component_in column = component_of column.property column.known
 
 -- The card carries the text of the cell at the index of the row, in the column.
 pub data IsCarried (column : Column) (place : ℕ) (text : List ℕ) (lines : List Line)
@@ -146,7 +146,7 @@ pub data IsCarried (column : Column) (place : ℕ) (text : List ℕ) (lines : Li
 
 -- the column of cells to which the header gives none
 abbrev pub extra_column : Column
-extra_column = record { name = codes "COLUMN"; property = [] }
+extra_column = record { name = codes "COLUMN"; known = codes "COLUMN"; property = [] }
 
 -- the column at the index
 abbrev pub column_at : List Column → ℕ → Column

@@ -1,5 +1,6 @@
 -- The contact of a row, and a reader of the rows of a file. This project's own.
-use Rattle.std.specs.Prelude.{ℕ, ◌≡◌, ◌<◌, Bool, List, [], Option, length, get_or, option_map}
+use Rattle.std.specs.Prelude.{ℕ, ◌≡◌, ◌<◌, Bool, true, false, List, [], Option, length, get_or, map}
+use Rattle.std.specs.Prelude.{option_map}
 use Rattle.std.specs.Prelude.{Result, MatchResult}
 use Rattle.csv.specs.Reading.{Ready, ReadRecord, reader_config, reader_state, reader_trim}
 use Rattle.csv.specs.Reading.{source_of, strip_bom}
@@ -14,18 +15,21 @@ use Rattle.vcard_import.specs.declared.change.Change.{Change}
 use Rattle.vcard_import.specs.declared.conversion.Conversion.{Conversion}
 use Rattle.contact_csv.specs.Carrying.{IsCarried, column_at}
 use Rattle.contact_columns.specs.Cells.{cell_text}
+use Rattle.contact_csv.specs.RowFaults.{has_nul, has_width, is_broken, is_empty_row}
 use Rattle.contact_csv.specs.RowUids.{row_uid}
+use Rattle.contact_csv.specs.declared.row_fault.RowFault.{RowFault}
+use Rattle.contact_csv.specs.declared.row_fault.RowFault.TheVariants as row
 use Rattle.contact_columns.specs.declared.columns.Column.{Column}
 use Rattle.contact_csv.specs.declared.rows.ContactReader.{ContactReader}
 
 -- The lines carry the text of each cell of the row, or a change reports the cell; their UID is that
--- of the row's octets.
+-- of the row's cells.
 pub record IsContact (columns : List Column) (fields : List (List ℕ)) (lines : List Line)
     (changes : List Change) : Type 0 where
   pub cells : (place : ℕ) → place < length fields
       → IsCarried (column_at columns place) place (cell_text (get_or fields place [])) lines
       changes
-  pub uid : uid_of lines ≡ row_uid fields
+  pub uid : uid_of lines ≡ row_uid columns (map cell_text fields)
 
 -- The row's contact has lines that are no card, and the fault is the first of these lines.
 pub record IsRefused (columns : List Column) (fields : List (List ℕ)) (fault : CardFault) : Type 0
@@ -35,11 +39,19 @@ pub record IsRefused (columns : List Column) (fields : List (List ℕ)) (fault :
     pub contact : IsContact columns fields lines changes
     pub first : IsFirstFaultOfLines lines fault
 
--- What the row becomes: its contact, or why it is refused.
-abbrev pub Becomes : List Column → List (List ℕ) → Result Conversion CardFault → Type 0
+-- The row has the fault.
+abbrev pub IsFaulty : List Column → List (List ℕ) → RowFault → Type 0
+IsFaulty columns fields row.Empty = is_empty_row fields ≡ true
+IsFaulty columns fields row.Broken = is_broken fields ≡ true
+IsFaulty columns fields (row.Nul place) = has_nul (get_or fields place []) ≡ true
+IsFaulty columns fields row.Width = has_width columns fields ≡ false
+IsFaulty columns fields (row.Card fault) = IsRefused columns fields fault
+
+-- What the row becomes: its contact, or the fault for which it isn't converted.
+abbrev pub Becomes : List Column → List (List ℕ) → Result Conversion RowFault → Type 0
 Becomes columns fields row = MatchResult row
     (λ made. IsContact columns fields made.card made.changes)
-    (λ fault. IsRefused columns fields fault)
+    (λ fault. IsFaulty columns fields fault)
 
 -- the reader of records
 abbrev pub rows_of : {R : Type 0} → ContactReader R → Reader R

@@ -300,3 +300,18 @@ pub(crate) fn is_dated(lines: &[Line], home: usize, property: &str) -> bool
     }
     home < lines.len() && is_date_name(lines[home].name.as_str())
 }
+
+/// Whether the line at the index is a date that is a text, and the column has dates.
+pub(crate) fn is_date_text(lines: &[Line], home: usize, property: &str) -> bool {
+    if !is_dated(lines, home, property) {
+        return false;
+    }
+    match lines.get(home) {
+        Some(line) => line
+            .params
+            .as_slice()
+            .iter()
+            .any(|it| it.name.as_str() == "VALUE"),
+        None => false,
+    }
+}

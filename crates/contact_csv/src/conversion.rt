@@ -7,18 +7,19 @@ ghost use Rattle.contact_columns.specs.Cells.{cell_text};
 ghost use Rattle.contact_csv.specs.Contacts.{IsContact, IsRefused};
 
 use crate::entries::push_lines;
-use crate::keeping::{Kept, keep_cells};
+use crate::keeping::{Kept, extra_column, keep_cells};
 use crate::names::push_missing_name;
+use crate::row_fault::are_void;
 use crate::row_lines::RowLines;
 use crate::uid::row_uid;
-use contact_columns::{ContactColumns, cell_text, is_void, row_field};
+use contact_columns::{ContactColumns, cell_text, row_field};
 use csv::ByteRecord;
 use std::alloc::Global;
 use vcard_import::Conversion;
 use vcard_text::{CardFault, Items, NoMemory, Text, card_of_lines};
 
 /// The texts of the row's cells.
-fn row_cells(alloc: Global, row: &ByteRecord) -> Result<Items<Text>, NoMemory>
+pub(crate) fn row_cells(alloc: Global, row: &ByteRecord) -> Result<Items<Text>, NoMemory>
     ensures { IfOk result (λ cells. cells ≡ map cell_text (fields_of row.now)) }
 {
     let mut cells = Items::new(alloc);
@@ -35,8 +36,8 @@ fn draft_lines(
     columns: &ContactColumns,
     cells: &[Text],
 ) -> Result<RowLines, NoMemory> {
-    let mut made = RowLines::new(alloc, cells.len())?;
-    if cells.iter().all(|cell| is_void(cell.as_str())) {
+    let mut made = RowLines::new(alloc, cells.len(), columns.dates)?;
+    if are_void(cells) {
         return Ok(made);
     }
     for slot in &columns.slots {
@@ -57,15 +58,12 @@ fn contact_lines(
     ensures upper { IfOk result (λ made. upper_lines made.lines ≡ made.lines) }
 {
     let cells = row_cells(alloc, row)?;
-    let draft = draft_lines(alloc, columns, cells.as_slice())?;
-    let uid = row_uid(alloc, row)?;
-    keep_cells(
-        alloc,
-        columns.columns.as_slice(),
-        uid,
-        cells.as_slice(),
-        draft,
-    )
+    let texts = cells.as_slice();
+    let draft = draft_lines(alloc, columns, texts)?;
+    let extra = extra_column(alloc)?;
+    let names = columns.columns.as_slice();
+    let uid = row_uid(alloc, names, &extra, texts)?;
+    keep_cells(alloc, names, &extra, uid, texts, draft)
 }
 
 /// Converts a row of a file of contacts to a card of vCard 4.0.
@@ -83,7 +81,7 @@ pub fn convert_row(
     row: &ByteRecord,
 ) -> Result<Conversion, CardFault>
     // The card carries the text of each cell, or a change reports the cell; the card's UID is that
-    // of the row's octets.
+    // of the row's cells.
     ensures contact { IfOk result (λ made. IsContact columns.now.columns (fields_of row.now)
         made.card made.changes) }
 

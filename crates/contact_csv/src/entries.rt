@@ -1,10 +1,9 @@
 //! The lines of one property of a row.
 
-use crate::dates::basic_date;
 use crate::labels::label_types;
 use crate::lines::{label_param, make_param, type_param};
 use crate::row_lines::RowLines;
-use contact_columns::{Part, Slot, component_count, is_void};
+use contact_columns::{DateOrder, Part, Slot, basic_date, component_count, is_void};
 use std::alloc::Global;
 use vcard_text::{Items, Line, NoMemory, Param, Part as Copied, Text, escape};
 
@@ -110,9 +109,9 @@ fn is_date_property(property: &str) -> bool {
     matches!(property, "BDAY" | "ANNIVERSARY")
 }
 
-/// A line with a date: in the form of vCard 4.0, or as a text if it is no date.
-fn set_date(alloc: Global, line: &mut Line, text: &str) -> Result<(), NoMemory> {
-    match basic_date(alloc, text)? {
+/// A line with a date: in the form of vCard 4.0, or as a text if it is no date, or may be two.
+fn set_date(alloc: Global, line: &mut Line, text: &str, order: DateOrder) -> Result<(), NoMemory> {
+    match basic_date(alloc, text, order)? {
         Some(date) => line.value = Text::new(date),
         None => {
             line.params.push(make_param(alloc, "VALUE", "text")?)?;
@@ -123,9 +122,9 @@ fn set_date(alloc: Global, line: &mut Line, text: &str) -> Result<(), NoMemory> 
 }
 
 /// Gives the line its value.
-fn set_value(alloc: Global, line: &mut Line, text: &str) -> Result<(), NoMemory> {
+fn set_value(alloc: Global, line: &mut Line, text: &str, order: DateOrder) -> Result<(), NoMemory> {
     if is_date_property(line.name.as_str()) {
-        return set_date(alloc, line, text);
+        return set_date(alloc, line, text, order);
     }
     if is_uri_property(line.name.as_str()) {
         line.value = Text::copy_of(alloc, text)?;
@@ -144,7 +143,8 @@ fn push_part(alloc: Global, made: &mut RowLines, model: &Line, part: &str) -> Re
         return Ok(());
     }
     let mut line = model.try_copy()?;
-    set_value(alloc, &mut line, part.strip_prefix("* ").unwrap_or(part))?;
+    let text = part.strip_prefix("* ").unwrap_or(part);
+    set_value(alloc, &mut line, text, made.dates)?;
     made.push(alloc, line)
 }
 
@@ -158,7 +158,7 @@ fn push_parts(
     let separator = separator_of(model.name.as_str(), cell);
     if separator.is_empty() {
         let mut line = model.try_copy()?;
-        set_value(alloc, &mut line, cell)?;
+        set_value(alloc, &mut line, cell, made.dates)?;
         return made.push(alloc, line);
     }
     for part in cell.split(separator) {

@@ -9,7 +9,7 @@ use vcard_text::NoMemory;
 /// Why no contact is read from a file.
 #[derive(Clone, Copy, Debug, PartialEq, Eq)]
 pub enum ContactFault {
-    /// The first row isn't a header that Google or Outlook writes in English.
+    /// The first row isn't a header of contacts that is known.
     UnknownHeader,
     /// The file can't be read.
     Unreadable,
@@ -21,7 +21,7 @@ impl fmt::Display for ContactFault {
     fn fmt<W: fmt::Write>(&self, f: &mut fmt::Formatter<W>) -> fmt::Result {
         f.write_str(match self {
             ContactFault::UnknownHeader => {
-                "the first row is no header of Google's or Outlook's contacts in English"
+                "the first row is no header of contacts that is known"
             }
             ContactFault::Unreadable => "the file can't be read",
             ContactFault::Memory => "out of memory",

@@ -7,9 +7,11 @@ ghost use Rattle.vcard_import.specs.declared.change.Change.{Change};
 ghost use Rattle.contact_csv.specs.Carrying.{IsCarried, IsAsideName, change};
 ghost use Rattle.contact_csv.specs.Carrying.{column_at, extra_column};
 ghost use Rattle.contact_csv.specs.internal.Keeping.{BeginsWithUid, IsCarriedWhole, KeepsAside};
-ghost use Rattle.contact_csv.specs.internal.Keeping.{KeepsCell, Keeps};
+ghost use Rattle.contact_csv.specs.internal.Keeping.{KeepsCell, Keeps, ReportsOnly};
 
-use crate::carried::{holds_component, holds_label, holds_parts, holds_text, is_dated};
+use crate::carried::{
+    holds_component, holds_label, holds_parts, holds_text, is_date_text, is_dated,
+};
 use crate::row_lines::RowLines;
 use contact_columns::{Column, component_of, is_void};
 use std::alloc::Global;
@@ -83,7 +85,7 @@ fn is_carried(
     if property == "X-ABLABEL" {
         return holds_label(alloc, lines, home, text);
     }
-    match component_of(property, column.name.as_str()) {
+    match component_of(property, column.known.as_str()) {
         Some(index) => holds_component(alloc, lines, home, property, index, text),
         None => is_carried_whole(alloc, lines, home, property, text),
     }
@@ -123,6 +125,16 @@ impl Kept {
         Ok(())
     }
 
+    /// Reports a cell with a date that is kept as a text.
+    fn report_text(&mut self, column: &Column, place: usize, home: usize) -> Result<(), NoMemory>
+        ensures { OnOk result (ReportsOnly self.old self.new) }
+    {
+        if is_date_text(self.lines.as_slice(), home, column.property.as_str()) {
+            return self.report(place, ChangeKind::Unreadable);
+        }
+        Ok(())
+    }
+
     /// Appends a line that keeps the cell, and reports it.
     fn keep_aside(
         &mut self,
@@ -152,7 +164,7 @@ impl Kept {
     {
         let lines = self.lines.as_slice();
         if is_carried(alloc, lines, home, column, text)? {
-            return Ok(());
+            return self.report_text(column, place, home);
         }
         if is_dated(lines, home, column.property.as_str()) {
             return self.report(place, ChangeKind::Rewritten);
@@ -162,11 +174,12 @@ impl Kept {
 }
 
 /// The column of cells to which the header gives none.
-fn extra_column(alloc: Global) -> Result<Column, NoMemory>
+pub(crate) fn extra_column(alloc: Global) -> Result<Column, NoMemory>
     ensures { IfOk result (λ column. column ≡ extra_column) }
 {
     Ok(Column {
         name: Text::copy_of(alloc, "COLUMN")?,
+        known: Text::copy_of(alloc, "COLUMN")?,
         property: Text::copy_of(alloc, "")?,
     })
 }
@@ -180,7 +193,7 @@ fn home_of(homes: &[usize], place: usize) -> usize {
 }
 
 /// The column at the index, or the extra one.
-fn column_at<'a>(columns: &'a [Column], place: usize, extra: &'a Column) -> &'a Column
+pub(crate) fn column_at<'a>(columns: &'a [Column], place: usize, extra: &'a Column) -> &'a Column
     requires { extra.now ≡ extra_column }
     ensures { result.now ≡ column_at columns.now place }
 {
@@ -190,8 +203,9 @@ fn column_at<'a>(columns: &'a [Column], place: usize, extra: &'a Column) -> &'a 
     extra
 }
 
-/// Keeps each cell. `extra` is the column of those to which the header gives none.
-fn keep_all(
+/// The lines of the card with this UID, and the changes: those of the draft, and a line for each
+/// cell that they don't hold. `extra` is the column of cells to which the header gives none.
+pub(crate) fn keep_cells(
     alloc: Global,
     columns: &[Column],
     extra: &Column,
@@ -207,6 +221,7 @@ fn keep_all(
         lines,
         homes,
         groups: _,
+        dates: _,
     } = draft;
     let mut made = Kept {
         lines: lines_with_uid(alloc, uid, lines)?,
@@ -218,20 +233,4 @@ fn keep_all(
         made.keep_cell(alloc, column, place, cells[place].as_str(), home)?;
     }
     Ok(made)
-}
-
-/// The lines of the card with this UID, and the changes: those of the draft, and a line for each
-/// cell that they don't hold.
-pub(crate) fn keep_cells(
-    alloc: Global,
-    columns: &[Column],
-    uid: String,
-    cells: &[Text],
-    draft: RowLines,
-) -> Result<Kept, NoMemory>
-    ensures { IfOk result (λ made. Keeps (string_bytes uid) columns.now cells.now
-        (length cells.now) made) }
-{
-    let extra = extra_column(alloc)?;
-    keep_all(alloc, columns, &extra, uid, cells, draft)
 }

@@ -4,18 +4,21 @@
 
 mod carried;
 mod conversion;
-mod dates;
 mod entries;
 mod fault;
 mod keeping;
 mod labels;
 mod lines;
 mod names;
+mod row_fault;
 mod row_lines;
 mod rows;
 mod uid;
 
-pub use contact_columns::{Column, ContactColumns, delimiter_of, read_columns};
+pub use contact_columns::{
+    Column, ContactColumns, DateOrder, Header, find_header, read_columns, read_date_order,
+};
 pub use conversion::convert_row;
 pub use fault::ContactFault;
+pub use row_fault::RowFault;
 pub use rows::ContactReader;

@@ -1,5 +1,6 @@
 //! `RowLines`: the lines that a row's cells become, and which line holds which cell.
 
+use contact_columns::DateOrder;
 use std::alloc::Global;
 use vcard_property::{is_proper_line, plain_line};
 use vcard_text::{Items, Line, NoMemory, Text};
@@ -12,11 +13,13 @@ pub(crate) struct RowLines {
     pub(crate) homes: Vec<usize>,
     /// The number of groups so far.
     pub(crate) groups: usize,
+    /// The order of day and month in dates.
+    pub(crate) dates: DateOrder,
 }
 
 impl RowLines {
-    /// No lines, for a row with this many cells.
-    pub(crate) fn new(alloc: Global, cells: usize) -> Result<RowLines, NoMemory> {
+    /// No lines, for a row with this many cells, whose dates have this order.
+    pub(crate) fn new(alloc: Global, cells: usize, dates: DateOrder) -> Result<RowLines, NoMemory> {
         let mut homes = Vec::new(alloc);
         for _place in 0..cells {
             homes.push(0)?;
@@ -25,6 +28,7 @@ impl RowLines {
             lines: Items::new(alloc),
             homes,
             groups: 0,
+            dates,
         })
     }
 

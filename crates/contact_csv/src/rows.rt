@@ -2,12 +2,13 @@
 ghost use Rattle.std.specs.Prelude.{◌≡◌, ℕ, List, IfOk, IfSome, IfNone, true, false};
 ghost use Rattle.csv.specs.Reading.{ReadRecord};
 ghost use Rattle.csv.specs.Records.{fields_of};
-ghost use Rattle.contact_csv.specs.Contacts.{Becomes, IsReady, HasReadHeader};
+ghost use Rattle.contact_csv.specs.Contacts.{Becomes, IsFaulty, IsReady, HasReadHeader};
 ghost use Rattle.contact_csv.specs.Contacts.{rows_of, columns_of, delimiter_of};
 
-use crate::conversion::convert_row;
+use crate::conversion::{convert_row, row_cells};
 use crate::fault::ContactFault;
-use contact_columns::{ContactColumns, read_columns, row_field};
+use crate::row_fault::{RowFault, fault_of_row};
+use contact_columns::{ContactColumns, Header, read_columns, row_field};
 use csv::{ByteRecord, Error, ErrorKind, Reader, ReaderBuilder};
 use std::alloc::Global;
 use std::io::Read;
@@ -20,7 +21,7 @@ pub struct ContactReader<R> {
     rows: Reader<R>,
     row: ByteRecord,
     columns: ContactColumns,
-    /// The number of lines that the library counts late.
+    /// The number of lines that the library counts late, and of those before the header.
     late: u64,
 }
 
@@ -54,31 +55,36 @@ fn late_lines(header: &ByteRecord, line: u64) -> u64 {
 }
 
 impl<R: Read + Drop> ContactReader<R> {
-    /// Reads the header of a file whose fields have the delimiter between them (see
-    /// `delimiter_of`).
+    /// Reads the header of a file, with which the source begins (see `find_header`).
     ///
     /// An `Err` is `UnknownHeader` if `read_columns` knows no columns in the first row,
     /// `Unreadable` if the source fails, or `Memory`.
-    pub fn new(alloc: Global, source: R, delimiter: u8) -> Result<ContactReader<R>, ContactFault>
+    pub fn new(alloc: Global, source: R, header: Header) -> Result<ContactReader<R>, ContactFault>
         // The reader has read the first record, and goes on after it.
         ensures header { IfOk result (λ reader. HasReadHeader R.remaining source reader) }
 
         // It takes the fields of each record as they are, with the delimiter between them.
         ensures ready { IfOk result (λ reader. IsReady reader) }
-        ensures delimiter { IfOk result (λ reader. delimiter_of reader ≡ delimiter) }
+        ensures delimiter { IfOk result (λ reader. delimiter_of reader ≡ header.delimiter) }
     {
         let mut rows = ReaderBuilder::new()
             .has_headers(false)
             .flexible(true)
-            .delimiter(delimiter)
+            .delimiter(header.delimiter)
             .from_reader(alloc, source);
         let mut row = ByteRecord::new(alloc);
         if let Err(error) = rows.read_byte_record(&mut row) {
             return Err(fault_of(error));
         }
         match read_columns(alloc, &row)? {
-            Some(columns) => {
+            Some(read) => {
+                let columns = ContactColumns {
+                    columns: read.columns,
+                    slots: read.slots,
+                    dates: header.dates,
+                };
                 let late = late_lines(&row, rows.position().line());
+                let late = late.saturating_add(header.lines);
                 Ok(ContactReader {
                     rows,
                     row,
@@ -118,16 +124,29 @@ impl<R: Read + Drop> ContactReader<R> {
     }
 
     /// The contact of the last row that was read, or its fault.
-    fn contact(&self, alloc: Global) -> Result<Result<Conversion, CardFault>, ContactFault>
+    fn contact(&self, alloc: Global) -> Result<Result<Conversion, RowFault>, ContactFault>
         ensures { IfOk result (Becomes (columns_of self.now) (fields_of self.now.row)) }
     {
+        if let Some(fault) = self.row_fault(alloc)? {
+            return Ok(Err(fault));
+        }
         match convert_row(alloc, &self.columns, &self.row) {
             Ok(made) => Ok(Ok(made)),
             Err(fault) => match fault {
                 CardFault::Memory => Err(ContactFault::Memory),
-                _ => Ok(Err(fault)),
+                _ => Ok(Err(RowFault::Card(fault))),
             },
         }
+    }
+
+    /// Why the last row that was read isn't converted, whatever its contact is.
+    fn row_fault(&self, alloc: Global) -> Result<Option<RowFault>, ContactFault>
+        ensures { IfOk result (λ found.
+            IfSome found (IsFaulty (columns_of self.now) (fields_of self.now.row))) }
+    {
+        let cells = row_cells(alloc, &self.row)?;
+        let columns = self.columns.columns.as_slice();
+        Ok(fault_of_row(columns, &self.row, cells.as_slice()))
     }
 
     /// The card of the next row, or the fault for which the row is refused; `None` after the last
@@ -138,7 +157,7 @@ impl<R: Read + Drop> ContactReader<R> {
     pub fn read_contact(
         &mut self,
         alloc: Global,
-    ) -> Result<Option<Result<Conversion, CardFault>>, ContactFault>
+    ) -> Result<Option<Result<Conversion, RowFault>>, ContactFault>
         // The next record of the source was read. It becomes this contact, or is refused for this
         // fault.
         ensures row { IfOk result (λ read. IfSome read (λ row.

@@ -1,4 +1,4 @@
--- A hub whose connections together hold no more than a bound.
+-- A hub that refuses a large connection which doesn't fit beside the others.
 use Rattle.std.specs.Prelude.{◌≡◌, ◌≤◌, ◌+◌, ◌-◌, ◌||◌, ◌⊎◌, ℕ, Bool, true, false, List, [], length}
 use Rattle.std.specs.Prelude.{nat_eq, nat_le, Some}
 use Rattle.http_requests.specs.HandlerRuns.{HandlerRelation, FaultReplies}
@@ -19,7 +19,7 @@ fits_at most hub slot =
     may_hold most (large_at (Some slot)) (large_total hub.slots - large_at (Some slot))
 
 -- what the connection at the place held was dropped, since it may not hold it; the reply to a busy
--- server's client is pending, or none if memory ran out for it
+-- server's client is pending, or none
 pub record RefusesLargeAt
     (fault_reply : FaultReplies) (most place : ℕ) (full : HubValue) (now : ℕ) (after : HubValue)
     : Type 0 where
@@ -54,7 +54,7 @@ module _ {State : Type 0} (does : HandlerRelation State) (fault_reply : FaultRep
     pub fits : fits_at most after slot ≡ true
 
   -- A piece was fed, and the connection may not hold what it then holds. So it is dropped, and the
-  -- reply to a busy server's client is pending, or none if memory ran out for it.
+  -- reply to a busy server's client is pending, or none.
   pub record RefusesLarge
       (most place : ℕ) (before : HubValue) (old : State) (piece : List ℕ) (now : ℕ)
       (new : State) (after : HubValue) : Type 0 where

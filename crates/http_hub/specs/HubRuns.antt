@@ -88,8 +88,7 @@ pub record AreAllLinks (hub : HubValue) (links : List LinkValue) : Type 0 where
 
 module _ {State : Type 0} (does : HandlerRelation State) (fault_reply : FaultReplies) where
   -- The connection at this place received a piece, and what it came to hold was dropped. This reply
-  -- is pending, that to a busy server's client, or none if memory ran out for it. No other place
-  -- changed.
+  -- is pending, that to a busy server's client, or none. No other place changed.
   pub record RefusesPieceAt
       (place : ℕ) (before : HubValue) (old : State) (piece reply : List ℕ) (now : ℕ)
       (new : State) (after : HubValue) : Type 0 where

@@ -1,4 +1,4 @@
-//! A hub whose connections together hold no more than a bound.
+//! A hub that refuses a large connection which doesn't fit beside the others.
 ghost use Rattle.std.specs.Prelude.{◌≡◌, ◌↔◌, ◌≤◌, ◌<◌, ◌+◌, ◌-◌, ◌⊎◌, [], length, None, Some};
 ghost use Rattle.std.specs.Prelude.{IfOk, IsTrue, MatchOption};
 ghost use Rattle.http_requests.specs.declared.head_fault.HeadFault.TheVariants.{Busy};
@@ -212,11 +212,11 @@ impl BoundedHub {
     /// Feeds a piece to the connection at the place. No octets of it may be pending.
     ///
     /// A connection is small while it holds at most 16,384 octets: those of its incomplete request,
-    /// all of them once the head is complete, and those of its replies that are pending. The large
-    /// ones together hold at most `most` octets, or only one of them is large. If the piece breaks
-    /// this, what the connection holds is dropped: its session is closed, and the reply to
-    /// `HeadFault::Busy` is pending. The requests that it completed were handled all the same; only
-    /// one with a reply of more than 16,384 octets breaks it.
+    /// all announced ones once the head is complete, and all octets of its replies until the last
+    /// is sent. If each piece came with this `most`, the large ones together hold at most `most`
+    /// octets, or only one of them is large. If the piece breaks this, what the connection holds is
+    /// dropped: its session is closed, and the reply to `HeadFault::Busy` is pending, or none. The
+    /// requests that the piece completed were handled all the same.
     ///
     /// If an allocation fails, some requests, from the first on, were handled completely, their
     /// replies are lost, and the session is closed.

@@ -12,9 +12,10 @@ pub fn server_runs_are_hub_runs<H: Handler>()
 {}
 
 /// Connections that hold more than 16,384 octets, of incomplete requests with all their announced
-/// octets and of replies that aren't taken, hold at most `limits.held` together, or there is only
-/// one of them. So after each step they hold at most that, or one request or reply that is larger by
-/// itself, and each of the others 16,384 octets.
+/// octets and of replies until their last octet is sent, hold at most `limits.held` together, or
+/// there is only one of them. So after each step of a run all connections hold at most that, or all
+/// of one connection that is larger by itself, and at most 16,384 octets of each other one; beside
+/// what was read and not fed. This is said of the hub of a run, not of the server's memory.
 pub fn servers_hold_within<H: Handler>()
     ensures { ServersHoldWithin H.does H.fault_reply }
 {}

@@ -9,7 +9,8 @@ pub struct ServeLimits {
     pub together: usize,
     /// The milliseconds after which a silent connection is closed.
     pub patience: u64,
-    /// The most octets that the large connections hold together, of incomplete requests and pending
-    /// replies. A connection is large while it holds more than 16,384.
+    /// The most octets that the large connections hold together, of incomplete requests and of
+    /// replies that aren't wholly sent, if there are several. A connection is large while it holds
+    /// more than 16,384.
     pub held: u64,
 }

@@ -126,15 +126,15 @@ impl Server {
 /// 16,384 octets, feeds one piece of them to the session, or writes pending octets. Nothing is read
 /// or fed while octets are pending.
 ///
-/// A connection is closed only if its session is closed and all replies were written, if its input
+/// A connection is closed only if its session is closed and nothing is pending, if its input
 /// has ended, if reading or writing failed, or if it has expired by the time of the last wait. When
 /// the next wait begins, none has. With `limits.together` open connections accepting waits. If the
 /// endpoint answers `Later`, it is tried again after 100 milliseconds, or before if the listener is
 /// reported.
 ///
-/// The connections that hold more than 16,384 octets of an incomplete request or of pending replies
-/// hold at most `limits.held` together, or there is only one of them. One that would hold more is
-/// refused (`HeadFault::Busy`, or without a reply if there is no memory for it) and closed.
+/// In the run, the connections that hold more than 16,384 octets of an incomplete request or of
+/// replies that aren't wholly sent hold at most `limits.held` together, or there is only one of
+/// them. One that would hold more is refused (`HeadFault::Busy`, or without a reply) and closed.
 ///
 /// `Wait` or `Accept` at once if the endpoint fails; `TooManyWaits` after 2^64 - 1 waits; `Memory`
 /// if an allocation fails before the first wait, and nothing was done. Later only the connection

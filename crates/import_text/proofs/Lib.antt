@@ -1,6 +1,6 @@
 pub mod EscapeLemmas
 pub mod HeadLemmas
-pub mod WindowsLemmas
+pub mod CharsetLemmas
 pub mod RawLineLemmas
 pub mod PieceLemmas
 pub mod SplitLemmas

@@ -11,13 +11,17 @@ windows_chars =
     ∷ 144 ∷ 8216 ∷ 8217 ∷ 8220 ∷ 8221 ∷ 8226 ∷ 8211 ∷ 8212
     ∷ 732 ∷ 8482 ∷ 353 ∷ 8250 ∷ 339 ∷ 157 ∷ 382 ∷ 376 ∷ []
 
+-- The character of an octet in a character set, of which `chars` are the characters of the octet
+-- `first` and the next ones. Any other octet is the character of its number.
+unfoldable pub char_in : ℕ → List ℕ → ℕ → ℕ
+char_in first chars octet = if nat_lt octet first then octet else get_or chars (octet - first) octet
+
 -- The character of an octet in Windows-1252. But for those above it is the character of its number,
 -- as in Latin-1.
-abbrev pub windows_char : ℕ → ℕ
-windows_char octet =
-    if nat_lt octet 128 then octet else get_or windows_chars (octet - 128) octet
+unfoldable pub windows_char : ℕ → ℕ
+windows_char octet = char_in 128 windows_chars octet
 
 -- octets that are UTF-8 are the text; any others are Windows-1252
-abbrev pub text_of : List ℕ → List ℕ
+unfoldable pub text_of : List ℕ → List ℕ
 text_of octets =
     if is_utf8 octets then octets else encode_utf8_all (map windows_char octets)

@@ -4,30 +4,18 @@ ghost use Rattle.std.specs.Prelude.{◌≡◌, IfOk, map, string_bytes};
 ghost use Rattle.std.specs.Str.{encode_utf8_all};
 ghost use Rattle.import_text.specs.Encodings.{windows_char, text_of};
 
+use crate::charsets::{Charset, read_charset};
 use base_types::NoMemory;
 use std::alloc::Global;
 
 /// The characters of Windows-1252 for the octets 128 to 159. An octet without one is the control
 /// character of its number.
-const WINDOWS_CHARS: [char; 32] = [
+pub(crate) const WINDOWS_1252: [char; 32] = [
     '\u{20AC}', '\u{81}', '\u{201A}', '\u{192}', '\u{201E}', '\u{2026}', '\u{2020}', '\u{2021}',
     '\u{2C6}', '\u{2030}', '\u{160}', '\u{2039}', '\u{152}', '\u{8D}', '\u{17D}', '\u{8F}',
     '\u{90}', '\u{2018}', '\u{2019}', '\u{201C}', '\u{201D}', '\u{2022}', '\u{2013}', '\u{2014}',
     '\u{2DC}', '\u{2122}', '\u{161}', '\u{203A}', '\u{153}', '\u{9D}', '\u{17E}', '\u{178}',
 ];
-
-/// The character of an octet in Windows-1252.
-fn windows_char(octet: u8) -> char
-    ensures { result ≡ windows_char octet }
-{
-    if octet < 128 {
-        return char::from(octet);
-    }
-    match WINDOWS_CHARS.get(usize::from(octet - 128)) {
-        Some(c) => *c,
-        None => char::from(octet),
-    }
-}
 
 /// The text whose characters are those of the octets in Windows-1252. So Latin-1 (ISO/IEC 8859-1)
 /// is read too, but for its control characters. The only `Err` is out of memory.
@@ -35,11 +23,11 @@ pub fn read_windows1252(alloc: Global, octets: &[u8]) -> Result<String, NoMemory
     ensures { IfOk result (λ text. string_bytes text
         ≡ encode_utf8_all (map windows_char octets.now)) }
 {
-    let mut text = String::new(alloc);
-    for octet in octets {
-        text.push(windows_char(*octet))?;
-    }
-    Ok(text)
+    let charset = Charset {
+        first: 128,
+        chars: &WINDOWS_1252,
+    };
+    read_charset(alloc, charset, octets)
 }
 
 /// The text of the octets: themselves if they are UTF-8, and otherwise that of Windows-1252. The

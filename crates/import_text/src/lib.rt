@@ -3,8 +3,10 @@
 //! file in UTF-16 as UTF-8.
 #![tactic(auto)]
 
+mod charsets;
 mod encodings;
 mod filling;
+mod iso_tables;
 mod line_head;
 mod lines;
 mod octets;
@@ -15,10 +17,13 @@ mod reader;
 mod utf16;
 mod utf16_parts;
 mod utf16_reader;
+mod windows_tables;
 mod words;
 
+pub use charsets::{Charset, charset_named, read_charset};
 pub use encodings::{read_text, read_windows1252};
 pub use filling::{fill, joined};
+pub use line_head::is_encoded_as;
 pub use lines::{Folding, read_raw_lines};
 pub use pieces::{count_lines, is_card, split_piece};
 pub use quoted_printable::read_quoted_printable;

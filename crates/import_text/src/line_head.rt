@@ -29,7 +29,7 @@ fn head_len(line: &[u8]) -> usize
 }
 
 /// Whether the word is before the line's first colon, in any case.
-fn is_encoded_as(line: &[u8], word: &[u8]) -> bool
+pub fn is_encoded_as(line: &[u8], word: &[u8]) -> bool
     ensures { result ≡ is_encoded_as word.now line.now }
 {
     let (head, _) = line.split_at(head_len(line));

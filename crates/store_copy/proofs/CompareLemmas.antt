@@ -1,32 +1,34 @@
 -- Tables that are compared with rows.
-use Rattle.std.proofs.Common.{Bool, IsTrue, IfOk, map, IsPermutation, Result, Ok, Err, subst}
-use Rattle.sqlite.specs.Effect.{Database}
+use Rattle.std.proofs.Common.{ℤ, Bool, IsTrue, IfOk, List, map, IsPermutation, Result, Ok, Err}
+use Rattle.sqlite.specs.Order.{Row}
 use Rattle.sqlite.specs.State.{State, IsUnchanged}
 use Rattle.sqlite.specs.declared.error.Error.{Error}
-use Rattle.store_tables.specs.Books.{book_listed}
-use Rattle.store_tables.specs.Imports.{import_cells}
-use Rattle.store_tables.specs.Keeps.{keep_listed}
 use Rattle.store_tables.specs.Members.{member_cells}
 use Rattle.store_tables.specs.StatementEffects.{OnlyReads, GivenTables}
+use Rattle.store_tables.proofs.SchemaCreationLemmas.{clean_before}
 use Rattle.store_check.specs.ListedRows.{AreBookRows}
-use Rattle.store_copy.specs.CopiedRows.{AreSameLists, HasRows}
+use Rattle.store_check.proofs.OpenLemmas.{over_then}
+use Rattle.store_copy.specs.RowsWithout.{HaveNewIds, HaveNewBooks, HasNewRows}
 use Rattle.store_copy.specs.declared.reading.BookRows.{BookRows}
 use Rattle.store_copy.specs.declared.reading.StoredRows.{StoredRows}
-use Rattle.store_copy.proofs.ReadLemmas.{lists_all}
 
--- the other tables have the rows, in the place of those that were found
-same_others : (db : Database) (found others : BookRows) → AreSameLists found others → AreBookRows db found.books.items found.imports.items found.keeps.items → AreBookRows db others.books.items others.imports.items others.keeps.items
-same_others db found others same h = record {
-  all_books = subst (IsPermutation (map book_listed (db.trees 2))) same.books h.all_books;
-  all_imports = subst (IsPermutation (map import_cells (db.trees 7))) same.imports h.all_imports;
-  all_keeps = subst (IsPermutation (map keep_listed (db.trees 9))) same.keeps h.all_keeps;
-}
+-- the members are these with their new ids
+abbrev pub HaveNewMembers : List ℤ → List Row → List Row → Type 0
+HaveNewMembers ids table members = (found : List Row) × IsPermutation (map member_cells table) found × HaveNewIds 1 5 ids found members
 
-pub holds_all : (a b c : State) (found : BookRows) (rows : StoredRows) (r : Result Bool Error) → GivenTables a b (IsUnchanged a b) → OnlyReads b c
-    → GivenTables a b (AreBookRows a.now found.books.items found.imports.items found.keeps.items) → AreSameLists found rows.others
-    → GivenTables b c (IfOk r (λ same. IsTrue same → IsPermutation (map member_cells (b.now.trees 4)) rows.members.items))
-    → GivenTables a c (IfOk r (λ same. IsTrue same → HasRows a.now rows))
-holds_all a b c found rows (Ok same) unchanged left first alike second = λ clean has yes.
-    lists_all a b c rows.others.books.items rows.members.items rows.others.imports.items rows.others.keeps.items unchanged left
-    (λ early there. same_others a.now found rows.others alike (first early there)) (λ late there. second late there yes) clean has
-holds_all a b c found rows (Err e) unchanged left first alike second = λ clean has. tt
+pub holds_all : (ids : List ℤ) (a b c : State) (found : BookRows) (rows : StoredRows) (r : Result Bool Error) → GivenTables a b (IsUnchanged a b) → OnlyReads b c
+    → GivenTables a b (AreBookRows a.now found.books.items found.imports.items found.keeps.items) → HaveNewBooks ids found rows.others
+    → GivenTables b c (IfOk r (λ same. IsTrue same → HaveNewMembers ids (b.now.trees 4) rows.members.items))
+    → GivenTables a c (IfOk r (λ same. IsTrue same → HasNewRows ids a.now rows))
+holds_all ids a b c found rows (Ok same) unchanged left first alike second = λ clean has yes.
+    let early = clean_before _ b c left.survives clean in
+    let others = first early has in
+    let members = over_then a b c (λ db. HaveNewMembers ids (db.trees 4) rows.members.items) unchanged left (λ late there. second late there yes) clean has in
+    record {
+      others = found;
+      members = members.0;
+      listed = record { all_books = others.all_books; all_members = members.1; all_imports = others.all_imports; all_keeps = others.all_keeps };
+      new_others = alike;
+      new_members = members.2;
+    }
+holds_all ids a b c found rows (Err e) unchanged left first alike second = λ clean has. tt

@@ -1,4 +1,6 @@
 pub mod CompareLemmas
-pub mod CopyLemmas
+pub mod LoopLemmas
 pub mod ReadLemmas
+pub mod RestLemmas
+pub mod WithoutLemmas
 pub mod WriteLemmas

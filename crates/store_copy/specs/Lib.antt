@@ -1,2 +1,4 @@
+pub mod BooksWithout
 pub mod CopiedRows
 pub mod OnConnections
+pub mod RowsWithout

@@ -6,6 +6,7 @@ ghost use Rattle.vcard_property.specs.Kinds.{fits_kind};
 ghost use Rattle.vcard_property.specs.SameLines.{AreLine, is_same_in};
 
 use crate::change_kind::ChangeKind;
+use crate::decoding::decode;
 use crate::kept_texts::text_line;
 use crate::proper_line::proper_line;
 use crate::property::read_property;
@@ -29,19 +30,21 @@ fn kind_of(old: &str, new: &str) -> ChangeKind
     }
 }
 
-/// The proper line that the text becomes as a property, and what became of it. `None` if the text
-/// is no property, or its line isn't proper.
+/// The proper line that the text of these octets becomes as a property, and what became of it.
+/// `None` if the text is no property, or its line isn't proper.
 fn property_line(
     alloc: Global,
     text: &str,
+    octets: &[u8],
     version: Version,
 ) -> Result<Option<(Line, ChangeKind)>, NoMemory>
     ensures { IfOk result (λ made. IfSome made (λ line.
         IsProperLine line.0 × (fits_kind line.1 line.0.name ≡ true))) }
 {
-    let Some(property) = read_property(alloc, text)? else {
+    let Some(mut property) = read_property(alloc, text, version)? else {
         return Ok(None);
     };
+    decode(alloc, &mut property, octets)?;
     let name = property.name.try_copy()?;
     let line = line_of(alloc, property, version)?;
     let Some(line) = proper_line(alloc, line)? else {
@@ -74,7 +77,7 @@ pub fn convert_line(
         return Ok((line, ChangeKind::Rewritten));
     }
     let text = read_text(alloc, octets)?;
-    if let Some(made) = property_line(alloc, text.as_str(), version)? {
+    if let Some(made) = property_line(alloc, text.as_str(), octets, version)? {
         return Ok(made);
     }
     let line = text_line(alloc, "X-UNREADABLE", text.as_str())?;

@@ -10,7 +10,7 @@ pub(crate) struct ValueForm {
     pub(crate) is_plain: bool,
     /// Whether a comma is a part of the text, and so escaped.
     pub(crate) escapes_commas: bool,
-    /// Whether a backslash escapes only what vCard 2.1 says, and otherwise is a part of the text.
+    /// Whether it is of vCard 2.1, where a text that begins as a path has no escapes.
     pub(crate) is_old: bool,
 }
 
@@ -32,7 +32,7 @@ fn push_escaped(out: &mut String, c: char, form: ValueForm) -> Result<(), NoMemo
             out.push(c)?;
         }
         _ => {
-            if form.is_old && c != ':' {
+            if c != ':' {
                 out.push_str("\\\\")?;
             }
             push_plain(out, c, form)?;
@@ -81,8 +81,8 @@ fn push_last(out: &mut String, form: ValueForm) -> Result<(), NoMemory> {
 }
 
 /// The value with the escapes of vCard 4.0: a newline as `\n`; a backslash, a comma and a semicolon
-/// that are escaped stay so, and any other escaped character loses its backslash. A control
-/// character becomes a space.
+/// that are escaped stay so, a colon loses its backslash, and before any other character it is one of
+/// the text. A control character becomes a space.
 fn escaped_value(alloc: Global, value: &str, form: ValueForm) -> Result<String, NoMemory> {
     let mut out = String::new(alloc);
     let mut is_escaped = false;

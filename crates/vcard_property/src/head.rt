@@ -4,9 +4,9 @@ use std::alloc::Global;
 use vcard_text::NoMemory;
 
 /// The place of the first such octet that isn't in double quotes.
-fn place_outside_quotes(text: &str, octet: u8) -> Option<usize> {
+fn place_outside_quotes(octets: &[u8], octet: u8) -> Option<usize> {
     let mut quoted = false;
-    for (place, found) in text.as_bytes().iter().enumerate() {
+    for (place, found) in octets.iter().enumerate() {
         if *found == b'"' {
             quoted = !quoted;
         } else if *found == octet && !quoted {
@@ -18,7 +18,7 @@ fn place_outside_quotes(text: &str, octet: u8) -> Option<usize> {
 
 /// The texts before and after the first such octet that isn't in double quotes. The octet is ASCII.
 fn split_outside_quotes(text: &str, octet: u8) -> Option<(&str, &str)> {
-    let place = place_outside_quotes(text, octet)?;
+    let place = place_outside_quotes(text.as_bytes(), octet)?;
     let (before, rest) = text.split_at_checked(place)?;
     let (_, after) = rest.split_at_checked(1)?;
     Some((before, after))
@@ -30,6 +30,23 @@ pub(crate) fn split_line(text: &str) -> Option<(&str, &str)> {
     match split_outside_quotes(text, b':') {
         Some(parts) => Some(parts),
         None => text.split_once(':'),
+    }
+}
+
+/// The octets of the value of a line with these octets.
+pub(crate) fn after_head(octets: &[u8]) -> &[u8] {
+    let found = place_outside_quotes(octets, b':');
+    let colon = match found {
+        Some(place) => Some(place),
+        None => octets.iter().position(|octet| *octet == b':'),
+    };
+    let Some(place) = colon else {
+        return octets;
+    };
+    let rest = octets.get(place..).unwrap_or(octets);
+    match rest.split_first() {
+        Some((_, after)) => after,
+        None => rest,
     }
 }
 

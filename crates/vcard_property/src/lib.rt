@@ -6,6 +6,7 @@ mod binary;
 mod change_kind;
 mod conversion;
 mod dates;
+mod decoding;
 mod escapes;
 mod geo;
 mod head;

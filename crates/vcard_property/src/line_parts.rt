@@ -29,6 +29,18 @@ pub(crate) fn make_value(
     Ok(ParamValue { quoted, text })
 }
 
+/// The text as RFC 6868 writes it in a parameter, but for newlines and quotes.
+pub(crate) fn with_carets(alloc: Global, text: &str) -> Result<String, NoMemory> {
+    let mut out = String::new(alloc);
+    for c in text.chars() {
+        if c == '^' {
+            out.push('^')?;
+        }
+        out.push(c)?;
+    }
+    Ok(out)
+}
+
 /// A parameter with one value.
 pub(crate) fn make_param(alloc: Global, name: &str, text: &str) -> Result<Param, NoMemory> {
     let mut values = Items::new(alloc);

@@ -4,6 +4,19 @@ ghost use Rattle.std.specs.Prelude.{◌≡◌, ◌++◌, IfOk, codes};
 use std::alloc::Global;
 use vcard_text::{NoMemory, Text};
 
+/// Whether the name is one of these.
+pub(crate) fn is_one_of(name: &str, names: &[&str]) -> bool {
+    names.iter().any(|other| *other == name)
+}
+
+/// The properties with binary values (RFC 6350, sections 6.2.4, 6.6.3, 6.7.5 and 6.8.1).
+const BINARY_NAMES: [&str; 4] = ["PHOTO", "LOGO", "SOUND", "KEY"];
+
+/// Whether the values of the name are binary.
+pub(crate) fn is_binary_name(name: &str) -> bool {
+    is_one_of(name, &BINARY_NAMES)
+}
+
 fn legal_char(c: char) -> char {
     if c.is_ascii_alphanumeric() { c } else { '-' }
 }

@@ -1,9 +1,11 @@
 //! Reads the parameters of a property of any version.
 
 use crate::head::split_parts;
-use crate::line_parts::make_value;
+use crate::line_parts::{make_value, with_carets};
 use crate::names::legal_name;
-use crate::property::{Encoding, Property};
+use crate::property::{CharsetParam, Encoding, Property};
+use crate::version::Version;
+use import_text::charset_named;
 use std::alloc::Global;
 use vcard_text::{Items, NoMemory, Param, ParamValue, Text};
 
@@ -24,26 +26,27 @@ fn encoding_of(word: &str) -> Option<Encoding> {
     }
 }
 
-/// Whether CHARSET names Latin-1 or its extension by Windows.
-fn is_windows1252(charset: &str) -> bool {
-    is_word(charset, "ISO-8859-1")
-        || is_word(charset, "WINDOWS-1252")
-        || is_word(charset, "LATIN1")
-        || is_word(charset, "CP1252")
-}
-
 /// Whether CHARSET names UTF-8 or a part of it.
 fn is_utf8(charset: &str) -> bool {
     is_word(charset, "UTF-8") || is_word(charset, "UTF8") || is_word(charset, "US-ASCII")
 }
 
-/// Reads CHARSET. One that isn't known is kept as a parameter.
-fn read_charset(alloc: Global, property: &mut Property, charset: &str) -> Result<(), NoMemory> {
-    property.is_windows1252 = is_windows1252(charset);
-    if property.is_windows1252 || is_utf8(charset) {
+/// Reads CHARSET. The name of one that isn't known is kept as a parameter.
+fn read_charset(alloc: Global, property: &mut Property, name: &str) -> Result<(), NoMemory> {
+    if is_utf8(name) {
+        property.charset = CharsetParam::Utf8;
         return Ok(());
     }
-    add_param(alloc, property, "X-CHARSET", charset)
+    match charset_named(alloc, name)? {
+        Some(charset) => {
+            property.charset = CharsetParam::Known(charset);
+            Ok(())
+        }
+        None => {
+            property.charset = CharsetParam::Unknown;
+            add_param(alloc, property, "X-CHARSET", name)
+        }
+    }
 }
 
 /// Adds a value of TYPE.
@@ -79,12 +82,22 @@ fn read_value(alloc: Global, part: &str) -> Result<ParamValue, NoMemory> {
     }
 }
 
+/// The same as vCard 4.0 writes it. In an older version a caret is a character like any other; in
+/// vCard 4.0 it begins an escape (RFC 6868).
+fn read_value_of(alloc: Global, part: &str, version: Version) -> Result<ParamValue, NoMemory> {
+    if version == Version::Fourth {
+        return read_value(alloc, part);
+    }
+    let part = with_carets(alloc, part)?;
+    read_value(alloc, part.as_str())
+}
+
 /// The values of a parameter.
-fn read_values(alloc: Global, text: &str) -> Result<Items<ParamValue>, NoMemory> {
+fn read_values(alloc: Global, text: &str, version: Version) -> Result<Items<ParamValue>, NoMemory> {
     let mut values = Items::new(alloc);
     let parts = split_parts(alloc, text, b',')?;
     for part in &parts {
-        values.push(read_value(alloc, *part)?)?;
+        values.push(read_value_of(alloc, *part, version)?)?;
     }
     Ok(values)
 }
@@ -99,7 +112,7 @@ fn add_param(
     let Some(name) = legal_name(alloc, name)? else {
         return Ok(());
     };
-    let values = read_values(alloc, text)?;
+    let values = read_values(alloc, text, property.version)?;
     property.params.push(Param { name, values })?;
     Ok(())
 }

@@ -3,6 +3,8 @@
 use crate::head::{split_group, split_line, split_parts};
 use crate::names::{legal_name, upper_name};
 use crate::params::read_param;
+use crate::version::Version;
+use import_text::Charset;
 use std::alloc::Global;
 use vcard_text::{Items, NoMemory, Param, ParamValue, Text};
 
@@ -12,6 +14,17 @@ pub(crate) enum Encoding {
     Plain,
     QuotedPrintable,
     Base64,
+}
+
+/// What CHARSET says.
+#[derive(Clone, Copy)]
+pub(crate) enum CharsetParam {
+    /// Nothing, or UTF-8 or a part of it.
+    Utf8,
+    /// A character set with one octet for each character.
+    Known(Charset),
+    /// A character set that isn't known. The parameter X-CHARSET keeps its name.
+    Unknown,
 }
 
 /// A property of any version. What vCard 4.0 says in another way is apart from the parameters.
@@ -26,11 +39,13 @@ pub(crate) struct Property {
     /// The other parameters.
     pub(crate) params: Items<Param>,
     pub(crate) encoding: Encoding,
-    /// Whether CHARSET says Windows-1252, or Latin-1, which is a part of it.
-    pub(crate) is_windows1252: bool,
+    /// What CHARSET says.
+    pub(crate) charset: CharsetParam,
     /// Whether VALUE says that the value is a URI.
     pub(crate) is_uri: bool,
-    /// The value as written.
+    /// The version that the line has.
+    pub(crate) version: Version,
+    /// The value.
     pub(crate) value: Text,
 }
 
@@ -43,7 +58,13 @@ fn read_group(alloc: Global, group: Option<&str>) -> Result<Option<Text>, NoMemo
 }
 
 /// The property of that name and value, before its parameters are read.
-fn bare_property(alloc: Global, group: Option<Text>, name: Text, value: Text) -> Property {
+fn bare_property(
+    alloc: Global,
+    group: Option<Text>,
+    name: Text,
+    value: Text,
+    version: Version,
+) -> Property {
     Property {
         group,
         name,
@@ -51,8 +72,9 @@ fn bare_property(alloc: Global, group: Option<Text>, name: Text, value: Text) ->
         is_preferred: false,
         params: Items::new(alloc),
         encoding: Encoding::Plain,
-        is_windows1252: false,
+        charset: CharsetParam::Utf8,
         is_uri: false,
+        version,
         value,
     }
 }
@@ -65,18 +87,27 @@ fn read_params(alloc: Global, property: &mut Property, parts: &[&str]) -> Result
 }
 
 /// The property of that value, without parameters. `None` if it has no name.
-fn named_property(alloc: Global, head: &str, value: &str) -> Result<Option<Property>, NoMemory> {
+fn named_property(
+    alloc: Global,
+    head: &str,
+    value: &str,
+    version: Version,
+) -> Result<Option<Property>, NoMemory> {
     let (group, name) = split_group(head);
     let Some(name) = upper_name(alloc, name)? else {
         return Ok(None);
     };
     let group = read_group(alloc, group)?;
     let value = Text::copy_of(alloc, value)?;
-    Ok(Some(bare_property(alloc, group, name, value)))
+    Ok(Some(bare_property(alloc, group, name, value, version)))
 }
 
 /// Reads a line leniently. `None` if it has no colon or no name.
-pub(crate) fn read_property(alloc: Global, text: &str) -> Result<Option<Property>, NoMemory> {
+pub(crate) fn read_property(
+    alloc: Global,
+    text: &str,
+    version: Version,
+) -> Result<Option<Property>, NoMemory> {
     let Some((head, value)) = split_line(text) else {
         return Ok(None);
     };
@@ -84,7 +115,7 @@ pub(crate) fn read_property(alloc: Global, text: &str) -> Result<Option<Property
     let Some((first, params)) = parts.as_slice().split_first() else {
         return Ok(None);
     };
-    let Some(mut property) = named_property(alloc, first.trim(), value)? else {
+    let Some(mut property) = named_property(alloc, first.trim(), value, version)? else {
         return Ok(None);
     };
     read_params(alloc, &mut property, params)?;

@@ -4,59 +4,38 @@ use crate::binary::{data_uri, decoded_base64, is_format};
 use crate::dates::basic_date;
 use crate::escapes::{ValueForm, with_escapes};
 use crate::geo::geo_value;
-use crate::line_parts::{make_param, make_value};
-use crate::names::aside_name;
+use crate::line_parts::{make_param, make_value, with_carets};
+use crate::names::{aside_name, is_one_of};
 use crate::omitted_year::omit_year;
 use crate::params::all_params;
 use crate::property::{Encoding, Property};
 use crate::version::Version;
-use import_text::{read_quoted_printable, read_text, read_windows1252};
+use import_text::begins_with_word;
 use std::alloc::Global;
 use std::mem;
 use vcard_text::{Items, Line, NoMemory, Param, ParamValue, Part, Text, unescape};
 
-/// The text of a value's octets.
-fn text_in(alloc: Global, octets: &[u8], is_windows1252: bool) -> Result<String, NoMemory> {
-    if is_windows1252 {
-        read_windows1252(alloc, octets)
-    } else {
-        read_text(alloc, octets)
-    }
-}
-
-/// The value without its encoding.
-fn decoded_value(alloc: Global, property: &Property) -> Result<String, NoMemory> {
-    let value = property.value.as_str();
-    let octets = match property.encoding {
-        Encoding::Plain => None,
-        Encoding::QuotedPrintable => Some(read_quoted_printable(alloc, value.as_bytes())?),
-        Encoding::Base64 => decoded_base64(alloc, value)?,
-    };
-    match octets {
-        Some(octets) => text_in(alloc, octets.as_slice(), property.is_windows1252),
-        None => Ok(String::from_str(alloc, value)?),
-    }
-}
-
-/// Whether the values of the name aren't texts, so that nothing is escaped in them.
-fn is_plain_name(name: &str) -> bool {
-    matches!(
-        name,
-        "URL"
-            | "SOURCE"
-            | "IMPP"
-            | "FBURL"
-            | "CALURI"
-            | "CALADRURI"
-            | "UID"
-            | "MEMBER"
-            | "X-ADDRESSBOOKSERVER-MEMBER"
-            | "RELATED"
-    ) || matches!(
-        name,
-        "PHOTO" | "LOGO" | "SOUND" | "KEY" | "GEO" | "REV" | "BDAY" | "ANNIVERSARY"
-    )
-}
+/// The properties whose values aren't texts, so that nothing is escaped in them.
+const PLAIN_NAMES: [&str; 18] = [
+    "URL",
+    "SOURCE",
+    "IMPP",
+    "FBURL",
+    "CALURI",
+    "CALADRURI",
+    "UID",
+    "MEMBER",
+    "X-ADDRESSBOOKSERVER-MEMBER",
+    "RELATED",
+    "PHOTO",
+    "LOGO",
+    "SOUND",
+    "KEY",
+    "GEO",
+    "REV",
+    "BDAY",
+    "ANNIVERSARY",
+];
 
 /// Whether a comma in a value of the name is a part of its text.
 fn escapes_commas(name: &str, version: Version) -> bool {
@@ -69,7 +48,7 @@ fn escapes_commas(name: &str, version: Version) -> bool {
 
 fn form_of(name: &str, is_uri: bool, version: Version) -> ValueForm {
     ValueForm {
-        is_plain: is_uri || is_plain_name(name),
+        is_plain: is_uri || is_one_of(name, &PLAIN_NAMES),
         escapes_commas: escapes_commas(name, version),
         is_old: version == Version::Old,
     }
@@ -78,9 +57,8 @@ fn form_of(name: &str, is_uri: bool, version: Version) -> ValueForm {
 /// The value in the form of vCard 4.0.
 fn text_value(alloc: Global, property: &Property, version: Version) -> Result<String, NoMemory> {
     let name = property.name.as_str();
-    let decoded = decoded_value(alloc, property)?;
     let form = form_of(name, property.is_uri, version);
-    let value = with_escapes(alloc, decoded.as_str(), form)?;
+    let value = with_escapes(alloc, property.value.as_str(), form)?;
     match name {
         "GEO" => geo_value(alloc, value, version),
         "BDAY" | "ANNIVERSARY" | "REV" => basic_date(alloc, value.as_str()),
@@ -88,17 +66,22 @@ fn text_value(alloc: Global, property: &Property, version: Version) -> Result<St
     }
 }
 
-/// Whether the values of the name are dates.
-fn is_date_name(name: &str) -> bool {
-    matches!(name, "BDAY" | "ANNIVERSARY" | "X-ANNIVERSARY")
+/// The properties whose values are dates.
+const DATE_NAMES: [&str; 3] = ["BDAY", "ANNIVERSARY", "X-ANNIVERSARY"];
+
+/// Whether the value is an address within an Exchange server, which nobody else can write to. It
+/// gives way to the one of SMTP.
+fn is_exchange_address(value: &str) -> bool {
+    begins_with_word(value.as_bytes(), b"/O=")
 }
 
 /// The name that vCard 4.0 has for the property.
-fn name_of(alloc: Global, name: &str, is_uri: bool) -> Result<Text, NoMemory> {
+fn name_of(alloc: Global, name: &str, value: &str, is_uri: bool) -> Result<Text, NoMemory> {
     match name {
         "X-ADDRESSBOOKSERVER-KIND" => Text::copy_of(alloc, "KIND"),
         "X-ADDRESSBOOKSERVER-MEMBER" => Text::copy_of(alloc, "MEMBER"),
         "AGENT" if is_uri => Text::copy_of(alloc, "RELATED"),
+        "EMAIL" if is_exchange_address(value) => aside_name(alloc, name),
         "AGENT" | "CLASS" | "MAILER" | "NAME" | "PROFILE" | "SORT-STRING" => {
             aside_name(alloc, name)
         }
@@ -135,8 +118,9 @@ fn line_with(
         is_preferred,
         params,
         encoding: _,
-        is_windows1252: _,
+        charset: _,
         is_uri: _,
+        version: _,
         value: _,
     } = property;
     let params = all_params(alloc, types, is_preferred, params)?;
@@ -159,7 +143,7 @@ fn add_agent(alloc: Global, property: &mut Property) -> Result<(), NoMemory> {
 
 /// Omits the year of a property that is a date, if a parameter says that it is none.
 fn omit_year_of_date(alloc: Global, property: &mut Property) -> Result<(), NoMemory> {
-    if is_date_name(property.name.as_str()) {
+    if is_one_of(property.name.as_str(), &DATE_NAMES) {
         omit_year(alloc, property)?;
     }
     Ok(())
@@ -171,7 +155,12 @@ fn text_or_uri_line(alloc: Global, property: Property, version: Version) -> Resu
     omit_year_of_date(alloc, &mut property)?;
     add_agent(alloc, &mut property)?;
     let value = text_value(alloc, &property, version)?;
-    let name = name_of(alloc, property.name.as_str(), property.is_uri)?;
+    let name = name_of(
+        alloc,
+        property.name.as_str(),
+        value.as_str(),
+        property.is_uri,
+    )?;
     line_with(alloc, property, name, value)
 }
 
@@ -189,18 +178,6 @@ fn binary_line(alloc: Global, property: Property, octets: &[u8]) -> Result<Line,
     let uri = data_uri(alloc, name.as_str(), property.types.as_slice(), octets)?;
     drop_formats(alloc, &mut property, name.as_str())?;
     line_with(alloc, property, name, uri)
-}
-
-/// The text of a label as RFC 6868 writes it in a parameter, but for newlines and quotes.
-fn with_carets(alloc: Global, text: &str) -> Result<String, NoMemory> {
-    let mut out = String::new(alloc);
-    for c in text.chars() {
-        if c == '^' {
-            out.push('^')?;
-        }
-        out.push(c)?;
-    }
-    Ok(out)
 }
 
 /// The text of a label, as the value of a parameter.
@@ -233,35 +210,35 @@ fn label_line(alloc: Global, property: Property, version: Version) -> Result<Lin
     line_with(alloc, property, name, value)
 }
 
-/// Whether the values of the name are binary (RFC 6350, sections 6.2.4, 6.6.3, 6.7.5 and 6.8.1).
-fn is_binary_name(name: &str) -> bool {
-    matches!(name, "PHOTO" | "LOGO" | "SOUND" | "KEY")
-}
-
-fn is_base64(alloc: Global, value: &str) -> Result<bool, NoMemory> {
-    Ok(decoded_base64(alloc, value)?.is_some())
-}
-
-/// The octets of a base64 value that is no text: that of a property with binary values, or octets
-/// that aren't UTF-8.
+/// The octets of a binary value: base64 that isn't that of a text.
 fn binary_octets(alloc: Global, property: &Property) -> Result<Option<Vec<u8>>, NoMemory> {
-    if property.encoding != Encoding::Base64 {
-        return Ok(None);
+    match property.encoding {
+        Encoding::Base64 => decoded_base64(alloc, property.value.as_str()),
+        Encoding::Plain | Encoding::QuotedPrintable => Ok(None),
     }
-    let Some(octets) = decoded_base64(alloc, property.value.as_str())? else {
-        return Ok(None);
-    };
-    if is_binary_name(property.name.as_str()) || str::from_utf8(octets.as_slice()).is_err() {
-        return Ok(Some(octets));
-    }
-    Ok(None)
 }
 
-/// Keeps the encoding of a value that isn't the base64 that it says.
-fn keep_encoding(alloc: Global, property: &mut Property) -> Result<(), NoMemory> {
-    if property.encoding == Encoding::Base64 && !is_base64(alloc, property.value.as_str())? {
-        property.params.push(make_param(alloc, "ENCODING", "b")?)?;
+/// Whether the text begins with the scheme of a URI (RFC 3986, section 3.1). No base64 does.
+fn has_scheme(text: &str) -> bool {
+    match text.split_once(':') {
+        Some((scheme, _)) => {
+            !scheme.is_empty() && scheme.chars().all(|c| c.is_ascii_alphanumeric())
+        }
+        None => false,
     }
+}
+
+/// What a value that isn't the base64 that it should be keeps: a URI nothing, since it is the value
+/// that vCard 4.0 has, and any other value its encoding.
+fn keep_encoding(alloc: Global, property: &mut Property) -> Result<(), NoMemory> {
+    if property.encoding != Encoding::Base64 {
+        return Ok(());
+    }
+    if has_scheme(property.value.as_str()) {
+        let name = property.name.try_copy()?;
+        return drop_formats(alloc, property, name.as_str());
+    }
+    property.params.push(make_param(alloc, "ENCODING", "b")?)?;
     Ok(())
 }
 

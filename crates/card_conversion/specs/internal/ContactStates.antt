@@ -6,7 +6,7 @@ use Rattle.std.specs.List.{Contains}
 use Rattle.csv.specs.Reading.{ReadRecord}
 use Rattle.csv.specs.declared.reader.Reader.{Reader}
 use Rattle.base_types.specs.TextMaps.{text_cmp}
-use Rattle.vcard_lines.specs.declared.fault.CardFault.{CardFault}
+use Rattle.contact_csv.specs.declared.row_fault.RowFault.{RowFault}
 use Rattle.vcard_lines.specs.declared.line.Line.{Line}
 use Rattle.vcard_text.specs.Cards.{IsCard, uid_of}
 use Rattle.vcard_import.specs.declared.conversion.Conversion.{Conversion}
@@ -24,7 +24,7 @@ use Rattle.card_conversion.specs.ContactFates.{summary_of, uids_of, uids_of_fate
 
 -- What reading the next row did to the reader.
 abbrev pub ReadsRow : {R : Type 0} → (R → Option (List ℕ)) → ContactReader R → ContactReader R
-    → Option (Result Conversion CardFault) → Type 0
+    → Option (Result Conversion RowFault) → Type 0
 ReadsRow remaining before after None =
     (fields : List (List ℕ)) × ReadRecord remaining (rows_of before) (rows_of after) false fields
 ReadsRow remaining before after (Some row) =
@@ -32,7 +32,7 @@ ReadsRow remaining before after (Some row) =
     × Becomes (columns_of before) fields row
 
 -- the fate of what was read, after cards with these UIDs
-abbrev pub IsFateOf : List (List ℕ) → Result Conversion CardFault → RowFate → Type 0
+abbrev pub IsFateOf : List (List ℕ) → Result Conversion RowFault → RowFate → Type 0
 IsFateOf uids row (Refused fault) = row ≡ Err fault
 IsFateOf uids row (Repeated made) =
     (row ≡ Ok made) × IsCard made.card × Contains uids (uid_of made.card)
@@ -42,7 +42,7 @@ IsFateOf uids row (Written made) =
     (row ≡ Ok made) × IsCard made.card × (Contains uids (uid_of made.card) → ⊥)
 
 -- What was read has the fate after rows whose cards have the UIDs of the map.
-abbrev pub TakesRow : {A : Type 0} → (List Line → A → A → Type 0) → Result Conversion CardFault
+abbrev pub TakesRow : {A : Type 0} → (List Line → A → A → Type 0) → Result Conversion RowFault
     → finite.FinMap text_cmp (Unit {0}) → finite.FinMap text_cmp (Unit {0}) → A → A → RowFate
     → Type 0
 TakesRow writes row map_before map_after before after fate =

@@ -3,10 +3,10 @@
 
 use crate::contacts::fate::RowFate;
 use base_types::NoMemory;
-use contact_csv::Column;
+use contact_csv::{Column, RowFault};
 use std::alloc::Global;
 use vcard_import::{Change, ChangeKind, Conversion};
-use vcard_text::{CardFault, Line};
+use vcard_text::Line;
 
 /// Where a row is: its number without the header, and its first line in the file, both from 1.
 #[derive(Clone, Copy)]
@@ -61,6 +61,9 @@ fn change_words(alloc: Global, aside: &mut &[Line], change: &Change) -> Result<S
             return Ok(format!(in alloc; "kept as {kept}")?);
         }
     }
+    if change.kind == ChangeKind::Unreadable {
+        return Ok(String::from_str(alloc, "kept as text: its day, month or year isn't certain")?);
+    }
     let kind = change.kind;
     Ok(format!(in alloc; "{kind}")?)
 }
@@ -90,15 +93,39 @@ fn refused_report(alloc: Global, place: RowPlace, why: &str) -> Result<String, N
     Ok(format!(in alloc; "row {row}, line {line}: not carried: {why}\n")?)
 }
 
-/// The line for a row whose contact is no card. Only one without a value has no name.
-fn fault_report(alloc: Global, place: RowPlace, fault: &CardFault) -> Result<String, NoMemory> {
+/// The line for a row that isn't converted. None for one without a value, which is no loss.
+fn fault_report(
+    alloc: Global,
+    place: RowPlace,
+    columns: &[Column],
+    fault: &RowFault,
+) -> Result<String, NoMemory> {
     match fault {
-        CardFault::NoName => refused_report(alloc, place, "the row has no value"),
-        _ => {
+        RowFault::Empty => Ok(String::new(alloc)),
+        RowFault::Broken => refused_report(alloc, place, "a quote isn't closed in its row"),
+        RowFault::Nul(at) => {
+            let name = column_name(alloc, columns, *at)?;
+            let why = format!(in alloc; "the cell of {name} has a NUL")?;
+            refused_report(alloc, place, why.as_str())
+        }
+        RowFault::Width => {
+            refused_report(
+                alloc,
+                place,
+                "the row has more or fewer cells than the header",
+            )
+        }
+        RowFault::Card(fault) => {
             let why = format!(in alloc; "{fault}")?;
             refused_report(alloc, place, why.as_str())
         }
     }
+}
+
+/// The line for a row with the cells of an earlier one.
+fn repeated_report(alloc: Global, place: RowPlace) -> Result<String, NoMemory> {
+    let RowPlace { row, line } = place;
+    Ok(format!(in alloc; "row {row}, line {line}: an earlier row has the same cells\n")?)
 }
 
 /// The report of a row: a line for each change of a card that was written, or a line for why the
@@ -110,8 +137,8 @@ pub(crate) fn report_text(
     fate: &RowFate,
 ) -> Result<String, NoMemory> {
     match fate {
-        RowFate::Refused(fault) => fault_report(alloc, place, fault),
-        RowFate::Repeated(_) => refused_report(alloc, place, "an earlier row has the same cells"),
+        RowFate::Refused(fault) => fault_report(alloc, place, columns, fault),
+        RowFate::Repeated(_) => repeated_report(alloc, place),
         RowFate::Declined(_, why) => refused_report(alloc, place, why.as_str()),
         RowFate::Written(conversion) => changes_report(alloc, place, columns, conversion),
     }

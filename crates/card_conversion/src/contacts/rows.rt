@@ -7,17 +7,16 @@ ghost use Rattle.card_conversion.specs.internal.ContactStates.{ReadsRow, TakesRo
 use crate::contacts::fate::RowFate;
 use crate::{ConversionFault, Outcome, Outlet, deliver};
 use base_types::TextMap;
-use contact_csv::{ContactFault, ContactReader};
+use contact_csv::{ContactFault, ContactReader, RowFault};
 use std::alloc::Global;
 use std::io::Read;
 use vcard_import::Conversion;
-use vcard_text::CardFault;
 
 /// Reads the contact of the next row, or its fault; `None` after the last row.
 pub(crate) fn next_row<R: Read + Drop>(
     alloc: Global,
     contacts: &mut ContactReader<R>,
-) -> Result<Option<Result<Conversion, CardFault>>, ConversionFault>
+) -> Result<Option<Result<Conversion, RowFault>>, ConversionFault>
     ensures row { IfOk result (λ row. IsReady contacts.old
         → ReadsRow R.remaining contacts.old contacts.new row) }
     ensures columns { columns_of contacts.new ≡ columns_of contacts.old }
@@ -53,7 +52,7 @@ pub(crate) fn take_row<O: Outlet>(
     alloc: Global,
     uids: &mut TextMap<()>,
     number: u64,
-    row: Result<Conversion, CardFault>,
+    row: Result<Conversion, RowFault>,
     outlet: &mut O,
 ) -> Result<RowFate, ConversionFault>
     ensures { IfOk result (TakesRow O.writes row uids.old uids.new outlet.old outlet.new) }

@@ -5,6 +5,7 @@ ghost use Rattle.card_conversion.specs.ContactFates.{counted};
 
 use crate::Summary;
 use crate::contacts::fate::RowFate;
+use contact_csv::RowFault;
 
 /// The summary of no rows.
 pub(crate) fn no_rows() -> Summary
@@ -17,7 +18,7 @@ pub(crate) fn no_rows() -> Summary
     }
 }
 
-/// Counts a row.
+/// Counts a row. One without a value, or with the cells of an earlier one, is no loss.
 pub(crate) fn count_row(summary: &mut Summary, fate: &RowFate)
     ensures { summary.new ≡ counted summary.old fate.now }
 {
@@ -28,6 +29,8 @@ pub(crate) fn count_row(summary: &mut Summary, fate: &RowFate)
                 summary.changed = summary.changed.saturating_add(1);
             }
         }
+        RowFate::Refused(RowFault::Empty) => {}
+        RowFate::Repeated(_) => {}
         _ => summary.refused = summary.refused.saturating_add(1),
     }
 }

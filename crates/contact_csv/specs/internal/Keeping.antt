@@ -33,6 +33,12 @@ pub record KeepsAside (place : ℕ) (text : List ℕ) (old new : Kept) : Type 0 
   pub lines_are : new.lines ≡ old.lines ++ line ∷ []
   pub changes_are : new.changes ≡ old.changes ++ change place KeptAside ∷ []
 
+-- only changes are appended
+pub record ReportsOnly (old new : Kept) : Type 0 where
+  pub lines_are : new.lines ≡ old.lines
+  pub changes : List Change
+  pub changes_are : new.changes ≡ old.changes ++ changes
+
 -- lines and changes are appended so that the cell is carried
 pub record KeepsCell (column : Column) (place : ℕ) (text : List ℕ) (old new : Kept) : Type 0 where
   pub lines : List Line

@@ -1,9 +1,9 @@
 //! Converts exports of contacts: the cards that their rows become, and the changes.
 use base_types::NoMemory;
-use contact_csv::{ContactReader, delimiter_of};
+use contact_csv::{ContactReader, RowFault, find_header};
 use std::alloc::Global;
 use vcard_import::Conversion;
-use vcard_text::{CardFault, write_card};
+use vcard_text::write_card;
 
 /// Appends the card's canonical text, and a line for each change: the index of the column, and the
 /// kind.
@@ -17,17 +17,31 @@ fn push_made(alloc: Global, out: &mut String, made: &Conversion) -> Result<(), N
     Ok(())
 }
 
+/// The line for a row that isn't converted, whatever its contact is.
+fn words_of(fault: RowFault) -> &'static str {
+    match fault {
+        RowFault::Empty => "empty\n",
+        RowFault::Broken => "broken\n",
+        RowFault::Nul(_) => "nul\n",
+        RowFault::Width | RowFault::Card(_) => "width\n",
+    }
+}
+
 /// Appends what a row becomes.
 fn push_row(
     alloc: Global,
     out: &mut String,
-    row: Result<Conversion, CardFault>,
+    row: Result<Conversion, RowFault>,
 ) -> Result<(), NoMemory> {
     match row {
         Ok(made) => push_made(alloc, out, &made),
-        Err(fault) => {
+        Err(RowFault::Card(fault)) => {
             let line = format!(in alloc; "fault {}\n", fault.number())?;
             out.push_str(line.as_str())?;
+            Ok(())
+        }
+        Err(fault) => {
+            out.push_str(words_of(fault))?;
             Ok(())
         }
     }
@@ -52,11 +66,11 @@ fn push_rows(
 /// What the rows of an export become.
 pub(crate) fn run_contacts(alloc: Global, input: &[u8]) -> Result<String, NoMemory> {
     let mut out = String::new(alloc);
-    let Some(delimiter) = delimiter_of(alloc, input)? else {
+    let Some(header) = find_header(alloc, input)? else {
         out.push_str("no header")?;
         return Ok(out);
     };
-    let Ok(mut contacts) = ContactReader::new(alloc, input, delimiter) else {
+    let Ok(mut contacts) = ContactReader::new(alloc, input, header) else {
         return Err(NoMemory);
     };
     push_rows(alloc, &mut out, &mut contacts)?;

@@ -40,7 +40,7 @@ returns-clause-runs c = (refl, refl, refl, refl, refl)
 
 pub returns-clause-sockets : goal.returns-clause-sockets
 unfolding clap_on_literals
-returns-clause-sockets c = (refl, refl, refl, refl)
+returns-clause-sockets c = (refl, refl, refl, refl, refl)
 
 pub returns-clause-limits : goal.returns-clause-limits
 unfolding clap_on_literals
@@ -68,7 +68,7 @@ returns-clause-pages c = (refl, refl, refl, refl)
 
 pub returns-clause-copies : goal.returns-clause-copies
 unfolding clap_on_literals
-returns-clause-copies c = (refl, refl, refl, refl, refl)
+returns-clause-copies c = (refl, refl, refl, refl, refl, refl, refl)
 
 pub returns-clause-resyncs : goal.returns-clause-resyncs
 unfolding clap_on_literals

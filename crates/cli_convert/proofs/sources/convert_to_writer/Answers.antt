@@ -7,7 +7,7 @@ returns-in-Export g c = IfOk-weaker c.convert_to_rows.result _ _ (λ summary con
 
 pub returns-in_ok-contacts-in-Contacts : goal.returns-in_ok-contacts-in-Contacts
 returns-in_ok-contacts-in-Contacts g c =
-    IfOk-weaker c.convert_contacts_to_rows.result _ _ (λ summary converts. contacts_printed g.R.Read.remaining c.in_ok-contacts-in-Contacts.contacts _ _ summary converts)
+    IfOk-weaker c.convert_contacts_to_rows.result _ _ (λ summary converts. contacts_printed _ c.in_ok-contacts-in-Contacts.contacts _ _ summary converts)
     (c.convert_contacts_to_rows.ensures c.in_ok-contacts-in-Contacts.ensures)
 
 pub returns-in-Cards : goal.returns-in-Cards

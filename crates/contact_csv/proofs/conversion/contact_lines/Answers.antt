@@ -1,7 +1,8 @@
-use Rattle.std.proofs.Common.{◌∙◌, map, length, subst, string_bytes}
+use Rattle.std.proofs.Common.{◌≡◌, ◌∙◌, map, length, ap, subst, string_bytes}
 use Rattle.csv.specs.Records.{fields_of}
 use Rattle.std.proofs.lemmas.List.{length-map}
 use Rattle.contact_columns.specs.Cells.{cell_text}
+use Rattle.contact_csv.specs.RowUids.{row_uid}
 use Rattle.contact_csv.specs.internal.Keeping.{Keeps}
 use Rattle.contact_csv.proofs.KeepLemmas.{row_kept}
 use Rattle.contact_csv.proofs.ResultLemmas.{ok_then}
@@ -12,10 +13,13 @@ returns-clause-contact c =
     let uid = string_bytes c.in_ok-uid.uid in
     let fields = fields_of c.args.row.now in
     let columns = c.args.columns.now.columns in
-    ok_then c.keep_cells.result (λ made keeps. row_kept uid columns fields made c.in_ok-uid.ensures
+    let texts : c.as_slice-texts.result.now ≡ map cell_text fields = c.as_slice-texts.ensures ∙ c.in_ok-cells.ensures in
+    let same : uid ≡ row_uid columns (map cell_text fields) =
+    c.in_ok-uid.ensures ∙ ap (λ cs. row_uid cs c.as_slice-texts.result.now) c.as_slice-names.ensures ∙ ap (row_uid columns) texts in
+    ok_then c.keep_cells.result (λ made keeps. row_kept uid columns fields made same
     (subst (λ count. Keeps uid columns (map cell_text fields) count made) (length-map fields cell_text)
-    (subst (λ texts. Keeps uid columns texts (length texts) made) (c.as_slice-3.ensures ∙ c.in_ok-cells.ensures)
-    (subst (λ cs. Keeps uid cs c.as_slice-3.result.now (length c.as_slice-3.result.now) made) c.as_slice-2.ensures keeps)))) c.keep_cells.ensures
+    (subst (λ ts. Keeps uid columns ts (length ts) made) texts
+    (subst (λ cs. Keeps uid cs c.as_slice-texts.result.now (length c.as_slice-texts.result.now) made) c.as_slice-names.ensures keeps)))) c.keep_cells.ensures
 
 pub returns-clause-upper : goal.returns-clause-upper
 returns-clause-upper c = ok_then c.keep_cells.result (λ made keeps. keeps.begins.upper) c.keep_cells.ensures

@@ -1,8 +1,7 @@
-use Rattle.std.proofs.Common.{◌≡◌, take}
-use Rattle.csv.specs.Records.{fields_of}
-use Rattle.contact_csv.specs.RowUids.{row_octets}
+use Rattle.std.proofs.Common.{◌≡◌, ◌++◌, drop}
+use Rattle.contact_csv.specs.RowUids.{octets_from}
 use Rattle.contact_csv.proofs.uid.row_octets.Given as goal
 
--- the octets of the fields so far
+-- the octets of the cells so far, and then those of the other cells
 abbrev pub invariant-loop-place : goal.invariant-loop-place
-invariant-loop-place l = l.octets.items ≡ row_octets (take l.place (fields_of l.row))
+invariant-loop-place l = l.octets.items ++ octets_from l.fn.columns l.place (drop l.place l.fn.cells) ≡ octets_from l.fn.columns 0 l.fn.cells

@@ -1,8 +1,7 @@
-use Rattle.std.proofs.Common.{rules, inl, inr, arith, refl, sym, ap, subst, ◌∙◌, ◌≡◌, [], ◌∷◌, ◌++◌, List, map, take, length, IsPermutation}
+use Rattle.std.proofs.Common.{rules, inl, inr, arith, refl, ap, subst, ◌∙◌, ◌≡◌, [], ◌∷◌, ◌++◌, map, take, length, IsPermutation}
 use Rattle.std.proofs.Math.Seq.{take-length}
 use Rattle.sqlite.specs.Effect.{Database}
 use Rattle.sqlite.specs.Held.{state}
-use Rattle.sqlite.specs.Order.{Row}
 use Rattle.sqlite.specs.State.{HasCleanDisk, IsUnchanged}
 use Rattle.sqlite.proofs.Callers.{begun_plain, unchanged_then}
 use Rattle.store_tables.specs.Members.{member_cells}
@@ -13,6 +12,7 @@ use Rattle.store_tables.proofs.Queries.{all_members_text}
 use Rattle.store_tables.proofs.ReturningLemmas.{shown_open}
 use Rattle.store_tables.proofs.Texts.{all_members_is}
 use Rattle.store_check.proofs.ScanLemmas.{all_listed}
+use Rattle.store_copy.specs.RowsWithout.{HaveNewIds}
 use Rattle.store_copy.proofs.comparing.holds_members.Goals as goal
 
 pub returns-in_err-rows-clause-reads_only : goal.returns-in_err-rows-clause-reads_only
@@ -28,7 +28,7 @@ rows-init g c =
     let begun = λ (clean : HasCleanDisk new) (has : old.now.schema ≡ book_schema). begun_plain g.S.Store all_members_text [] c.args.conn.now c.in_ok-rows.rows.conn.now (plain_under all_members_text old book_schema has all_members_is.2) (made.begun clean) in (
       refl,
       begun_reads all_members_text [] old new all_members_is.2 (λ clean. elim (made.begun clean) [ inl h ↦ h.1.0.was_open | inr h ↦ shown_open all_members_text [] old new _ h.1 ]) (λ clean has. (begun clean has).1) made.mode made.survives,
-      λ clean has. ([], (begun clean has).0, (begun clean has).1, refl),
+      λ clean has. ([], (begun clean has).0, (begun clean has).1, tt),
     )
 
 pub returns-in_err-row-clause-reads_only : goal.returns-in_err-row-clause-reads_only
@@ -45,8 +45,8 @@ returns-in_default-clause-reads_only g c =
     (λ clean. moved_leaves _ _ c.next.result (c.next.follows.holds-at-none.same clean) (c.next.follows.holds-at-none.kept clean)) c.next.follows.holds-at-none.mode c.next.follows.holds-at-none.survives in
     search rules
 
-pub returns-then-not-is_row_at-clause-reads_only : goal.returns-then-not-is_row_at-clause-reads_only
-returns-then-not-is_row_at-clause-reads_only g c =
+pub returns-then-not-is_new_row_at-clause-reads_only : goal.returns-then-not-is_new_row_at-clause-reads_only
+returns-then-not-is_new_row_at-clause-reads_only g c =
     let looked : OnlyReads (state g.S.Store c.args.conn.now) (state g.S.Store c.next.follows.lender-at-none.conn.now) =
     reads_on (state g.S.Store c.args.conn.now) (state g.S.Store c.rows.rows.conn.now) (state g.S.Store c.next.follows.lender-at-none.conn.now) c.rows.invariant.1
     (λ clean. moved_leaves _ _ c.next.result (c.next.follows.holds-at-none.same clean) (c.next.follows.holds-at-none.kept clean)) c.next.follows.holds-at-none.mode c.next.follows.holds-at-none.survives in
@@ -63,9 +63,11 @@ returns-in_default-clause-same g c clean has ended =
     let listed = all_listed mid new was.0 (ap (λ (d : Database). d.schema) was.2.0.now_is ∙ has) shown in
     let members = c.args.members.now in
     let whole : c.rows.place ≡ length members = search rules in
-    let all : was.0 ≡ members = was.3 ∙ ap (λ n. take n members) whole ∙ take-length members in
-    subst (λ l. IsPermutation (map member_cells ((state g.S.Store c.args.conn.now).now.trees 4)) l) all
-    (subst (λ (d : Database). IsPermutation (map member_cells (d.trees 4)) was.0) was.2.0.now_is listed)
+    let all : take c.rows.place members ≡ members = ap (λ n. take n members) whole ∙ take-length members in (
+      was.0,
+      subst (λ (d : Database). IsPermutation (map member_cells (d.trees 4)) was.0) was.2.0.now_is listed,
+      subst (HaveNewIds 1 5 c.args.left.now was.0) all was.3,
+    )
 
 pub rows-preserved : goal.rows-preserved
 rows-preserved g c =
@@ -75,12 +77,12 @@ rows-preserved g c =
     let new = state g.S.Store c.next.follows.lender-at-none.conn.now in
     let looked : OnlyReads old new = reads_on (state g.S.Store c.args.conn.now) (state g.S.Store c.rows.rows.conn.now) (state g.S.Store c.next.follows.lender-at-none.conn.now) c.rows.invariant.1
     (λ clean. moved_leaves _ _ c.next.result (c.next.follows.holds-at-none.same clean) (c.next.follows.holds-at-none.kept clean)) c.next.follows.holds-at-none.mode c.next.follows.holds-at-none.survives in
-    let next = c.is_row_at.ensures.next c.if-not-is_row_at.false in (
+    let next = c.is_new_row_at.ensures.next c.if-not-is_new_row_at.false in (
       moved.same_reference ∙ c.rows.invariant.0,
       looked,
       λ clean has.
           let was = c.rows.invariant.2 (omega (arith, moved.survives.clean)) has in
           let same : IsUnchanged mid new = rw c.in_ok-row.was at (moved.same clean) in
           let given = (rw (c.in_ok-row.was, c.in-Some.is) at (moved.ok clean)) all_members_text [] was.0 was.1 in
-          (was.0 ++ c.in-Some.row.now ∷ [], given, unchanged_then old mid new was.2 same, ap (λ (l : List Row). l ++ c.in-Some.row.now ∷ []) was.3 ∙ sym next),
+          (was.0 ++ c.in-Some.row.now ∷ [], given, unchanged_then old mid new was.2 same, next was.0 was.3),
     )

@@ -1,9 +1,8 @@
-use Rattle.std.proofs.Common.{IfOk, IsPermutation, IsTrue, map, subst}
+use Rattle.std.proofs.Common.{IfOk, IsTrue, subst}
 use Rattle.sqlite.specs.Held.{state}
-use Rattle.store_tables.specs.Members.{member_cells}
 use Rattle.store_tables.specs.StatementEffects.{GivenTables}
 use Rattle.store_tables.proofs.Lookups.{reads_then}
-use Rattle.store_copy.proofs.CompareLemmas.{holds_all}
+use Rattle.store_copy.proofs.CompareLemmas.{HaveNewMembers, holds_all}
 use Rattle.store_copy.proofs.comparing.holds_rows.Goals as goal
 
 pub returns-clause-reads_only : goal.returns-clause-reads_only
@@ -14,6 +13,6 @@ pub returns-clause-same : goal.returns-clause-same
 returns-clause-same g c =
     let mid = state g.S.Store c.list_others.new.conn in
     let new = state g.S.Store c.holds_members.new.conn in
-    let members = subst (λ l. GivenTables mid new (IfOk c.holds_members.result (λ same. IsTrue same → IsPermutation (map member_cells (mid.now.trees 4)) l))) c.as_slice.ensures.value c.holds_members.ensures.same in
-    holds_all (state g.S.Store c.args.conn.now) mid new c.in_ok-found.found c.args.rows.now c.holds_members.result
-    c.in_ok-found.ensures.unchanged c.holds_members.ensures.reads_only c.in_ok-found.ensures.lists (c.are_same_tables.ensures c.if-not-are_same_tables.false) members
+    let members = subst (λ l. GivenTables mid new (IfOk c.holds_members.result (λ same. IsTrue same → HaveNewMembers c.args.left.now (mid.now.trees 4) l))) c.as_slice.ensures.value c.holds_members.ensures.same in
+    holds_all c.args.left.now (state g.S.Store c.args.conn.now) mid new c.in_ok-found.found c.args.rows.now c.holds_members.result
+    c.in_ok-found.ensures.unchanged c.holds_members.ensures.reads_only c.in_ok-found.ensures.lists (c.have_new_books.ensures c.if-not-have_new_books.false) members

@@ -13,7 +13,7 @@ invariant_of-self g c =
 
 pub returns-clause-holds : goal.returns-clause-holds
 returns-clause-holds g c =
-    confirmed_if (state g.T.Store c.self.inside.conn) (state g.T.Store c.holds_rows.new.conn) c.self.inside.limits c.args.rows.now c.holds_rows.result c.self.invariant.0 c.holds_rows.ensures.reads_only c.holds_rows.ensures.same
+    confirmed_if (state g.T.Store c.self.inside.conn) (state g.T.Store c.holds_rows.new.conn) c.self.inside.limits c.args.left.now c.args.rows.now c.holds_rows.result c.self.invariant.0 c.holds_rows.ensures.reads_only c.holds_rows.ensures.same
 
 pub returns-clause-premise : goal.returns-clause-premise
 returns-clause-premise g c = rw (← c.self.view_is) (read_before (state g.T.Store c.self.inside.conn) (state g.T.Store c.holds_rows.new.conn) c.holds_rows.ensures.reads_only)

@@ -1,15 +1,15 @@
 use Rattle.std.proofs.Common.{◌≡◌, true, subst}
 use Rattle.std.specs.List.{list_any}
 use Rattle.contact_csv.specs.Carrying.{IsCarried, is_date_column, is_date_name}
-use Rattle.contact_csv.proofs.KeepLemmas.{whole_keeps, date_keeps, aside_keeps}
+use Rattle.contact_csv.proofs.KeepLemmas.{report_keeps, date_keeps, aside_keeps}
 use Rattle.contact_csv.proofs.ResultLemmas.{ok_then, ok_both}
 use Rattle.contact_csv.proofs.keeping.Kept.keep_cell.Goals as goal
 
 pub returns-then-branch : goal.returns-then-branch
 returns-then-branch c =
-    whole_keeps c.args.column.now c.args.place c.args.text.now c.args.self.now
+    ok_then c.report_text.result (λ done reports. report_keeps c.args.column.now c.args.place c.args.text.now c.args.self.now c.report_text.new.self
     (subst (λ lines. IsCarried c.args.column.now c.args.place c.args.text.now lines c.args.self.now.changes) c.as_slice-lines.ensures
-    (c.in_ok-is_carried.ensures c.if-branch.true c.args.place c.args.self.now.changes))
+    (c.in_ok-is_carried.ensures c.if-branch.true c.args.place c.args.self.now.changes)) reports) c.report_text.ensures
 
 pub returns-then-is_dated : goal.returns-then-is_dated
 returns-then-is_dated c =

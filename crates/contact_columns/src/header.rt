@@ -1,0 +1,94 @@
+//! Where the header of a file of contacts is, and the delimiter of its cells.
+
+use crate::columns::{read_columns, unread_columns};
+use crate::dates::DateOrder;
+use csv::{ByteRecord, ReaderBuilder};
+use std::alloc::Global;
+use vcard_text::{NoMemory, Text};
+
+/// The header of a file of contacts.
+#[derive(Clone, Copy)]
+pub struct Header {
+    /// The number of octets before it: those of a mark, of a line `sep=;` or of notes.
+    pub start: usize,
+    /// The number of line feeds before it.
+    pub lines: u64,
+    /// The octet between cells.
+    pub delimiter: u8,
+    /// The number of its cells.
+    pub width: usize,
+    /// The order of day and month in the dates below it, if it was found.
+    pub dates: DateOrder,
+}
+
+/// The lines among which the header is looked for.
+const LINES_MAX: u64 = 5;
+
+/// The first row of the octets, with this delimiter.
+fn first_row(alloc: Global, octets: &[u8], delimiter: u8) -> Result<ByteRecord, NoMemory> {
+    let mut reader = ReaderBuilder::new()
+        .has_headers(false)
+        .flexible(true)
+        .delimiter(delimiter)
+        .from_reader(alloc, octets);
+    let mut row = ByteRecord::new(alloc);
+    match reader.read_byte_record(&mut row) {
+        Ok(_) => Ok(row),
+        Err(_) => Err(NoMemory),
+    }
+}
+
+/// The delimiter with which the octets begin with a header of contacts, and the number of its
+/// cells.
+fn header_at(alloc: Global, octets: &[u8]) -> Result<Option<(u8, usize)>, NoMemory> {
+    for delimiter in [b',', b';', b'\t', b'|'] {
+        let row = first_row(alloc, octets, delimiter)?;
+        if read_columns(alloc, &row)?.is_some() {
+            return Ok(Some((delimiter, row.len())));
+        }
+    }
+    Ok(None)
+}
+
+/// The number of octets of the first line.
+fn line_len(octets: &[u8]) -> usize {
+    match octets.iter().position(|octet| *octet == b'\n') {
+        Some(place) => place.saturating_add(1),
+        None => octets.len(),
+    }
+}
+
+/// Finds the header of a file of contacts: in the first line, or after up to four other lines. Its
+/// cells have a comma, a semicolon, a tab or a vertical bar between them. `None` if there is none.
+/// `head` is the beginning of the file, at least to the end of the header. The only `Err` is out of
+/// memory.
+pub fn find_header(alloc: Global, head: &[u8]) -> Result<Option<Header>, NoMemory> {
+    let mut start: usize = 0;
+    for lines in 0..LINES_MAX {
+        let rest = head.get(start..).unwrap_or(&[]);
+        if let Some((delimiter, width)) = header_at(alloc, rest)? {
+            return Ok(Some(Header {
+                start,
+                lines,
+                delimiter,
+                width,
+                dates: DateOrder::Unknown,
+            }));
+        }
+        start = start.saturating_add(line_len(rest));
+    }
+    Ok(None)
+}
+
+/// The columns of the first row that should have addresses of electronic mail or numbers of
+/// telephones by their names, and that aren't known. The only `Err` is out of memory.
+pub fn unknown_columns(alloc: Global, head: &[u8]) -> Result<Text, NoMemory> {
+    let mut names = String::new(alloc);
+    for delimiter in [b',', b';', b'\t', b'|'] {
+        let row = first_row(alloc, head, delimiter)?;
+        if names.is_empty() && row.len() > 1 {
+            names = unread_columns(alloc, &row)?;
+        }
+    }
+    Ok(Text::new(names))
+}

@@ -1,0 +1,162 @@
+//! Where a row of a file ends.
+
+/// The most lines of one cell. A quote that isn't closed before is taken for one that is never
+/// closed.
+const CELL_LINES_MAX: u32 = 200;
+
+/// Where an octet is in a row (RFC 4180).
+#[derive(Clone, Copy, PartialEq, Eq)]
+enum Place {
+    /// At the beginning of a cell.
+    Start,
+    /// In a cell without quotes.
+    Plain,
+    /// In a cell in quotes.
+    Quoted,
+    /// After a quote in such a cell, which closes it unless another one follows.
+    Closed,
+}
+
+/// What the octets before have shown of a row.
+#[derive(Clone, Copy)]
+struct RowScan {
+    place: Place,
+    /// The number of cells that have ended.
+    cells: usize,
+    /// The number of lines of the present cell in quotes.
+    lines: u32,
+    /// Where the first line ends that ends in the present cell in quotes.
+    cell_line: Option<usize>,
+    /// Where the first line ends that ends in any cell in quotes.
+    row_line: Option<usize>,
+}
+
+/// Where the row at the front of some octets ends.
+#[derive(Clone, Copy, PartialEq, Eq)]
+pub(crate) enum RowEnd {
+    /// After this many octets.
+    At(usize),
+    /// A quote isn't closed, or not before text; the line in which it stands has this many octets.
+    Broken(usize),
+    /// A quote isn't closed, or not before text, and no line ends after it.
+    Endless,
+    /// It doesn't end.
+    Unended,
+}
+
+fn is_line_end(octet: u8) -> bool {
+    octet == b'\n' || octet == b'\r'
+}
+
+impl RowScan {
+    fn new() -> RowScan {
+        RowScan {
+            place: Place::Start,
+            cells: 0,
+            lines: 0,
+            cell_line: None,
+            row_line: None,
+        }
+    }
+
+    /// Begins a cell in quotes.
+    fn open(&mut self) {
+        self.place = Place::Quoted;
+        self.lines = 0;
+        self.cell_line = None;
+    }
+
+    /// Begins the next cell.
+    fn next_cell(&mut self) {
+        self.place = Place::Start;
+        self.cells = self.cells.saturating_add(1);
+    }
+
+    /// Notes that a line ends in a cell in quotes. `after` is the place after it.
+    fn end_line(&mut self, after: usize) {
+        self.lines = self.lines.saturating_add(1);
+        self.cell_line = self.cell_line.or(Some(after));
+        self.row_line = self.row_line.or(Some(after));
+    }
+
+    /// Takes an octet of a cell in quotes.
+    fn take_quoted(&mut self, octet: u8, after: usize) {
+        if octet == b'"' {
+            self.place = Place::Closed;
+        } else if octet == b'\n' {
+            self.end_line(after);
+        }
+    }
+
+    /// Whether the octet can't stand where it stands, or its cell has too many lines.
+    fn is_broken_by(&self, delimiter: u8, octet: u8) -> bool {
+        match self.place {
+            Place::Closed => octet != b'"' && octet != delimiter && !is_line_end(octet),
+            Place::Quoted => self.lines >= CELL_LINES_MAX,
+            _ => false,
+        }
+    }
+
+    /// Whether the octet ends the row.
+    fn ends_with(&self, octet: u8) -> bool {
+        self.place != Place::Quoted && is_line_end(octet)
+    }
+
+    /// Takes an octet that ends no row.
+    fn take(&mut self, delimiter: u8, octet: u8, after: usize) {
+        match self.place {
+            Place::Quoted => self.take_quoted(octet, after),
+            Place::Closed if octet == b'"' => self.place = Place::Quoted,
+            Place::Start if octet == b'"' => self.open(),
+            _ => {
+                if octet == delimiter {
+                    self.next_cell();
+                } else {
+                    self.place = Place::Plain;
+                }
+            }
+        }
+    }
+
+    /// The end of a row in which a quote isn't closed: that of the line in which the quote stands.
+    fn broken_end(&self, octets: &[u8], from: usize) -> RowEnd {
+        if let Some(end) = self.cell_line {
+            return RowEnd::Broken(end);
+        }
+        let rest = octets.get(from..).unwrap_or(&[]);
+        match rest.iter().position(|octet| *octet == b'\n') {
+            Some(more) => RowEnd::Broken(from.saturating_add(more).saturating_add(1)),
+            None => RowEnd::Endless,
+        }
+    }
+
+    /// The end of a row that ends after this many octets. One of several lines that hasn't as many
+    /// cells as the header is taken for one with a quote that isn't closed.
+    fn whole_end(&self, width: usize, after: usize) -> RowEnd {
+        match self.row_line {
+            Some(line) if self.cells.saturating_add(1) != width => RowEnd::Broken(line),
+            _ => RowEnd::At(after),
+        }
+    }
+}
+
+/// Where the row at the front of the octets ends. `width` is the number of cells of the header.
+pub(crate) fn row_end(delimiter: u8, width: usize, octets: &[u8]) -> RowEnd {
+    let mut scan = RowScan::new();
+    let mut after: usize = 0;
+    for octet in octets {
+        let octet = *octet;
+        if scan.is_broken_by(delimiter, octet) {
+            return scan.broken_end(octets, after);
+        }
+        after = after.saturating_add(1);
+        if scan.ends_with(octet) {
+            return scan.whole_end(width, after);
+        }
+        scan.take(delimiter, octet, after);
+    }
+    if scan.place == Place::Quoted {
+        return scan.broken_end(octets, after);
+    }
+    RowEnd::Unended
+}

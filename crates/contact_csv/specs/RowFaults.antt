@@ -1,0 +1,24 @@
+-- Why a row isn't converted. This project's own.
+use Rattle.std.specs.Prelude.{ℕ, ◌≡◌, ◌==◌, Bool, true, false, List, [], ◌∷◌}
+use Rattle.std.specs.Prelude.{get_or, length, map, nat_eq}
+use Rattle.std.specs.List.{list_all, list_any, starts_with}
+use Rattle.contact_columns.specs.Cells.{cell_text, is_void}
+use Rattle.contact_columns.specs.declared.columns.Column.{Column}
+
+-- The cell that stands for a row in which a quote isn't closed: a NUL and a quote.
+abbrev pub broken_row : List ℕ
+broken_row = 0 ∷ 34 ∷ []
+
+abbrev pub is_broken : List (List ℕ) → Bool
+is_broken fields = starts_with nat_eq (get_or fields 0 []) broken_row
+
+abbrev pub has_nul : List ℕ → Bool
+has_nul octets = list_any (λ octet. octet == 0) octets
+
+-- no cell has a value
+abbrev pub is_empty_row : List (List ℕ) → Bool
+is_empty_row fields = list_all is_void (map cell_text fields)
+
+-- as many cells as the header
+abbrev pub has_width : List Column → List (List ℕ) → Bool
+has_width columns fields = length fields == length columns

@@ -1,0 +1,85 @@
+//! `RowFault`: why a row isn't converted.
+ghost use Rattle.std.specs.Prelude.{◌≡◌, [], IfSome, get_or, map, true};
+ghost use Rattle.std.specs.List.{list_all};
+ghost use Rattle.csv.specs.Records.{fields_of};
+ghost use Rattle.contact_columns.specs.Cells.{cell_text, is_void};
+ghost use Rattle.contact_csv.specs.Contacts.{IsFaulty};
+ghost use Rattle.contact_csv.specs.RowFaults.{has_nul, has_width, is_broken};
+
+use contact_columns::{Column, is_void, row_field};
+use csv::ByteRecord;
+use vcard_text::{CardFault, Text};
+
+/// Why a row isn't converted.
+#[derive(Clone, Copy)]
+pub enum RowFault {
+    /// No cell has a value.
+    Empty,
+    /// A quote isn't closed, or is followed by other text.
+    Broken,
+    /// The cell at this index has a NUL.
+    Nul(usize),
+    /// It has more or fewer cells than the header.
+    Width,
+    /// Its contact is no card.
+    Card(CardFault),
+}
+
+/// Whether the row stands for one in which a quote isn't closed (see `RowText`).
+fn is_broken(row: &ByteRecord) -> bool
+    ensures { result ≡ is_broken (fields_of row.now) }
+{
+    row_field(row, 0).starts_with(b"\0\"")
+}
+
+fn has_nul(octets: &[u8]) -> bool
+    ensures { result ≡ has_nul octets.now }
+{
+    octets.iter().any(|octet| *octet == 0)
+}
+
+/// The index of a field with a NUL, if there is one.
+fn nul_place(row: &ByteRecord) -> Option<usize>
+    ensures { IfSome result (λ place. has_nul (get_or (fields_of row.now) place []) ≡ true) }
+{
+    for place in 0..row.len() {
+        if has_nul(row_field(row, place)) {
+            return Some(place);
+        }
+    }
+    None
+}
+
+/// Whether no cell has a value.
+pub(crate) fn are_void(cells: &[Text]) -> bool
+    ensures { result ≡ list_all is_void cells.now }
+{
+    cells.iter().all(|cell| is_void(cell.as_str()))
+}
+
+/// Whether the row has as many cells as the header.
+fn has_width(columns: &[Column], row: &ByteRecord) -> bool
+    ensures { result ≡ has_width columns.now (fields_of row.now) }
+{
+    row.len() == columns.len()
+}
+
+/// Why the row isn't converted, whatever its contact is. `cells` are the texts of its cells.
+pub(crate) fn fault_of_row(columns: &[Column], row: &ByteRecord, cells: &[Text]) -> Option<RowFault>
+    requires { cells.now ≡ map cell_text (fields_of row.now) }
+    ensures { IfSome result (IsFaulty columns.now (fields_of row.now)) }
+{
+    if is_broken(row) {
+        return Some(RowFault::Broken);
+    }
+    if let Some(place) = nul_place(row) {
+        return Some(RowFault::Nul(place));
+    }
+    if are_void(cells) {
+        return Some(RowFault::Empty);
+    }
+    if !has_width(columns, row) {
+        return Some(RowFault::Width);
+    }
+    None
+}
