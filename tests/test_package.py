@@ -148,13 +148,17 @@ class Octets(unittest.TestCase):
         self.assertTrue(any(f"logic={logic}" in it for it in named), named)
         self.assertEqual([], load_tool().elf.tools_of(b"#!/bin/sh\n"))
 
-    def test_the_version_is_the_programs_once_it_has_one(self):
+    def test_the_version_is_the_programs(self):
+        own = re.match(r"contacts (\S+)\n", run("--version").out.decode())[1]
+        stem = f"tosculai-{own}-x86_64-linux"
+        self.assertEqual(["SHA256SUMS", f"{stem}.tar.xz", f"{stem}.txt",
+                          f"tosculai_{own}_amd64.deb"],
+                         sorted(it.name for it in FIRST.folder.iterdir()))
         tool = load_tool()
-        more = "\nschema 2\nkit k\n"
-        self.assertEqual("0.9.0", tool.version_of("contacts 0.9.0" + more))
-        self.assertEqual("1.10.2", tool.version_of("contacts 1.10.2" + more))
-        self.assertRegex(tool.version_of("contacts unreleased" + more), r"^\d+\.\d+\.\d+~dev\d+$")
-        for wrong in "contacts", "contacts \n", "contacts 1-2\n", "other 1.0\n":
+        for said in "0.9.0", "1.10.2":
+            self.assertEqual(said, tool.version_of(f"contacts {said}\nschema 2\nkit k\n"))
+        for wrong in "contacts", "contacts \n", "contacts 1-2\n", "contacts unreleased\n", \
+                "other 1.0\n":
             self.assertRaises(ValueError, tool.version_of, wrong)
 
     def test_a_version_without_its_date_in_the_changelog_is_not_packed(self):

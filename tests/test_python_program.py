@@ -16,7 +16,7 @@ from contextlib import redirect_stdout
 from unittest import mock
 
 from http_requests import card
-from program import PATIENCE, Folder, Server, run
+from program import PATIENCE, ROOT, Folder, Server, run
 from python_client import FOLDER, Forwarder, Lossy, run_command
 from test_python_client import ClientTest
 
@@ -348,6 +348,8 @@ class Installed(unittest.TestCase):
             sys.path.insert(0, str(FOLDER / "packaging"))
             import wheels
             name = wheels.build_wheel(str(folder))
+            newest = re.search(r"(?m)^## (\S+) - ", (ROOT / "CHANGELOG.md").read_text())[1]
+            self.assertEqual(f"tosculai_client-{newest}-py3-none-any.whl", name)
             with zipfile.ZipFile(folder / name) as wheel:
                 self.assertIsNone(wheel.testzip())
                 wheel.extractall(folder / "installed")
