@@ -151,10 +151,16 @@ class Files(SocketTest):
         self.assertTrue((self.folder / "b.db").exists())
 
     def test_paths_that_cannot_be(self):
-        for path in "", "none/s", "folder/", "x" * (PATH_MAX + 1):
+        for path in "none/s", "folder/", "x" * (PATH_MAX + 1):
             with self.subTest(path[:20]):
                 self.refused(path)
         self.assertEqual([], [it for it in self.folder.iterdir() if it.name[:4] != "a.db"])
+
+    def test_no_path(self):
+        """An empty path is none: the line of arguments is refused."""
+        ended = self.start("").end()
+        self.assertEqual((2, b""), (ended.status, ended.out))
+        self.assertIn(b"it needs the path of a socket", ended.err)
 
     def test_the_longest_path(self):
         server = self.start("x" * PATH_MAX)
