@@ -9,10 +9,9 @@ ghost use Rattle.store_tables.specs.SchemaCreation.{empty_schema};
 ghost use Rattle.sync_core.specs.StoreModels.{KeepsBooks, KeepsTerms};
 ghost use Rattle.std.specs.Prelude.{◌≡◌, IfOk, OnOk, false};
 
-use crate::files::FileBooks;
+use crate::files::open_standard;
 use crate::schema_creation::is_schema_empty;
 use crate::sql_store::SqlStore;
-use book_model::Limits;
 use sqlite::{Alter, Connection, FileStore, Files};
 use sqlite_disk::Disk;
 use sqlite_std_file::{FileFrom, Unknown};
@@ -139,10 +138,10 @@ pub(crate) fn open_new(
 }
 
 /// Copies the books into the new file of the connection, which needs no log.
-fn fill_new(
+fn fill_new<S: Alter, D: Disk + Drop>(
     rt: &HostRuntime,
-    books: &mut FileBooks,
-    connection: Connection<FileStore<FileFrom<Unknown>>>,
+    books: &mut SqlStore<S>,
+    connection: Connection<FileStore<D>>,
     target: &str,
     log: &str,
 ) -> Result<(), OpenFault>
@@ -160,23 +159,36 @@ fn fill_new(
     }
 }
 
-/// Copies the books of the file at the path into a new file.
-fn copy_to_new(
+/// The same, unless the file has tables.
+fn fill_if_empty<S: Alter, D: Disk + Drop>(
     rt: &HostRuntime,
-    books: &mut FileBooks,
-    path: &str,
+    books: &mut SqlStore<S>,
+    connection: Connection<FileStore<D>>,
     target: &str,
     log: &str,
-) -> Result<(), OpenFault> {
-    let connection = open_new(rt, path, target, log)?;
+) -> Result<(), OpenFault>
+    requires { connection.in_transaction ≡ false }
+{
     if !is_schema_empty(connection.schema()) {
         return Err(OpenFault::NotEmpty);
     }
     fill_new(rt, books, connection, target, log)
 }
 
+/// Copies the books of the file at the path into a new file.
+fn copy_to_new<S: Alter>(
+    rt: &HostRuntime,
+    books: &mut SqlStore<S>,
+    path: &str,
+    target: &str,
+    log: &str,
+) -> Result<(), OpenFault> {
+    let connection = open_new(rt, path, target, log)?;
+    fill_if_empty(rt, books, connection, target, log)
+}
+
 /// The number of the books.
-fn book_count(books: &mut FileBooks) -> Result<u64, OpenFault> {
+fn book_count<S: Alter>(books: &mut SqlStore<S>) -> Result<u64, OpenFault> {
     match books.books() {
         Ok(lines) => Ok(lines.len() as u64),
         Err(_) => Err(OpenFault::Store),
@@ -184,9 +196,9 @@ fn book_count(books: &mut FileBooks) -> Result<u64, OpenFault> {
 }
 
 /// Copies the books of the file at the path into a new file, and returns their number.
-fn copy_books(
+fn copy_books<S: Alter>(
     rt: &HostRuntime,
-    books: &mut FileBooks,
+    books: &mut SqlStore<S>,
     path: &str,
     target: &str,
     log: &str,
@@ -223,7 +235,23 @@ pub(crate) fn forget_log(rt: &HostRuntime, had_log: bool, log: &str) {
     }
 }
 
-/// Opens the file at the path, and copies its books. Leaves no log that the opening made.
+/// Copies the books of the file at the path, which is open. Leaves no log that the opening made.
+fn copy_held<S: Alter + Drop>(
+    rt: &HostRuntime,
+    books: SqlStore<S>,
+    path: &str,
+    had_log: bool,
+    old_log: &str,
+    target: &str,
+    log: &str,
+) -> Result<u64, OpenFault> {
+    let mut books = books;
+    let copied = copy_books(rt, &mut books, path, target, log);
+    forget_log(rt, had_log, old_log);
+    copied
+}
+
+/// Opens the file at the path, and copies its books.
 fn copy_opened(
     rt: &HostRuntime,
     path: &str,
@@ -232,10 +260,8 @@ fn copy_opened(
     log: &str,
 ) -> Result<u64, OpenFault> {
     let had_log = fs::exists(rt, old_log).unwrap_or(true);
-    let mut books = SqlStore::open(rt, path, Limits::standard())?;
-    let copied = copy_books(rt, &mut books, path, target, log);
-    forget_log(rt, had_log, old_log);
-    copied
+    let books = open_standard(rt, path)?;
+    copy_held(rt, books, path, had_log, old_log, target, log)
 }
 
 impl SqlStore<FileStore<FileFrom<Unknown>>> {

@@ -12,10 +12,10 @@ ghost use Rattle.std.specs.Prelude.{◌≡◌, ◌≤◌, IfOk, OnOk, false};
 
 use crate::closing::{check_both_free, forget_log, log_of, open_new, remove_new};
 use crate::copy_fault::{CopyFault, fault_of};
-use crate::files::FileBooks;
+use crate::files::open_standard;
 use crate::sql_store::SqlStore;
 use base_types::Text;
-use book_model::{Limits, Refusal};
+use book_model::Refusal;
 use sqlite::{Alter, Connection, FileStore, Files};
 use sqlite_disk::Disk;
 use sqlite_std_file::{FileFrom, Unknown};
@@ -89,7 +89,7 @@ impl<S: Alter> SqlStore<S> {
 
 /// Refused with `NoSuchBook` if a name isn't that of a book. `copy_without` tests it too, but then
 /// there is a new file.
-fn check_names(books: &mut FileBooks, names: &[Text]) -> Result<(), CopyFault> {
+fn check_names<S: Alter>(books: &mut SqlStore<S>, names: &[Text]) -> Result<(), CopyFault> {
     for name in names {
         match books.book(name.as_str()) {
             Ok(_line) => {}
@@ -107,19 +107,31 @@ fn are_same_file(rt: &HostRuntime, a: &str, b: &str) -> bool {
     }
 }
 
+/// Copies the books but those with these names into the file of the connection, and returns their
+/// number.
+fn fill_opened<S: Alter, D: Disk + Drop>(
+    books: &mut SqlStore<S>,
+    names: &[Text],
+    connection: Connection<FileStore<D>>,
+) -> Result<u64, CopyFault>
+    requires { connection.in_transaction ≡ false }
+{
+    let (_files, count) = books.copy_without(names, connection)?;
+    Ok(count)
+}
+
 /// Copies the books but those with these names into a new file at `making`, with the mode of the
 /// file at the path, and returns their number. An error may leave that file.
-fn fill_new(
+fn fill_new<S: Alter>(
     rt: &HostRuntime,
-    books: &mut FileBooks,
+    books: &mut SqlStore<S>,
     names: &[Text],
     path: &str,
     making: &str,
     log: &str,
 ) -> Result<u64, CopyFault> {
     let connection = open_new(rt, path, making, log)?;
-    let (_files, count) = books.copy_without(names, connection)?;
-    Ok(count)
+    fill_opened(books, names, connection)
 }
 
 /// Gives the finished file its name, without its log. After an error nothing is at either name.
@@ -136,9 +148,9 @@ fn name_new(rt: &HostRuntime, making: &str, log: &str, target: &str) -> Result<(
 
 /// Makes the file at `making`, and then gives it the name `target`. After an error nothing is at
 /// either name.
-fn make_file(
+fn make_file<S: Alter>(
     rt: &HostRuntime,
-    books: &mut FileBooks,
+    books: &mut SqlStore<S>,
     names: &[Text],
     path: &str,
     making: &str,
@@ -161,9 +173,9 @@ fn make_file(
 }
 
 /// Tests the names, and makes the file.
-fn copy_rest(
+fn copy_rest<S: Alter>(
     rt: &HostRuntime,
-    books: &mut FileBooks,
+    books: &mut SqlStore<S>,
     names: &[Text],
     path: &str,
     making: &str,
@@ -173,7 +185,24 @@ fn copy_rest(
     make_file(rt, books, names, path, making, target)
 }
 
-/// Opens the file at the path, and makes the new one. Leaves no log that the opening made.
+/// Makes the new file. Leaves no log that the opening of the old one made.
+fn copy_held<S: Alter + Drop>(
+    rt: &HostRuntime,
+    books: SqlStore<S>,
+    path: &str,
+    had_log: bool,
+    old_log: &str,
+    names: &[Text],
+    making: &str,
+    target: &str,
+) -> Result<u64, CopyFault> {
+    let mut books = books;
+    let copied = copy_rest(rt, &mut books, names, path, making, target);
+    forget_log(rt, had_log, old_log);
+    copied
+}
+
+/// Opens the file at the path, and makes the new one.
 fn copy_opened(
     rt: &HostRuntime,
     path: &str,
@@ -183,10 +212,8 @@ fn copy_opened(
     target: &str,
 ) -> Result<u64, CopyFault> {
     let had_log = fs::exists(rt, old_log).unwrap_or(true);
-    let mut books = SqlStore::open(rt, path, Limits::standard())?;
-    let copied = copy_rest(rt, &mut books, names, path, making, target);
-    forget_log(rt, had_log, old_log);
-    copied
+    let books = open_standard(rt, path)?;
+    copy_held(rt, books, path, had_log, old_log, names, making, target)
 }
 
 /// Makes the new file by way of `making`, which must not be the old one.

@@ -107,15 +107,24 @@ fn copy_whole(rt: &HostRuntime, from: &str, to: &str) -> io::Result<()> {
     fs::File::open(rt, to)?.sync_all()
 }
 
+/// Whether the file could be copied so.
+fn is_copied(rt: &HostRuntime, from: &str, to: &str) -> bool {
+    copy_whole(rt, from, to).is_ok()
+}
+
+/// Copies the file to the name `part`, and then gives the copy its own name.
+fn copy_by(rt: &HostRuntime, from: &str, part: &str, to: &str) -> Result<(), Stop> {
+    if !is_copied(rt, from, part) {
+        let _removed = remove(rt, part);
+        return Err(Stop::Device);
+    }
+    on_device(fs::rename(rt, part, to))
+}
+
 /// Copies the file. The copy has its name once it is whole.
 pub(crate) fn copy_synced(rt: &HostRuntime, from: &str, to: &str) -> Result<(), Stop> {
     let part = format!(in rt.alloc(); "{to}.part")?;
-    let copied = copy_whole(rt, from, part.as_str());
-    if copied.is_err() {
-        let _removed = remove(rt, part.as_str());
-        return Err(Stop::Device);
-    }
-    on_device(fs::rename(rt, part.as_str(), to))
+    copy_by(rt, from, part.as_str(), to)
 }
 
 /// Waits until the disk has the names in the file's folder, as far as the system can.

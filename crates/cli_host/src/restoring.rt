@@ -61,16 +61,32 @@ fn hold_unread(rt: &HostRuntime, file: &str, fault: OpenFault) -> Result<Old, St
     }
 }
 
+/// Opens the store in the file. Its callers need none of the contract of `open`.
+fn open_store(rt: &HostRuntime, file: &str) -> Result<FileBooks, OpenFault> {
+    SqlStore::open(rt, file, Limits::standard())
+}
+
+/// The books of the store.
+fn list_books<S: BookStore>(store: &mut S) -> Result<Vec<BookLine>, Stop> {
+    Ok(store.books()?)
+}
+
+/// The same. Returns the store, too.
+fn list_all<S: BookStore + Drop>(store: S) -> Result<(S, Vec<BookLine>), Stop> {
+    let mut store = store;
+    let books = list_books(&mut store)?;
+    Ok((store, books))
+}
+
 /// The store that is to be replaced, with its books.
 fn read_books(store: FileBooks) -> Result<Old, Stop> {
-    let mut store = store;
-    let books = store.books()?;
+    let (store, books) = list_all(store)?;
     Ok(Old::Read(store, books))
 }
 
 /// Opens the file that is to be replaced.
 fn read_old(rt: &HostRuntime, file: &str) -> Result<Old, Stop> {
-    match SqlStore::open(rt, file, Limits::standard()) {
+    match open_store(rt, file) {
         Ok(store) => read_books(store),
         Err(fault) => hold_unread(rt, file, fault),
     }
@@ -152,22 +168,22 @@ fn make_missing<S: BookStore>(
 
 /// So many pairs that each book's numbers pass those of the old file's, so also those that an
 /// earlier restore or resync took.
-fn enough_pairs(store: &mut FileBooks, old: &[BookLine], pairs: u64) -> Result<u64, Stop> {
-    let books = store.books()?;
+fn enough_pairs<S: BookStore>(store: &mut S, old: &[BookLine], pairs: u64) -> Result<u64, Stop> {
+    let books = list_books(store)?;
     Ok(pairs_past(old, books.as_slice(), pairs))
 }
 
 /// Makes every device start again.
-fn resync_past(store: &mut FileBooks, old: &[BookLine], pairs: u64) -> Result<u64, Stop> {
+fn resync_past<S: AdminStore>(store: &mut S, old: &[BookLine], pairs: u64) -> Result<u64, Stop> {
     let past = enough_pairs(store, old, pairs)?;
     let count = store.resync_books(past)?;
     Ok(count)
 }
 
 /// Creates the missing books, and makes every device start again.
-fn renew_books(
+fn renew_books<S: AdminStore>(
     alloc: Global,
-    store: &mut FileBooks,
+    store: &mut S,
     old: &[BookLine],
     pairs: u64,
 ) -> Result<Renewed, Stop> {
@@ -176,9 +192,26 @@ fn renew_books(
     Ok((made, count))
 }
 
-/// Closes the store, whose file then needs no log, and removes the log.
+/// Renews the books of the store, and returns it.
+fn renew_all<S: AdminStore + Drop>(
+    alloc: Global,
+    store: S,
+    old: &[BookLine],
+    pairs: u64,
+) -> Result<(S, Renewed), Stop> {
+    let mut store = store;
+    let renewed = renew_books(alloc, &mut store, old, pairs)?;
+    Ok((store, renewed))
+}
+
+/// Closes the store, whose file then needs no log.
+fn close_store(store: FileBooks) -> Result<HeldFiles, Stop> {
+    Ok(store.close()?)
+}
+
+/// The same, and removes the log.
 fn close_alone(rt: &HostRuntime, store: FileBooks, file: &str) -> Result<(), Stop> {
-    let _files = store.close()?;
+    let _files = close_store(store)?;
     remove_log(rt, file)
 }
 
@@ -190,15 +223,14 @@ fn renew_store(
     old: &[BookLine],
     pairs: u64,
 ) -> Result<Renewed, Stop> {
-    let mut store = store;
-    let renewed = renew_books(rt.alloc(), &mut store, old, pairs)?;
+    let (store, renewed) = renew_all(rt.alloc(), store, old, pairs)?;
     close_alone(rt, store, fresh)?;
     Ok(renewed)
 }
 
 /// Renews the books of the new file.
 fn renew(rt: &HostRuntime, fresh: &str, old: &[BookLine], pairs: u64) -> Result<Renewed, Stop> {
-    let store: FileBooks = SqlStore::open(rt, fresh, Limits::standard())?;
+    let store = open_store(rt, fresh)?;
     renew_store(rt, store, fresh, old, pairs)
 }
 
@@ -247,7 +279,7 @@ fn replace_read(
     file: &str,
 ) -> Result<Items<Text>, Stop> {
     // Held until the new file is in its place, so that no server opens the old one.
-    let _files = store.close()?;
+    let _files = close_store(store)?;
     replace_alone(rt, fresh, file)
 }
 

@@ -6,11 +6,14 @@
 mod streams;
 
 use base_types::Text;
+use book_http::Listener;
 use cli_args::{LineFault, Order};
 use cli_convert::{RowsOutlet, Wanted, run_convert};
-use cli_host::{note_waiting, order_of_args, run_and_report};
+use cli_host::{AdminStore, Host, note_waiting, order_of_args, run_and_report};
+use hub_server::Endpoint;
+use std::alloc::Global;
 use std::env;
-use std::io::IsTerminal;
+use std::io::{IsTerminal, Read, Write};
 use std::process::ExitCode;
 use streams::hold_streams;
 
@@ -42,6 +45,27 @@ fn conversion_of(order: &Result<Order, LineFault>) -> Option<Wanted<'_>> {
     }
 }
 
+/// Runs the order on the host, reports a stop, and returns the exit status. (In `main` the prover
+/// would spell out the whole contract of `run_and_report` over files and sockets.)
+fn run_on<
+    S: AdminStore + Drop,
+    P: Endpoint,
+    L: Listener + Drop,
+    M: Host<S, P, L>,
+    R: Read,
+    W: Write,
+    E: Write,
+>(
+    alloc: Global,
+    host: &mut M,
+    order: Result<Order, LineFault>,
+    reader: &mut R,
+    writer: &mut W,
+    errors: &mut E,
+) -> u8 {
+    run_and_report(alloc, host, order, reader, writer, errors).status
+}
+
 fn main(rt: HostRuntime) -> ExitCode {
     // Before anything is opened, so that no file or socket gets the number of a stream.
     hold_streams(&rt);
@@ -56,7 +80,7 @@ fn main(rt: HostRuntime) -> ExitCode {
     // Nothing depends on this line, so a standard error that fails changes nothing.
     let _noted = note_waiting(rt.stdin().is_terminal(), &order, &mut rt.stderr());
     let mut host = rt;
-    let exit = run_and_report(
+    let status = run_on(
         rt.alloc(),
         &mut host,
         order,
@@ -64,5 +88,5 @@ fn main(rt: HostRuntime) -> ExitCode {
         &mut rt.stdout(),
         &mut rt.stderr(),
     );
-    ExitCode::from(exit.status)
+    ExitCode::from(status)
 }
