@@ -86,13 +86,15 @@ class Convert(OrderTest):
 
     def test_cards(self):
         for title, lines, wanted, report in CARDS:
-            for end in "\r\n", "\n":
+            for end in "\r\n", "\n", "\r":
                 with self.subTest(title, end=end):
                     octets = octets_of(text(lines, end))
                     ended = self.convert(octets)
                     rows = rows_of(ended.out)
                     self.assertEqual(1, len(rows), ended)
-                    uid = "UID:" + added_uid(octets)
+                    # A carriage return that ends lines is read as a line feed.
+                    read = octets.replace(b"\r", b"\n") if end == "\r" else octets
+                    uid = "UID:" + added_uid(read)
                     made = card("4.0", *(uid if it == ADDED_UID else it for it in wanted))
                     self.assertEqual(made, unfolded(rows[0][1].encode()))
                     lines_of_report = [f"card 1, {line}\n" for line in report]
@@ -107,6 +109,11 @@ class Convert(OrderTest):
             ("UTF-8 with its mark", b"\xef\xbb\xbf" + text(lines).encode()),
             ("UTF-16, low octet first", b"\xff\xfe" + text(lines).encode("utf-16-le")),
             ("UTF-16, high octet first", b"\xfe\xff" + text(lines).encode("utf-16-be")),
+            ("UTF-16 without a mark, low octet first", text(lines).encode("utf-16-le")),
+            ("UTF-16 without a mark, high octet first", text(lines).encode("utf-16-be")),
+            ("UTF-16 whose lines end with CR alone", text(lines, "\r").encode("utf-16")),
+            ("UTF-8 with its mark, lines that end with CR alone",
+             b"\xef\xbb\xbf" + text(lines, "\r").encode()),
             ("Latin-1", text(lines).encode("latin-1")),
         ]:
             with self.subTest(title):
