@@ -9,6 +9,7 @@ use Rattle.vcard_text.specs.FirstFaults.{is_group}
 use Rattle.vcard_text.specs.Making.{upper_lines}
 use Rattle.vcard_text.specs.MakingSteps.{check_lines_after}
 use Rattle.vcard_import.specs.Conversions.{Become}
+use Rattle.vcard_import.specs.LeftOut.{has_left_out}
 use Rattle.vcard_import.specs.declared.card_lines.CardLines.{CardLines}
 use Rattle.vcard_import.specs.declared.rules.Reading.{Reading}
 use Rattle.vcard_import.specs.declared.rules.Seen.{Seen}
@@ -51,12 +52,14 @@ pub record Makes (raws : List RawLine) (made : CardLines) : Type 0 where
   pub seen : IsSeen made.seen made.lines
 
 -- The logical lines were read after others: they become the lines that were added. The first UID
--- stays if none of them may be the card's.
+-- stays if none of them may be the card's; no line is left out if none may be.
 pub record Extends (reading : Reading) (raws : List RawLine) (start end : CardLines) : Type 0 where
   pub makes : (before : List RawLine) → Makes before start → Makes (before ++ raws) end
   pub uid : reading.takes_uid ≡ false → found_uid end.lines ≡ found_uid start.lines
   pub members : reading.keeps_members ≡ false → has_line_named (codes "MEMBER") start.lines ≡ false
       → has_line_named (codes "MEMBER") end.lines ≡ false
+  pub whole : reading.leaves_out ≡ false → has_left_out start.changes ≡ false
+      → has_left_out end.changes ≡ false
 
 -- the lines are a card but perhaps for their length
 pub record AreFaultless (lines : List Line) : Type 0 where

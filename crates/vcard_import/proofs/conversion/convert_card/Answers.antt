@@ -10,5 +10,6 @@ pub returns-in-Err : goal.returns-in-Err
 returns-in-Err c = record {
   same = λ lines spells n. absurd (err_is_no_ok c.in-Err.field-0 lines (c.in-Err.ensures.every lines spells (search rules)));
   converted = ok_either c.args.octets.now c.convert_refused.result c.convert_refused.ensures.converted;
+  left_out = c.convert_refused.ensures.left_out;
   refused = c.convert_refused.ensures.refused;
 }
