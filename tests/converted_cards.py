@@ -114,8 +114,9 @@ CARDS = [
          "item1.ADR;TYPE=dom,work;LABEL=\"W2^nTown\":;;w2;;;;",
          "ADR;TYPE=work;LABEL=own:;;w3;;;;", "ADR;TYPE=work;LABEL=\"W3\":;;;;;;",
          "ADR;LABEL=\"O\":;;;;;;"],
-        ["line 5: LABEL joined to its ADR", "line 6: ADR rewritten", "line 7: ADR rewritten",
-         "line 8: ADR rewritten", "line 10: LABEL joined to its ADR",
+        ["line 5: LABEL joined to its ADR", "line 6: ADR given a LABEL",
+         "line 7: ADR given a LABEL", "line 8: ADR given a LABEL",
+         "line 10: LABEL joined to its ADR",
          "line 11: LABEL joined to its ADR", "line 12: LABEL renamed", "line 13: LABEL renamed"],
     ),
     Converted(
@@ -235,7 +236,7 @@ CARDS = [
          "ORG:Müller\\, Ltd",
          "NOTE:C:\\\\temp", "X-ANDROID-CUSTOM:vnd.android.cursor.item/nickname;Bo;1;;", "UID:a",
          "FN:Bo Kim"],
-        ["line 4: ADR rewritten", "line 5: LABEL joined to its ADR", "line 6: ORG rewritten",
+        ["line 4: ADR given a LABEL", "line 5: LABEL joined to its ADR", "line 6: ORG rewritten",
          "line 7: NOTE rewritten", "line 1: FN added"],
     ),
     Converted(

@@ -109,6 +109,7 @@ fn change_words(alloc: Global, at: &mut Reported<'_>, change: &Change) -> Result
         ChangeKind::Added => added_words(alloc, at),
         ChangeKind::Joined => Ok(format!(in alloc; "{name} joined to its ADR")?),
         ChangeKind::LeftOut => Ok(format!(in alloc; "{name} left out")?),
+        ChangeKind::Labelled => Ok(format!(in alloc; "{name} given a LABEL")?),
     }
 }
 

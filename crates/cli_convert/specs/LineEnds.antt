@@ -6,8 +6,8 @@ use Rattle.base_types.specs.Octets.{carriage_return, line_feed}
 abbrev pub line_end : ℕ → ℕ
 line_end octet = if octet == carriage_return then line_feed else octet
 
--- The octets of a file as its lines are read. If each line ends with a carriage return alone, as the
--- flag says, that is a line feed.
+-- The octets of a file as its lines are read. If each line ends with a carriage return alone, as
+-- the flag says, that is a line feed.
 abbrev pub with_line_feeds : Bool → List ℕ → List ℕ
 with_line_feeds true octets = map line_end octets
 with_line_feeds false octets = octets

@@ -4,10 +4,10 @@ use Rattle.std.proofs.lemmas.List.{append-nil}
 use Rattle.import_text.specs.declared.raw_line.RawLine.{RawLine}
 use Rattle.vcard_lines.specs.declared.line.Line.{Line}
 use Rattle.vcard_import.specs.declared.change.Change.{Change}
-use Rattle.vcard_property.specs.Kinds.{fits_kind}
 use Rattle.vcard_property.specs.SameLines.{AreLine}
 use Rattle.vcard_import.specs.Conversions.{Become}
 use Rattle.vcard_import.specs.Delimiters.{is_delimiter}
+use Rattle.vcard_import.specs.Labels.{fits}
 use Rattle.vcard_import.specs.LeftOut.{may_go}
 
 more : (raws : List RawLine) (raw : RawLine) (line : List Line) (change : List Change) → Become (raw ∷ []) line change → (card : List Line) (changes : List Change) → Become raws card changes → Become (raws ++ raw ∷ []) (card ++ line) (changes ++ change)
@@ -51,7 +51,7 @@ pub kept : (raws : List RawLine) (raw : RawLine) (card : List Line) (changes : L
 kept raws raw card changes line same b = subst (λ c. Become (raws ++ raw ∷ []) (card ++ line ∷ []) c) (append-nil changes)
     (more raws raw (line ∷ []) [] (inr (inl (record { line = line; others = []; card_is = refl; same = same; rest = (refl, refl) }))) card changes b)
 
-pub changed : (raws : List RawLine) (raw : RawLine) (card : List Line) (changes : List Change) (line : Line) (change : Change) → (AreLine raw.octets line → ⊥) → change.place ≡ raw.place → fits_kind change.kind line.name ≡ true → Become raws card changes → Become (raws ++ raw ∷ []) (card ++ line ∷ []) (changes ++ change ∷ [])
+pub changed : (raws : List RawLine) (raw : RawLine) (card : List Line) (changes : List Change) (line : Line) (change : Change) → (AreLine raw.octets line → ⊥) → change.place ≡ raw.place → fits change.kind line ≡ true → Become raws card changes → Become (raws ++ raw ∷ []) (card ++ line ∷ []) (changes ++ change ∷ [])
 changed raws raw card changes line change differs place kind b =
     more raws raw (line ∷ []) (change ∷ []) (inr (inr (inl (record { line = line; others = []; card_is = refl; differs = differs; change = change; more = []; changes_are = refl; place = place; kind = kind; rest = (refl, refl) })))) card changes b
 

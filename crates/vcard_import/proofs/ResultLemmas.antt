@@ -33,7 +33,7 @@ err_is_no_ok fault lines e = absurd (false≢true (ap tells_ok e))
 pub same_ok : (a b : List Line) → ok_lines a ≡ ok_lines b → a ≡ b
 same_ok a b e = ap lines_in e
 
-pub ok_either : (octets : List ℕ) (made : Result Conversion ImportFault) → IfOk made (λ m. IsConverted octets m.card m.changes) → IfOk made (λ m. Spells octets m.card ⊎ IsConverted octets m.card m.changes)
+pub ok_either : (octets : List ℕ) (made : Result Conversion ImportFault) → IfOk made (λ m. IsConverted octets m.card m.changes) → IfOk made (λ m. (Spells octets m.card × (m.changes ≡ [])) ⊎ IsConverted octets m.card m.changes)
 ok_either octets (Ok m) q = inr q
 ok_either octets (Err fault) q = tt
 

@@ -9,13 +9,13 @@ use Rattle.vcard_lines.specs.declared.line.Line.{Line}
 use Rattle.vcard_text.specs.Cards.{has_line_named, uid_of}
 use Rattle.vcard_text.specs.Making.{upper_lines, AreTooLongCardLines}
 use Rattle.vcard_text.specs.Spelling.{without_bom}
-use Rattle.vcard_property.specs.Kinds.{fits_kind}
 use Rattle.vcard_property.specs.Lines.{plain_line}
 use Rattle.vcard_property.specs.SameLines.{AreLine, has_encoding}
 use Rattle.vcard_property.specs.declared.change_kind.ChangeKind.TheVariants.{Added}
 use Rattle.vcard_import.specs.Delimiters.{is_delimiter}
 use Rattle.vcard_import.specs.DerivedUid.{derived_uid}
 use Rattle.vcard_import.specs.FirstUid.{first_uid}
+use Rattle.vcard_import.specs.Labels.{HaveAddresses, fits}
 use Rattle.vcard_import.specs.LeftOut.{has_left_out, may_go}
 use Rattle.vcard_import.specs.Versions.{version_of, folding_of}
 use Rattle.vcard_import.specs.declared.change.Change.{Change}
@@ -37,8 +37,8 @@ pub record IsKept (octets : List ℕ) (Rest : List Line → Type 0) (card : List
   pub rest : Rest others
 
 -- The first line of the card isn't what the octets of the logical line spell, and the first change
--- is at the place of that logical line, of a kind that fits the line's name. The rest holds for the
--- other lines and changes.
+-- is at the place of that logical line, of a kind that fits the line. The rest holds for the other
+-- lines and changes.
 pub record IsChanged (raw : RawLine) (Rest : List Line → List Change → Type 0)
     (card : List Line) (changes : List Change) : Type 0 where
   pub line : Line
@@ -49,7 +49,7 @@ pub record IsChanged (raw : RawLine) (Rest : List Line → List Change → Type 
   pub more : List Change
   pub changes_are : changes ≡ change ∷ more
   pub place : change.place ≡ raw.place
-  pub kind : fits_kind change.kind line.name ≡ true
+  pub kind : fits change.kind line ≡ true
   pub rest : Rest others more
 
 -- The logical line is a label, a picture or a sound without a line of its own. The first change is
@@ -99,12 +99,14 @@ abbrev pub card_raw_lines : List ℕ → List RawLine
 card_raw_lines octets = raw_lines (folding_of (version_of octets)) (without_bom octets)
 
 -- The lines are those that the logical lines of the octets become, and then the FN and the UID that
--- they lack. The changes are those of these lines, and then one for each line that was added. The
--- first legal UID that a logical line spells is the card's UID, if one does.
+-- they lack. The changes are those of these lines, and then one for each line that was added. For
+-- each label that is joined an address got one. The first legal UID that a logical line spells is
+-- the card's UID, if one does.
 pub record IsConverted (octets : List ℕ) (card : List Line) (changes : List Change) : Type 0 where
   pub lines : List Line
   pub reported : List Change
   pub become : Become (card_raw_lines octets) lines reported
+  pub labels : HaveAddresses reported
   pub name : List ℕ
   pub card_is : card ≡ lines ++ missing_lines octets name lines
   pub changes_are : changes ≡ reported ++ map addition (missing_lines octets name lines)

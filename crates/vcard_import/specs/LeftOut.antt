@@ -9,6 +9,7 @@ use Rattle.vcard_property.specs.declared.change_kind.ChangeKind.{ChangeKind}
 use Rattle.vcard_property.specs.declared.change_kind.ChangeKind.TheVariants.{Rewritten, Renamed}
 use Rattle.vcard_property.specs.declared.change_kind.ChangeKind.TheVariants.{KeptAside, Unreadable}
 use Rattle.vcard_property.specs.declared.change_kind.ChangeKind.TheVariants.{Added, Joined, LeftOut}
+use Rattle.vcard_property.specs.declared.change_kind.ChangeKind.TheVariants.{Labelled}
 use Rattle.vcard_import.specs.declared.change.Change.{Change}
 
 -- the head of the logical line has the name of a property with pictures or sounds
@@ -25,6 +26,7 @@ may_go Unreadable raw = false
 may_go Added raw = false
 may_go Joined raw = is_encoded_as (codes "LABEL") raw.octets
 may_go LeftOut raw = is_media raw
+may_go Labelled raw = false
 
 abbrev pub says_left_out : ChangeKind → Bool
 says_left_out Rewritten = false
@@ -34,6 +36,7 @@ says_left_out Unreadable = false
 says_left_out Added = false
 says_left_out Joined = false
 says_left_out LeftOut = true
+says_left_out Labelled = false
 
 -- the change says that a line is left out
 abbrev pub is_left_out : Change → Bool

@@ -3,16 +3,17 @@ ghost use Rattle.std.specs.Prelude.{◌≡◌, ◌∷◌, ◌++◌, [], true, fa
 ghost use Rattle.std.specs.Prelude.{◌<◌, codes, length, None};
 ghost use Rattle.vcard_lines.specs.declared.line.Line.{Line};
 ghost use Rattle.vcard_text.specs.Cards.{IsProperLine, has_line_named};
-ghost use Rattle.vcard_property.specs.Kinds.{fits_kind};
 ghost use Rattle.vcard_property.specs.Lines.{IsUidLine};
 ghost use Rattle.vcard_import.specs.FirstUid.{first_uid};
+ghost use Rattle.vcard_import.specs.Labels.{HaveAddresses, fits, says_joined};
 ghost use Rattle.vcard_import.specs.LeftOut.{has_left_out, may_go, says_left_out};
 ghost use Rattle.vcard_import.specs.internal.Steps.{Makes, Extends, breaks_rule, found_uid};
-ghost use Rattle.vcard_import.specs.internal.Steps.{has_stray_members};
+ghost use Rattle.vcard_import.specs.internal.Steps.{has_joined, has_stray_members};
 
 use crate::change::Change;
 use crate::delimiters::{begins_card, is_delimiter};
 use crate::first_uid::{UidLine, first_uid};
+use crate::joined::have_addresses;
 use crate::labels::{Labelling, is_label, labels_of};
 use crate::left_out::may_be_left_out;
 use crate::parsed_name::{is_empty_name, name_for_empty};
@@ -32,7 +33,8 @@ pub(crate) struct CardLines {
     pub(crate) seen: Seen,
 }
 
-/// The line for the octets of a logical line, with its label if it gets one.
+/// The line for the octets of a logical line, with its label if it is an address that gets one, and
+/// what became of it.
 fn labelled_line(
     alloc: Global,
     octets: &[u8],
@@ -40,16 +42,15 @@ fn labelled_line(
     label: Option<&Labelling>,
 ) -> Result<(Line, ChangeKind), NoMemory>
     ensures proper { IfOk result (λ made. IsProperLine made.0) }
-    ensures kind { IfOk result (λ made. fits_kind made.1 made.0.name ≡ true) }
+    ensures kind { IfOk result (λ made. fits made.1 made.0 ≡ true) }
 {
     let (line, kind) = convert_line(alloc, octets, version)?;
-    match label {
-        Some(Labelling::Gets(text)) => {
-            let line = with_label(alloc, line, text.as_str())?;
-            Ok((line, ChangeKind::Rewritten))
+    if let Some(Labelling::Gets(text)) = label {
+        if let Some(labelled) = with_label(alloc, &line, text.as_str())? {
+            return Ok((labelled, ChangeKind::Labelled));
         }
-        _ => Ok((line, kind)),
     }
+    Ok((line, kind))
 }
 
 /// The line for the octets of a logical line after the others, and what became of it. An empty FN
@@ -63,7 +64,7 @@ fn line_after(
     label: Option<&Labelling>,
 ) -> Result<(Line, ChangeKind), NoMemory>
     ensures proper { IfOk result (λ made. IsProperLine made.0) }
-    ensures kind { IfOk result (λ made. fits_kind made.1 made.0.name ≡ true) }
+    ensures kind { IfOk result (λ made. fits made.1 made.0 ≡ true) }
     ensures allowed { IfOk result (λ made. breaks_rule seen reading made.0 ≡ false) }
 {
     let (line, kind) = labelled_line(alloc, octets, reading.version, label)?;
@@ -111,6 +112,7 @@ impl CardLines {
         ensures uid { found_uid result.lines ≡ None }
         ensures members { has_line_named (codes "MEMBER") result.lines ≡ false }
         ensures whole { has_left_out result.changes ≡ false }
+        ensures unjoined { has_joined result.changes ≡ false }
     {
         CardLines {
             lines: Items::new(alloc),
@@ -131,7 +133,7 @@ impl CardLines {
         kind: ChangeKind,
     ) -> Result<(), NoMemory>
         ensures extends { OnOk result ((reading : Reading) → IsProperLine line
-            → fits_kind kind line.name ≡ true → breaks_rule self.old.seen reading line ≡ false
+            → fits kind line ≡ true → breaks_rule self.old.seen reading line ≡ false
             → Extends reading (raw.now ∷ []) self.old self.new) }
         ensures lines { OnOk result (self.new.lines ≡ self.old.lines ++ line ∷ []) }
     {
@@ -148,6 +150,7 @@ impl CardLines {
     fn leave_out(&mut self, raw: &RawLine, kind: ChangeKind) -> Result<(), NoMemory>
         ensures { OnOk result ((reading : Reading) → may_go kind raw.now ≡ true
             → (reading.leaves_out ≡ false → says_left_out kind ≡ false)
+            → (reading.joins ≡ false → says_joined kind ≡ false)
             → Extends reading (raw.now ∷ []) self.old self.new) }
     {
         let place = raw.place;
@@ -175,7 +178,7 @@ impl CardLines {
         if is_delimiter(octets) {
             return Ok(());
         }
-        if matches!(label, Some(Labelling::Joined)) && is_label(raw) {
+        if reading.joins && matches!(label, Some(Labelling::Joined)) && is_label(raw) {
             return self.leave_out(raw, ChangeKind::Joined);
         }
         let (line, kind) = line_after(alloc, self.seen, octets, reading, name, label)?;
@@ -228,12 +231,15 @@ fn lines_with_uid(
         has_line_named (codes "MEMBER") made.lines ≡ false) }
     ensures whole { reading.leaves_out ≡ false → IfOk result (λ made.
         has_left_out made.changes ≡ false) }
+    ensures unjoined { reading.joins ≡ false → IfOk result (λ made.
+        has_joined made.changes ≡ false) }
 {
     let others = Reading {
         version: reading.version,
         takes_uid: false,
         keeps_members: reading.keeps_members,
         leaves_out: reading.leaves_out,
+        joins: reading.joins,
     };
     let UidLine { line, index } = uid;
     let mut made = CardLines::new(alloc);
@@ -249,27 +255,29 @@ fn lines_with_uid(
 fn read_lines(
     alloc: Global,
     raws: &[RawLine],
-    version: Version,
+    reading: Reading,
     keeps_members: bool,
-    leaves_out: bool,
     name: &str,
     labels: &[Labelling],
 ) -> Result<CardLines, NoMemory>
     ensures makes { IfOk result (λ made. Makes raws.now made) }
-    ensures uid { (line : Line) → first_uid version raws.now ≡ Some line
+    ensures uid { (line : Line) → first_uid reading.version raws.now ≡ Some line
         → IfOk result (λ made. found_uid made.lines ≡ Some line) }
     ensures members { keeps_members ≡ false → IfOk result (λ made.
         has_line_named (codes "MEMBER") made.lines ≡ false) }
-    ensures whole { leaves_out ≡ false → IfOk result (λ made.
+    ensures whole { reading.leaves_out ≡ false → IfOk result (λ made.
         has_left_out made.changes ≡ false) }
+    ensures unjoined { reading.joins ≡ false → IfOk result (λ made.
+        has_joined made.changes ≡ false) }
 {
     let reading = Reading {
-        version,
+        version: reading.version,
         takes_uid: true,
         keeps_members,
-        leaves_out,
+        leaves_out: reading.leaves_out,
+        joins: reading.joins,
     };
-    if let Some(uid) = first_uid(alloc, raws, version)? {
+    if let Some(uid) = first_uid(alloc, raws, reading.version)? {
         return lines_with_uid(alloc, raws, reading, name, labels, uid);
     }
     let mut made = CardLines::new(alloc);
@@ -282,27 +290,67 @@ fn read_lines(
 fn lines_named(
     alloc: Global,
     raws: &[RawLine],
-    version: Version,
-    leaves_out: bool,
+    reading: Reading,
     name: &str,
     labels: &[Labelling],
 ) -> Result<CardLines, NoMemory>
     ensures makes { IfOk result (λ made. Makes raws.now made) }
-    ensures uid { (line : Line) → first_uid version raws.now ≡ Some line
+    ensures uid { (line : Line) → first_uid reading.version raws.now ≡ Some line
         → IfOk result (λ made. found_uid made.lines ≡ Some line) }
     ensures members { IfOk result (λ made. has_stray_members made.lines ≡ false) }
-    ensures whole { leaves_out ≡ false → IfOk result (λ made.
+    ensures whole { reading.leaves_out ≡ false → IfOk result (λ made.
         has_left_out made.changes ≡ false) }
+    ensures unjoined { reading.joins ≡ false → IfOk result (λ made.
+        has_joined made.changes ≡ false) }
 {
-    let made = read_lines(alloc, raws, version, true, leaves_out, name, labels)?;
+    let made = read_lines(alloc, raws, reading, true, name, labels)?;
     if !has_stray_members(made.lines.as_slice()) {
         return Ok(made);
     }
-    read_lines(alloc, raws, version, false, leaves_out, name, labels)
+    read_lines(alloc, raws, reading, false, name, labels)
 }
 
 /// The same. The name that an empty FN gets is known only when all lines are read, so a card that
 /// has no other FN is read again.
+fn lines_with_name(
+    alloc: Global,
+    raws: &[RawLine],
+    reading: Reading,
+    labels: &[Labelling],
+) -> Result<CardLines, NoMemory>
+    ensures makes { IfOk result (λ made. Makes raws.now made) }
+    ensures uid { (line : Line) → first_uid reading.version raws.now ≡ Some line
+        → IfOk result (λ made. found_uid made.lines ≡ Some line) }
+    ensures members { IfOk result (λ made. has_stray_members made.lines ≡ false) }
+    ensures whole { reading.leaves_out ≡ false → IfOk result (λ made.
+        has_left_out made.changes ≡ false) }
+    ensures unjoined { reading.joins ≡ false → IfOk result (λ made.
+        has_joined made.changes ≡ false) }
+{
+    let made = lines_named(alloc, raws, reading, "", labels)?;
+    let name = name_for_empty(alloc, made.lines.as_slice())?;
+    if name.is_empty() {
+        return Ok(made);
+    }
+    lines_named(alloc, raws, reading, name.as_str(), labels)
+}
+
+/// How the logical lines of a card are read.
+fn reading_of(version: Version, leaves_out: bool, joins: bool) -> Reading
+    ensures version { result.version ≡ version }
+    ensures leaves_out { result.leaves_out ≡ leaves_out }
+    ensures joins { result.joins ≡ joins }
+{
+    Reading {
+        version,
+        takes_uid: true,
+        keeps_members: true,
+        leaves_out,
+        joins,
+    }
+}
+
+/// The same. If an address can't have its label, no label is joined.
 pub(crate) fn lines_of_card(
     alloc: Global,
     raws: &[RawLine],
@@ -315,13 +363,13 @@ pub(crate) fn lines_of_card(
     ensures members { IfOk result (λ made. has_stray_members made.lines ≡ false) }
     ensures whole { leaves_out ≡ false → IfOk result (λ made.
         has_left_out made.changes ≡ false) }
+    ensures labels { IfOk result (λ made. HaveAddresses made.changes) }
 {
     let labels = labels_of(alloc, raws, version)?;
-    let labels = labels.as_slice();
-    let made = lines_named(alloc, raws, version, leaves_out, "", labels)?;
-    let name = name_for_empty(alloc, made.lines.as_slice())?;
-    if name.is_empty() {
+    let joining = reading_of(version, leaves_out, true);
+    let made = lines_with_name(alloc, raws, joining, labels.as_slice())?;
+    if have_addresses(made.changes.as_slice()) {
         return Ok(made);
     }
-    lines_named(alloc, raws, version, leaves_out, name.as_str(), labels)
+    lines_with_name(alloc, raws, reading_of(version, leaves_out, false), &[])
 }

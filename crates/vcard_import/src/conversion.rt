@@ -90,7 +90,7 @@ fn convert_refused(alloc: Global, octets: &[u8]) -> Result<Conversion, ImportFau
 fn has_encodings(lines: &[Line]) -> bool
     ensures { result ≡ has_encodings lines.now }
 {
-    lines.iter().any(has_encoding)
+    lines.iter().any(|line| has_encoding(line))
 }
 
 /// Converts one card of vCard 2.1, 3.0 or 4.0, from its `BEGIN:VCARD` to its `END:VCARD`, to a card
@@ -114,7 +114,8 @@ pub fn convert_card(alloc: Global, octets: &[u8]) -> Result<Conversion, ImportFa
     // lacked.
     // The changes are those of the lines that aren't what their logical line spells. The first
     // legal UID that a line spells is the card's.
-    ensures converted { IfOk result (λ made. Spells octets.now made.card
+    ensures converted { IfOk result (λ made.
+        (Spells octets.now made.card × (made.changes ≡ []))
         ⊎ IsConverted octets.now made.card made.changes) }
 
     // A picture or a sound is left out only of a card that would be too long with all its lines.

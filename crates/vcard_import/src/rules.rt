@@ -29,6 +29,8 @@ pub(crate) struct Reading {
     pub(crate) keeps_members: bool,
     /// Whether pictures and sounds are left out, since the card would be too long with them.
     pub(crate) leaves_out: bool,
+    /// Whether labels are joined to their addresses.
+    pub(crate) joins: bool,
 }
 
 pub(crate) fn is_named(line: &Line, name: &str) -> bool

@@ -21,6 +21,8 @@ pub enum ChangeKind {
     Joined,
     /// It is left out: a photo or the like, with which the card would be too long.
     LeftOut,
+    /// It is an address, and got the label that another line gives.
+    Labelled,
 }
 
 impl fmt::Display for ChangeKind {
@@ -33,6 +35,7 @@ impl fmt::Display for ChangeKind {
             ChangeKind::Added => "added",
             ChangeKind::Joined => "joined to its ADR",
             ChangeKind::LeftOut => "left out",
+            ChangeKind::Labelled => "given a LABEL",
         })
     }
 }

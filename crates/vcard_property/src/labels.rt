@@ -1,12 +1,14 @@
 //! Labels of addresses (RFC 2426, sections 3.2.1 and 3.2.2). In vCard 4.0 a label is a parameter of
 //! its address (RFC 6350, section 6.3.1).
-ghost use Rattle.std.specs.Prelude.{IfOk};
+ghost use Rattle.std.specs.Prelude.{◌≡◌, IfOk, IfSome, true};
 ghost use Rattle.vcard_text.specs.Cards.{IsProperLine};
+ghost use Rattle.vcard_property.specs.Labels.{has_label, is_label, is_labelled};
 
 use crate::decoding::decode;
 use crate::proper_line::is_proper_line;
 use crate::property::{Property, read_property};
 use crate::property_line::{label_param, label_text};
+use crate::same_line::is_named;
 use crate::version::Version;
 use import_text::{is_encoded_as, read_text};
 use std::alloc::Global;
@@ -46,7 +48,10 @@ fn types_of(property: &Property) -> AddressTypes {
     }
 }
 
-fn is_label_param(param: &Param) -> bool {
+/// Whether the parameter is LABEL.
+fn is_label(param: &Param) -> bool
+    ensures { result ≡ is_label param.now }
+{
     param.name.as_str().eq_ignore_ascii_case("LABEL")
 }
 
@@ -61,7 +66,7 @@ fn address_line(
         let text = label_text(alloc, property, version)?;
         return Ok(Some(AddressLine::Label(types, Text::new(text))));
     }
-    if property.name.as_str() != "ADR" || property.params.as_slice().iter().any(is_label_param) {
+    if property.name.as_str() != "ADR" || property.params.as_slice().iter().any(is_label) {
         return Ok(None);
     }
     Ok(Some(AddressLine::Address(types)))
@@ -85,15 +90,30 @@ pub fn read_address(
     address_line(alloc, &property, version)
 }
 
-/// The line with a label, if it is then a proper one; otherwise the line itself. The only `Err` is
-/// out of memory.
-pub fn with_label(alloc: Global, line: Line, label: &str) -> Result<Line, NoMemory>
-    ensures { IsProperLine line → IfOk result IsProperLine }
+/// Whether the line has the parameter LABEL.
+fn has_label(line: &Line) -> bool
+    ensures { result ≡ has_label line.now }
+{
+    line.params.as_slice().iter().any(is_label)
+}
+
+/// Whether the line is an address with a label.
+fn is_labelled(line: &Line) -> bool
+    ensures { result ≡ is_labelled line.now }
+{
+    is_named(line, "ADR") && has_label(line)
+}
+
+/// The line with a label, if it is an address and is then a proper line. The only `Err` is out of
+/// memory.
+pub fn with_label(alloc: Global, line: &Line, label: &str) -> Result<Option<Line>, NoMemory>
+    ensures proper { IfOk result (λ made. IfSome made IsProperLine) }
+    ensures labelled { IfOk result (λ made. IfSome made (λ line. is_labelled line ≡ true)) }
 {
     let mut labelled = line.try_copy()?;
     labelled.params.push(label_param(alloc, label)?)?;
-    if is_proper_line(alloc, &labelled)? {
-        return Ok(labelled);
+    if is_labelled(&labelled) && is_proper_line(alloc, &labelled)? {
+        return Ok(Some(labelled));
     }
-    Ok(line)
+    Ok(None)
 }

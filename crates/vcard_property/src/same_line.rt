@@ -18,7 +18,8 @@ fn has_octet(value: &str, octet: u8) -> bool
     value.as_bytes().iter().any(|other| *other == octet)
 }
 
-fn is_named(line: &Line, name: &str) -> bool
+/// Whether the line has the name.
+pub(crate) fn is_named(line: &Line, name: &str) -> bool
     ensures { result ≡ line_is_named name.now line.now }
 {
     line.name.as_str() == name

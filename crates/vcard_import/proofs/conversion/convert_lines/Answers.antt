@@ -4,7 +4,7 @@ use Rattle.vcard_text.specs.Cards.{uid_of}
 use Rattle.vcard_import.specs.FirstUid.{first_uid}
 use Rattle.vcard_import.specs.Versions.{version_of}
 use Rattle.vcard_import.specs.internal.Steps.{AreFaultless, Makes}
-use Rattle.vcard_import.specs.LeftOut.{has_left_out}
+use Rattle.vcard_import.specs.LeftOut.{has_left_out, is_left_out}
 use Rattle.vcard_import.proofs.LeftOutLemmas.{none_added, none_in_both}
 use Rattle.vcard_import.proofs.MissingLemmas.{all_are_faultless, uid_stays}
 use Rattle.vcard_import.proofs.conversion.convert_lines.Goals as goal
@@ -26,6 +26,7 @@ returns-clause-converted c = record {
   lines = c.in_ok-lines.field-0.lines;
   reported = c.in_ok-lines.field-0.changes;
   become = (made c).become;
+  labels = c.in_ok-lines.ensures.labels;
   name = c.in_ok-missing.ensures.0;
   card_is = lines_are c;
   changes_are = changes_are c;
@@ -44,4 +45,4 @@ pub returns-clause-whole : goal.returns-clause-whole
 returns-clause-whole c = λ whole.
     let missing = missing_lines c.args.octets.now c.in_ok-missing.ensures.0 c.in_ok-lines.field-0.lines in
     subst (λ changes. has_left_out changes ≡ false) (sym (changes_are c))
-    (none_in_both c.in_ok-lines.field-0.changes (map addition missing) (c.in_ok-lines.ensures.whole whole) (none_added missing))
+    (none_in_both is_left_out c.in_ok-lines.field-0.changes (map addition missing) (c.in_ok-lines.ensures.whole whole) (none_added missing))
