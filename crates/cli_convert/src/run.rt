@@ -5,6 +5,7 @@ ghost use Rattle.cli_convert.specs.Endings.{Ends, Prints, prints_rows};
 use crate::card_files::CardFiles;
 use crate::content::Content;
 use crate::exit::{ConvertStop, end, stop_of};
+use crate::line_ends::{LineEnds, ends_with_returns};
 use crate::names::rows_front;
 use crate::opening::{open_file, read_content, text_after, with_dates};
 use crate::row_files::RowFiles;
@@ -85,6 +86,11 @@ fn start_of(content: Content) -> usize {
     }
 }
 
+/// Whether the file has cards, or what is no card.
+fn is_of_cards(content: Content) -> bool {
+    matches!(content, Content::Cards)
+}
+
 /// Converts the text of a file that was opened.
 fn convert_text<F: Files, R: Read + Drop, W: Write, E: Write>(
     alloc: Global,
@@ -100,8 +106,13 @@ fn convert_text<F: Files, R: Read + Drop, W: Write, E: Write>(
     let mut reader = text;
     let (head, content) = read_content(alloc, wanted.file, &mut reader)?;
     let content = with_dates(alloc, files, wanted.file, content)?;
+    let are_returns = is_of_cards(content) && ends_with_returns(head.as_slice());
     let reader = head.get(start_of(content)..).unwrap_or(&[]).chain(reader);
-    match convert_opened(alloc, files, wanted, content, reader, rows, errors) {
+    let text = LineEnds {
+        reader,
+        are_returns,
+    };
+    match convert_opened(alloc, files, wanted, content, text, rows, errors) {
         Ok(summary) => Ok(summary),
         Err(fault) => Err(stop_of(alloc, fault, wanted.file)),
     }
