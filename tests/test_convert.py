@@ -296,8 +296,8 @@ class Convert(OrderTest):
         ann, bob = text(card("4.0", "UID:a", "FN:Ann")), text(card("4.0", "UID:a", "FN:Bob"))
         notes = (262_144 - len(bob)) // len("NOTE:x\r\n") * "NOTE:x\r\n"
         ended = self.convert((ann + bob.replace("END", notes + "END")).encode())
-        report = (b"card 2, line 6: not carried: an earlier card has the same UID, and with another "
-                  b"one the text is too long\n" + summary(1, 0, 1))
+        report = (b"card 2, line 6: not carried: an earlier card has the same UID, and with "
+                  b"another one the text is too long\n" + summary(1, 0, 1))
         self.assertEqual((1, report), (ended.status, ended.err))
 
     def test_a_file_for_each_card(self):
