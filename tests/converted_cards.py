@@ -21,6 +21,10 @@ NAMESPACE = uuid.UUID("6ba7b812-9dad-11d1-80b4-00c04fd430c8")
 PNG = "iVBORw0KGgoAAAANSUhEUgAAAAEAAAABCAQAAAC1HAwCAAAAC0lEQVR42mNk+A8AAQUBAScY42YAAAAASUVORK5CYII="
 
 
+# A text of 150 octets without white space.
+LONG_WORD = "abcdefghij" * 15
+
+
 def card(version, *lines):
     return ["BEGIN:VCARD", f"VERSION:{version}", *lines, "END:VCARD"]
 
@@ -425,6 +429,22 @@ CARDS = [
         card("3.0", "UID:a", "FN:Ann", "ADR;X-A=\"1^n2\";X-B=^:;;;;;;"),
         ["UID:a", "FN:Ann", "ADR;X-A=\"1^^n2\";X-B=^^:;;;;;;"],
         ["line 5: ADR rewritten"],
+    ),
+    Converted(
+        "a line of vCard 2.1 that Qt cut at 76 octets: the space before the rest isn't the "
+        "value's, but a second one is",
+        card("2.1", "UID:a", "FN:Ann", "NOTE:" + LONG_WORD[:71], " " + LONG_WORD[71:146],
+             " " + LONG_WORD[146:], "TITLE:" + LONG_WORD[:70], "  " + LONG_WORD),
+        ["UID:a", "FN:Ann", "NOTE:" + LONG_WORD, "TITLE:" + LONG_WORD[:70] + " " + LONG_WORD],
+        [],
+    ),
+    Converted(
+        "a card of vCard 2.1 in which one line is folded that isn't full: each is folded at white "
+        "space, which the values keep",
+        card("2.1", "UID:a", "FN:Ann", "NOTE:" + LONG_WORD[:71], " " + LONG_WORD,
+             "TITLE:Head", " of sales"),
+        ["UID:a", "FN:Ann", "NOTE:" + LONG_WORD[:71] + " " + LONG_WORD, "TITLE:Head of sales"],
+        [],
     ),
     Converted(
         "vCard 4.0 has no ENCODING: a photo is a URI, and a note is a text (RFC 6350, sections "

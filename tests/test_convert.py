@@ -260,8 +260,6 @@ class Convert(OrderTest):
             ("blank lines between cards", "\n\n" + ann + "\r\n \n", 1, ""),
             ("words between cards", ann + "words\nmore\n" + ann.replace("UID:a", "UID:b"), 2,
              "line 6: not carried: no card begins here\n"),
-            ("a UID twice", ann + ann, 1,
-             "card 2, line 6: not carried: an earlier card has the same UID\n"),
             ("too long", ann.replace("Ann", "x" * 270_000), 0,
              "card 1, line 1: not carried: the text is too long\n"),
             ("too long in vCard 3.0", "BEGIN:VCARD\nVERSION:3.0\nNOTE:" + "a" * 262_144, 0,
@@ -275,6 +273,32 @@ class Convert(OrderTest):
                 self.assertEqual(int(refused), ended.status)
                 self.assertEqual(written, len(rows_of(ended.out)))
                 self.assertTrue(ended.out.startswith(HEAD))
+
+    def test_a_uid_twice(self):
+        """The same card is passed, however often it comes. Another one is kept under a UID that is
+        computed from its text, which is canonical here."""
+        ann, bob = (text(card("4.0", "UID:a", f"FN:{name}")) for name in ("Ann", "Bob"))
+        old = text(card("3.0", "UID:a", "FN:Ann"), "\n")
+        own = added_uid(bob.encode())
+        ended = self.convert((ann + old + bob + bob + ann).encode())
+        report = ("card 2, line 6: an earlier card is the same\n"
+                  f"card 3, line 11: an earlier card has the same UID; kept under {own}\n"
+                  "card 4, line 16: an earlier card is the same\n"
+                  "card 5, line 21: an earlier card is the same\n").encode()
+        self.assertEqual((0, report + summary(2, 1, 0)), (ended.status, ended.err))
+        self.assertEqual([["a", card("4.0", "UID:a", "FN:Ann")],
+                          [own, card("4.0", f"UID:{own}", "FN:Bob")]],
+                         [[uid, unfolded(vcard.encode())] for uid, vcard in rows_of(ended.out)])
+        self.imported(ended.out, 2)
+
+    def test_no_room_for_another_uid(self):
+        """A card of 262,144 octets with the UID of another one would be longer under its own."""
+        ann, bob = text(card("4.0", "UID:a", "FN:Ann")), text(card("4.0", "UID:a", "FN:Bob"))
+        notes = (262_144 - len(bob)) // len("NOTE:x\r\n") * "NOTE:x\r\n"
+        ended = self.convert((ann + bob.replace("END", notes + "END")).encode())
+        report = (b"card 2, line 6: not carried: an earlier card has the same UID, and with "
+                  b"another one the text is too long\n" + summary(1, 0, 1))
+        self.assertEqual((1, report), (ended.status, ended.err))
 
     def test_a_file_for_each_card(self):
         uids = ["a", "urn:uuid:7f", "é", "../b", ".c", "x" * 201, "d.vcf"]

@@ -1,5 +1,6 @@
 mod FileLemmas
 mod LineLemmas
+mod MovedLemmas
 mod PieceLemmas
 mod ProgressLemmas
 mod ReadBackLemmas

@@ -12,13 +12,15 @@ use Rattle.vcard_lines.specs.declared.line.Line.{Line}
 use Rattle.vcard_text.specs.Cards.{IsCard, uid_of}
 use Rattle.card_conversion.specs.declared.fate.Fate.{Fate}
 use Rattle.card_conversion.specs.declared.piece_reader.PieceReader.{PieceReader}
-use Rattle.card_conversion.specs.declared.fate.Fate.TheVariants.{Blank, Other, Long, Refused, Repeated, Declined, Written}
+use Rattle.card_conversion.specs.declared.fate.Fate.TheVariants.{Blank, Other, Long, Refused, Repeated, Crowded, Declined, Written, Moved}
 use Rattle.card_conversion.specs.Accounts.{ConvertsAll}
 use Rattle.card_conversion.specs.Counts.{counted, nothing_counted, summary_of}
 use Rattle.card_conversion.specs.declared.ledger.Summary.{Summary}
 use Rattle.std.proofs.lemmas.Grind.{fold-append}
 use Rattle.card_conversion.specs.Deliveries.{HasUids, WritesInTurn}
 use Rattle.card_conversion.specs.Fates.{Entry, HaveFates, IsFate, cards_of, cards_of_fate, octets_of, uids_of, uids_of_fate}
+use Rattle.card_conversion.specs.Moved.{own_uid}
+use Rattle.vcard_import.specs.declared.conversion.Conversion.{Conversion}
 use Rattle.card_conversion.specs.internal.PieceReaders.{HasEnded, left_of}
 use Rattle.card_conversion.specs.internal.States.{Progress, Takes}
 use Rattle.import_text.proofs.FillLemmas.{consumes_more}
@@ -55,18 +57,23 @@ whole_read (Some x) (Some y) (Some z) octets p q e = p ∙ ap (λ rest. octets +
 -- ---- the UIDs of the cards that were written
 
 module _ (P : List ℕ → Type 0) (rest : List (List Line)) where
+  with_first : (uid : List ℕ) → P uid → All P (map uid_of rest) → All P (uid ∷ map uid_of rest)
+  with_first uid is all = λ k d small. at k d small
+    where
+      at : (k : ℕ) (d : List ℕ) → k < length (uid ∷ map uid_of rest) → P (get_or (uid ∷ map uid_of rest) k d)
+      at zero d small = is
+      at (suc k) d small = all k d (omega (arith, small))
+
   with_card : (uids : List (List ℕ)) (octets : List ℕ) (fate : Fate) → IsFate uids octets fate → ((uid : List ℕ) → (Contains uids uid → ⊥) → P uid) → All P (map uid_of rest) → All P (map uid_of (cards_of_fate fate ++ rest))
   with_card uids octets Blank is new all = all
   with_card uids octets Other is new all = all
   with_card uids octets Long is new all = all
   with_card uids octets (Refused fault) is new all = all
   with_card uids octets (Repeated made) is new all = all
+  with_card uids octets (Crowded made) is new all = all
   with_card uids octets (Declined made words) is new all = all
-  with_card uids octets (Written made) is new all = λ k d small. at k d small
-    where
-      at : (k : ℕ) (d : List ℕ) → k < length (uid_of made.card ∷ map uid_of rest) → P (get_or (uid_of made.card ∷ map uid_of rest) k d)
-      at zero d small = new (uid_of made.card) is.1
-      at (suc k) d small = all k d (omega (arith, small))
+  with_card uids octets (Written made) is new all = with_first (uid_of made.card) (new (uid_of made.card) is.1) all
+  with_card uids octets (Moved made) is new all = with_first (uid_of made.card) (new (uid_of made.card) is.1) all
 
 -- none of them is among the UIDs of earlier cards
 apart : (uids : List (List ℕ)) (entries : List Entry) → HaveFates uids entries → All (λ uid. Contains uids uid → ⊥) (map uid_of (cards_of entries))
@@ -75,8 +82,15 @@ apart uids (e ∷ es) have =
     with_card (λ uid. Contains uids uid → ⊥) (cards_of es) uids e.octets e.fate have.0 (λ uid new. new)
     (λ k d small had. apart (uids ++ uids_of_fate e.fate) es have.1 k d small (Contains-append_left uids (uids_of_fate e.fate) (get_or (map uid_of (cards_of es)) k d) had))
 
-one_has : (x : List ℕ) → Contains (x ∷ []) x
-one_has x = (0, omega arith, refl)
+first_has : (x : List ℕ) (others : List (List ℕ)) → Contains (x ∷ others) x
+first_has x others = (0, omega arith, refl)
+
+-- a card with a UID that none of the others has
+with_pair : (uids : List (List ℕ)) (made : Conversion) (rest : List (List Line)) → All (λ uid. Contains (uids ++ uid_of made.card ∷ own_uid made.card ∷ []) uid → ⊥) (map uid_of rest) → AllPairs (λ a b. a ≢ b) (map uid_of rest) → AllPairs (λ a b. a ≢ b) (uid_of made.card ∷ map uid_of rest)
+with_pair uids made rest all pairs =
+    AllPairs-cons (λ a b. a ≢ b) (uid_of made.card) (map uid_of rest)
+    (λ k d small same. all k d small (subst (Contains (uids ++ uid_of made.card ∷ own_uid made.card ∷ [])) same (Contains-append_right uids (uid_of made.card ∷ own_uid made.card ∷ []) (uid_of made.card) (first_has (uid_of made.card) (own_uid made.card ∷ [])))))
+    pairs
 
 with_pairs : (uids : List (List ℕ)) (octets : List ℕ) (fate : Fate) (rest : List (List Line)) → All (λ uid. Contains (uids ++ uids_of_fate fate) uid → ⊥) (map uid_of rest) → AllPairs (λ a b. a ≢ b) (map uid_of rest) → AllPairs (λ a b. a ≢ b) (map uid_of (cards_of_fate fate ++ rest))
 with_pairs uids octets Blank rest all pairs = pairs
@@ -84,11 +98,10 @@ with_pairs uids octets Other rest all pairs = pairs
 with_pairs uids octets Long rest all pairs = pairs
 with_pairs uids octets (Refused fault) rest all pairs = pairs
 with_pairs uids octets (Repeated made) rest all pairs = pairs
+with_pairs uids octets (Crowded made) rest all pairs = pairs
 with_pairs uids octets (Declined made words) rest all pairs = pairs
-with_pairs uids octets (Written made) rest all pairs =
-    AllPairs-cons (λ a b. a ≢ b) (uid_of made.card) (map uid_of rest)
-    (λ k d small same. all k d small (subst (Contains (uids ++ uid_of made.card ∷ [])) same (Contains-append_right uids (uid_of made.card ∷ []) (uid_of made.card) (one_has (uid_of made.card)))))
-    pairs
+with_pairs uids octets (Written made) rest all pairs = with_pair uids made rest all pairs
+with_pairs uids octets (Moved made) rest all pairs = with_pair uids made rest all pairs
 
 apart_each : (uids : List (List ℕ)) (entries : List Entry) → HaveFates uids entries → AllPairs (λ a b. a ≢ b) (map uid_of (cards_of entries))
 apart_each uids [] have = λ i j d below small. absurd (omega (arith, small))
@@ -101,8 +114,10 @@ with_rules uids octets Other rest is all = all
 with_rules uids octets Long rest is all = all
 with_rules uids octets (Refused fault) rest is all = all
 with_rules uids octets (Repeated made) rest is all = all
+with_rules uids octets (Crowded made) rest is all = all
 with_rules uids octets (Declined made words) rest is all = all
 with_rules uids octets (Written made) rest is all = (is.0.card, all)
+with_rules uids octets (Moved made) rest is all = (is.0.moved.card, all)
 
 each_card : (uids : List (List ℕ)) (entries : List Entry) → HaveFates uids entries → AllByRecursion IsCard (cards_of entries)
 each_card uids [] have = tt

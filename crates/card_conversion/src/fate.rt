@@ -14,10 +14,15 @@ pub(crate) enum Fate {
     Long,
     /// It is a card that can't be converted.
     Refused(ImportFault),
-    /// It is a card with the UID of an earlier one.
+    /// It is the same card as an earlier one, and is passed.
     Repeated(Conversion),
+    /// It is another card with the UID of an earlier one, and would be too long under one of its
+    /// own.
+    Crowded(Conversion),
     /// It is a card that the outlet can't take, for a reason in words.
     Declined(Conversion, Text),
     /// It is a card that was written.
     Written(Conversion),
+    /// It is another card with the UID of an earlier one, and was written under one of its own.
+    Moved(Conversion),
 }

@@ -44,7 +44,11 @@ impl Ledger {
     {
         let summary = &mut self.summary;
         match fate {
-            Fate::Blank => {}
+            Fate::Blank | Fate::Repeated(_) => {}
+            Fate::Moved(_) => {
+                summary.written = summary.written.saturating_add(1);
+                summary.changed = summary.changed.saturating_add(1);
+            }
             Fate::Written(conversion) => {
                 summary.written = summary.written.saturating_add(1);
                 if !conversion.changes.is_empty() {

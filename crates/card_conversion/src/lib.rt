@@ -11,6 +11,7 @@ mod file;
 pub mod laws;
 mod ledger;
 mod line_cursor;
+mod moved;
 mod outlet;
 mod piece_reader;
 mod pieces;

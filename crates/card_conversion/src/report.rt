@@ -135,6 +135,29 @@ fn changes_report(
     Ok(report)
 }
 
+/// The lines for a card that was written under a UID of its own.
+fn moved_report(
+    alloc: Global,
+    place: Place,
+    piece: &[u8],
+    conversion: &Conversion,
+) -> Result<String, NoMemory> {
+    let Place { card, line } = place;
+    let uid = conversion.card.uid();
+    let mut report = format!(in alloc;
+        "card {card}, line {line}: an earlier card has the same UID; kept under {uid}\n"
+    )?;
+    let changes = changes_report(alloc, place, piece, conversion)?;
+    report.push_str(changes.as_str())?;
+    Ok(report)
+}
+
+/// The line for a card that is the same as an earlier one.
+fn repeated_report(alloc: Global, place: Place) -> Result<String, NoMemory> {
+    let Place { card, line } = place;
+    Ok(format!(in alloc; "card {card}, line {line}: an earlier card is the same\n")?)
+}
+
 /// The line for a card that isn't carried, with the reason in words.
 fn refused_report(alloc: Global, place: Place, why: &str) -> Result<String, NoMemory> {
     let Place { card, line } = place;
@@ -160,8 +183,16 @@ pub(crate) fn report_text(
             let why = format!(in alloc; "{fault}")?;
             refused_report(alloc, place, why.as_str())
         }
-        Fate::Repeated(_) => refused_report(alloc, place, "an earlier card has the same UID"),
+        Fate::Repeated(_) => repeated_report(alloc, place),
+        Fate::Crowded(_) => {
+            refused_report(
+                alloc,
+                place,
+                "an earlier card has the same UID, and with another one the text is too long",
+            )
+        }
         Fate::Declined(_, why) => refused_report(alloc, place, why.as_str()),
         Fate::Written(conversion) => changes_report(alloc, place, piece, conversion),
+        Fate::Moved(conversion) => moved_report(alloc, place, piece, conversion),
     }
 }

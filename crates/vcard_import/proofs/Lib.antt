@@ -1,4 +1,5 @@
 pub mod BecomeLemmas
+mod FoldLemmas
 pub mod LeftOutLemmas
 mod MissingLemmas
 pub mod RefusedLemmas

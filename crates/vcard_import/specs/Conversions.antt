@@ -17,7 +17,8 @@ use Rattle.vcard_import.specs.DerivedUid.{derived_uid}
 use Rattle.vcard_import.specs.FirstUid.{first_uid}
 use Rattle.vcard_import.specs.Labels.{HaveAddresses, fits}
 use Rattle.vcard_import.specs.LeftOut.{has_left_out, may_go}
-use Rattle.vcard_import.specs.Versions.{version_of, folding_of}
+use Rattle.vcard_import.specs.Folds.{folding_of}
+use Rattle.vcard_import.specs.Versions.{version_of}
 use Rattle.vcard_import.specs.declared.change.Change.{Change}
 use Rattle.vcard_import.specs.declared.fault.ImportFault.{ImportFault}
 use Rattle.vcard_import.specs.declared.fault.ImportFault.TheVariants.{Memory, TooLong, Charset}
@@ -96,7 +97,7 @@ addition line = record { place = 0; kind = Added }
 -- the logical lines of the octets; how they are folded depends on the version, and a byte order
 -- mark is no part of the first
 abbrev pub card_raw_lines : List ℕ → List RawLine
-card_raw_lines octets = raw_lines (folding_of (version_of octets)) (without_bom octets)
+card_raw_lines octets = raw_lines (folding_of octets) (without_bom octets)
 
 -- The lines are those that the logical lines of the octets become, and then the FN and the UID that
 -- they lack. The changes are those of these lines, and then one for each line that was added. For

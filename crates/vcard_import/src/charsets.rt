@@ -7,7 +7,8 @@ ghost use Rattle.vcard_import.specs.declared.fault.ImportFault.TheVariants.{Memo
 
 use crate::conversion::without_bom;
 use crate::fault::ImportFault;
-use crate::version::{folding_of, version_of};
+use crate::folds::folding_of;
+use crate::version::version_of;
 use import_text::{RawLine, read_raw_lines};
 use std::alloc::Global;
 use vcard_property::{Version, unknown_charset};
@@ -36,7 +37,7 @@ pub(crate) fn card_raw_lines(alloc: Global, octets: &[u8]) -> Result<Vec<RawLine
     ensures refused { IfErr result (λ fault. fault ≢ Memory → HasCharset octets.now fault) }
 {
     let version = version_of(octets);
-    let raws = read_raw_lines(alloc, without_bom(octets), folding_of(version))?;
+    let raws = read_raw_lines(alloc, without_bom(octets), folding_of(octets))?;
     match first_unknown(alloc, raws.as_slice(), version)? {
         Some(name) => Err(ImportFault::Charset(name)),
         None => Ok(raws),

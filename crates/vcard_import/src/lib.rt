@@ -10,6 +10,7 @@ mod delimiters;
 mod fault;
 mod faultless;
 mod first_uid;
+mod folds;
 mod joined;
 mod labels;
 pub mod laws;
