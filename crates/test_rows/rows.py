@@ -36,7 +36,12 @@ NO_COMMAND = [
     request("DELETE", "/books"),
     request("GET", "/books/staff/sync?limit=x"),
 ]
-OF_A_STORE = [("each command", EACH_COMMAND), ("what doesn't reach the store", NO_COMMAND)]
+CLOSING = [request("GET", "/books", fields=["Connection: close"])]
+OF_A_STORE = [
+    ("each command", EACH_COMMAND),
+    ("what doesn't reach the store", NO_COMMAND),
+    ("a request that closes", CLOSING),
+]
 OF_A_DEVICE = [
     ("three requests", [STAFF, put("staff", "a", "Ann"), sync("staff")]),
     ("the books", [books(), tally("staff")]),

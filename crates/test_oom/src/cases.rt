@@ -3,7 +3,7 @@
 use crate::events::run_drive;
 use crate::migration::run_migrate_connection;
 use crate::opening::run_opening;
-use crate::paths::run_first_path;
+use crate::paths::{run_first_path, run_read_order};
 use crate::requests::run_feed;
 use crate::tables::OverTables;
 use test_support::oom::{
@@ -23,6 +23,7 @@ pub(crate) fn run_cases(harness: &mut Harness) -> Result<(), Stop> {
     run_cards(harness)?;
     run_first_path(harness);
     run_texts(harness)?;
+    run_read_order(harness)?;
     run_device(harness)?;
     run_over_stores(harness, &InMemory)?;
     run_over_stores(harness, &OverTables)?;

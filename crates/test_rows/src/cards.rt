@@ -1,16 +1,8 @@
-//! Tests of texts and cards by rows: reading and writing cards, cards made of lines, text values,
-//! expansion of groups, rows of CSV, and contacts that other programs export.
+//! Tests of lines, of cards that are made of lines, and of text values, by rows.
 
 mod ann;
 mod calls;
-mod cards;
-mod exports;
-mod groups;
 mod lines;
 mod making;
-mod maps;
-mod rows;
-mod shapes;
-mod values;
 
 pub use calls::check_cards;

@@ -1,5 +1,5 @@
-//! Tests by rows, each with its expected result: texts and cards, formats of the service, and
-//! connections over a store, a reader or a writer that fails.
+//! Tests by rows, each with its expected result: lines and cards, limits and pages, and connections
+//! over a store, a reader or a writer that fails.
 #![tactic(auto)]
 
 mod cards;

@@ -1,31 +1,19 @@
-//! Calls on Ann's card, with lines before its END.
-use crate::cards::cards::{canonical_text, format_fault, run_copy};
-use crate::cards::lines::format_line;
-use crate::cards::values::bar_list;
+//! The parts of Ann's card with further lines.
+use crate::cards::lines::{bar_list, format_line};
+use crate::cards::making::format_fault;
 use base_types::NoMemory;
 use std::alloc::Global;
 use vcard_lines::CardFault;
 use vcard_text::{Card, read_card};
 
-/// The text before the lines.
-const HEAD: &str = "BEGIN:VCARD\r\nVERSION:4.0\r\nUID:a\r\nFN:Ann\r\n";
-
-/// The text after them.
-const END: &str = "END:VCARD\r\n";
-
 /// Ann's card with the lines.
 fn ann_with(alloc: Global, lines: &str) -> Result<Card, CardFault> {
-    let text = format!(in alloc; "{HEAD}{lines}{END}")?;
+    let head = "BEGIN:VCARD\r\nVERSION:4.0\r\nUID:a\r\nFN:Ann\r\n";
+    let text = format!(in alloc; "{head}{lines}END:VCARD\r\n")?;
     read_card(alloc, text.as_bytes())
 }
 
-/// The added lines, as they are in the canonical text of Ann's card.
-fn added_lines(alloc: Global, card: &Card) -> Result<String, NoMemory> {
-    let text = canonical_text(alloc, card)?;
-    let lines = text.as_str().strip_prefix(HEAD).unwrap_or("another head");
-    Ok(String::from_str(alloc, lines.strip_suffix(END).unwrap_or("another end"))?)
-}
-
+/// The members, each after a bar.
 fn format_members(alloc: Global, card: &Card) -> Result<String, NoMemory> {
     let members = card.members()?;
     bar_list(alloc, members.as_slice())
@@ -38,6 +26,14 @@ fn format_card(alloc: Global, card: &Card) -> Result<String, NoMemory> {
     Ok(format!(in alloc; "{uid} {kind:?} {count}{members}")?)
 }
 
+/// The same for Ann's card with the lines.
+pub(crate) fn run_card(alloc: Global, lines: &str) -> Result<String, NoMemory> {
+    match ann_with(alloc, lines) {
+        Ok(card) => format_card(alloc, &card),
+        Err(fault) => format_fault(alloc, fault),
+    }
+}
+
 /// The parts of the card's first line of that name.
 fn format_first(alloc: Global, card: &Card, name: &str) -> Result<String, NoMemory> {
     match card.first(name) {
@@ -46,31 +42,12 @@ fn format_first(alloc: Global, card: &Card, name: &str) -> Result<String, NoMemo
     }
 }
 
-/// Whether Ann's card with the lines equals the card.
-fn compare_cards(alloc: Global, card: &Card, lines: &str) -> Result<String, NoMemory> {
+/// The same for the first line of a name in Ann's card with the lines. The input is these, a bar,
+/// and the name.
+pub(crate) fn run_first(alloc: Global, input: &str) -> Result<String, NoMemory> {
+    let (lines, name) = input.split_once('|').unwrap_or((input, ""));
     match ann_with(alloc, lines) {
-        Ok(other) => Ok(format!(in alloc; "{}", card.is_same(&other))?),
-        Err(fault) => format_fault(alloc, fault),
-    }
-}
-
-/// Runs a call on a card; `more` is the rest of the input.
-fn run_on_card(alloc: Global, call: &str, card: &Card, more: &str) -> Result<String, NoMemory> {
-    match call {
-        "ann" => added_lines(alloc, card),
-        "card" => format_card(alloc, card),
-        "copy" => run_copy(alloc, card),
-        "first" => format_first(alloc, card, more),
-        "same" => compare_cards(alloc, card, more),
-        _ => Ok(String::from_str(alloc, "no such call")?),
-    }
-}
-
-/// Runs a call on Ann's card. The input is its lines, and after a bar more of the input.
-pub(crate) fn run_ann(alloc: Global, call: &str, input: &str) -> Result<String, NoMemory> {
-    let (lines, more) = input.split_once('|').unwrap_or((input, ""));
-    match ann_with(alloc, lines) {
-        Ok(card) => run_on_card(alloc, call, &card, more),
+        Ok(card) => format_first(alloc, &card, name),
         Err(fault) => format_fault(alloc, fault),
     }
 }

@@ -1,13 +1,18 @@
-//! Reads, writes, folds and joins lines.
-use crate::cards::cards::format_fault;
-use crate::cards::making::make_line;
+//! Lines that are read, or made of parts, and components of values.
+use crate::cards::making::{format_fault, make_line};
 use base_types::{NoMemory, Part};
 use std::alloc::Global;
-use std::str::Lines;
-use vcard_lines::{
-    Line, continues, folded_len, folded_line_len, has_legal_parts, join, line_so_far, read_line,
-    write_folded, write_line,
-};
+use vcard_lines::{Line, components, folded_line_len, has_legal_parts, read_line, write_line};
+
+/// The texts, each after a bar.
+pub(crate) fn bar_list(alloc: Global, texts: &[String]) -> Result<String, NoMemory> {
+    let mut list = String::new(alloc);
+    for text in texts {
+        list.push('|')?;
+        list.push_str(text.as_str())?;
+    }
+    Ok(list)
+}
 
 /// Whether a copy of the line is equal to it.
 fn has_same_copy(line: &Line) -> Result<bool, NoMemory> {
@@ -46,28 +51,8 @@ pub(crate) fn run_part(alloc: Global, input: &str) -> Result<String, NoMemory> {
     format_line(alloc, &line)
 }
 
-/// The length in octets of the folded line, and the folded line.
-pub(crate) fn run_fold(alloc: Global, line: &str) -> Result<String, NoMemory> {
-    let mut text = format!(in alloc; "{}|", folded_len(line))?;
-    write_folded(&mut text, line)?;
-    Ok(text)
-}
-
-/// Joins the physical lines to one line.
-pub(crate) fn run_join(alloc: Global, folded: &str) -> Result<String, NoMemory> {
-    let mut pieces = folded.lines();
-    let first = pieces.next().unwrap_or("");
-    let mut joined = String::new(alloc);
-    join_each(first, &mut joined, pieces)?;
-    Ok(String::from_str(alloc, line_so_far(first, &joined))?)
-}
-
-/// Joins each piece that continues the line.
-fn join_each(first: &str, joined: &mut String, pieces: Lines<'_>) -> Result<(), NoMemory> {
-    for piece in pieces {
-        if continues(piece) {
-            join(first, joined, piece)?;
-        }
-    }
-    Ok(())
+/// The texts of the value's components.
+pub(crate) fn run_cut(alloc: Global, value: &str) -> Result<String, NoMemory> {
+    let parts = components(alloc, value)?;
+    bar_list(alloc, parts.as_slice())
 }

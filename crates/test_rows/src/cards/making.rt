@@ -1,10 +1,20 @@
 //! Makes cards of lines that are given as parts.
-use crate::cards::cards::{canonical_text, format_fault};
 use base_types::{Items, NoMemory, Text};
 use std::alloc::Global;
 use std::str::Split;
-use vcard_lines::{Line, Param, ParamValue};
-use vcard_text::{Card, card_of_lines, read_card};
+use vcard_lines::{CardFault, Line, Param, ParamValue};
+use vcard_text::{Card, card_of_lines, read_card, write_card};
+
+/// The fault's number.
+pub(crate) fn format_fault(alloc: Global, fault: CardFault) -> Result<String, NoMemory> {
+    Ok(format!(in alloc; "fault {}", fault.number())?)
+}
+
+/// The card's canonical text.
+fn canonical_text(alloc: Global, card: &Card) -> Result<String, NoMemory> {
+    let octets = write_card(alloc, card)?;
+    Ok(String::from_utf8_lossy(alloc, octets.as_slice())?)
+}
 
 /// The value; it is quoted if the part begins with a quote.
 fn make_value(alloc: Global, part: &str) -> Result<ParamValue, NoMemory> {
@@ -88,7 +98,7 @@ fn text_read_back(alloc: Global, card: &Card) -> Result<String, NoMemory> {
 }
 
 /// The same for a card that is made of the lines.
-pub(crate) fn format_made(alloc: Global, lines: Vec<Line>) -> Result<String, NoMemory> {
+fn format_made(alloc: Global, lines: Vec<Line>) -> Result<String, NoMemory> {
     match card_of_lines(alloc, lines) {
         Ok(card) => text_read_back(alloc, &card),
         Err(fault) => format_fault(alloc, fault),

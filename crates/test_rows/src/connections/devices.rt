@@ -48,27 +48,17 @@ pub(crate) struct FailingWriter {
     pub(crate) octets: Vec<u8>,
     writes: u64,
     fails_at: u64,
-    flushes: bool,
+    fails_at_flush: bool,
 }
 
 impl FailingWriter {
-    /// An output whose write with this number fails; with 0 none fails.
-    pub(crate) fn new(alloc: Global, fails_at: u64) -> FailingWriter {
+    /// An output whose write with this number fails, or whose flush does; with 0 no write fails.
+    pub(crate) fn new(alloc: Global, fails_at: u64, fails_at_flush: bool) -> FailingWriter {
         FailingWriter {
             octets: Vec::new(alloc),
             writes: 0,
             fails_at,
-            flushes: true,
-        }
-    }
-
-    /// An output whose writes succeed, and whose flush fails.
-    pub(crate) fn without_flush(alloc: Global) -> FailingWriter {
-        FailingWriter {
-            octets: Vec::new(alloc),
-            writes: 0,
-            fails_at: 0,
-            flushes: false,
+            fails_at_flush,
         }
     }
 }
@@ -83,10 +73,10 @@ impl Write for FailingWriter {
     }
 
     fn flush(&mut self) -> io::Result<()> {
-        if self.flushes {
-            Ok(())
-        } else {
+        if self.fails_at_flush {
             Err(io::Error::from(io::ErrorKind::BrokenPipe))
+        } else {
+            Ok(())
         }
     }
 }

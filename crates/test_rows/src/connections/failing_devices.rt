@@ -81,7 +81,7 @@ fn serve_failing<H: Handler>(
         Device::Writer => (0, fails_at),
     };
     let mut reader = FailingReader::new(octets, at_read, io::ErrorKind::BrokenPipe);
-    let mut writer = FailingWriter::new(alloc, at_write);
+    let mut writer = FailingWriter::new(alloc, at_write, false);
     let served = serve(alloc, handler, &mut reader, &mut writer);
     (served, writer.octets)
 }

@@ -38,54 +38,40 @@ fn push_end(
     }
 }
 
-/// Runs the order with an input that fails at that read, and adds how it ended.
-fn push_with_reader(
-    alloc: Global,
-    octets: &[u8],
-    what: &str,
-    fails_at: u64,
-    kind: io::ErrorKind,
-    out: &mut Vec<u8>,
-) -> Result<(), NoMemory> {
-    let mut reader = FailingReader::new(octets, fails_at, kind);
-    let mut writer = FailingWriter::new(alloc, 0);
-    let ended = run_try(alloc, &mut reader, &mut writer);
-    push_end(alloc, what, ended, writer.octets.len(), out)
-}
+/// What fails, in words: the number of the read that fails, with its error, the number of the write
+/// that fails, and whether the flush does. With the number 0 none fails.
+type Failure = (&'static str, u64, io::ErrorKind, u64, bool);
 
-/// Runs the order with this output, and adds how it ended.
-fn push_with_writer(
-    alloc: Global,
-    octets: &[u8],
-    what: &str,
-    writer: FailingWriter,
-    out: &mut Vec<u8>,
-) -> Result<(), NoMemory> {
-    let mut writer = writer;
-    let mut reader = octets;
-    let ended = run_try(alloc, &mut reader, &mut writer);
-    push_end(alloc, what, ended, writer.octets.len(), out)
-}
+const BROKEN: io::ErrorKind = io::ErrorKind::BrokenPipe;
 
-fn push_path(alloc: Global, octets: &[u8], out: &mut Vec<u8>) -> Result<(), NoMemory> {
-    let (broken, full) = (io::ErrorKind::BrokenPipe, io::ErrorKind::OutOfMemory);
-    push_with_reader(alloc, octets, "nothing fails", 0, broken, out)?;
-    push_with_reader(alloc, octets, "the first read fails", 1, broken, out)?;
-    push_with_reader(alloc, octets, "the third read fails", 3, broken, out)?;
-    push_with_reader(
-        alloc,
-        octets,
+const FAILURES: [Failure; 7] = [
+    ("nothing fails", 0, BROKEN, 0, false),
+    ("the first read fails", 1, BROKEN, 0, false),
+    ("the third read fails", 3, BROKEN, 0, false),
+    (
         "the third read finds no memory",
         3,
-        full,
-        out,
-    )?;
-    let first = FailingWriter::new(alloc, 1);
-    push_with_writer(alloc, octets, "the first write fails", first, out)?;
-    let third = FailingWriter::new(alloc, 3);
-    push_with_writer(alloc, octets, "the third write fails", third, out)?;
-    let unflushed = FailingWriter::without_flush(alloc);
-    push_with_writer(alloc, octets, "the flush fails", unflushed, out)
+        io::ErrorKind::OutOfMemory,
+        0,
+        false,
+    ),
+    ("the first write fails", 0, BROKEN, 1, false),
+    ("the third write fails", 0, BROKEN, 3, false),
+    ("the flush fails", 0, BROKEN, 0, true),
+];
+
+/// Runs the order on the octets with this failure, and adds how it ended.
+fn push_path(
+    alloc: Global,
+    octets: &[u8],
+    failure: Failure,
+    out: &mut Vec<u8>,
+) -> Result<(), NoMemory> {
+    let (what, at_read, kind, at_write, at_flush) = failure;
+    let mut reader = FailingReader::new(octets, at_read, kind);
+    let mut writer = FailingWriter::new(alloc, at_write, at_flush);
+    let ended = run_try(alloc, &mut reader, &mut writer);
+    push_end(alloc, what, ended, writer.octets.len(), out)
 }
 
 /// Runs the order on the card of the row's first connection, with each failing input and output,
@@ -93,7 +79,10 @@ fn push_path(alloc: Global, octets: &[u8], out: &mut Vec<u8>) -> Result<(), NoMe
 pub(crate) fn push_paths(alloc: Global, row: &Row, out: &mut Vec<u8>) -> Result<(), NoMemory> {
     let first = row.connections.as_slice().first();
     let octets = first.map(|first| first.octets).unwrap_or_default();
-    push_path(alloc, octets, out)
+    for failure in FAILURES {
+        push_path(alloc, octets, failure, out)?;
+    }
+    Ok(())
 }
 
 /// Adds the lines and the statuses of stops that no order reaches while devices work.

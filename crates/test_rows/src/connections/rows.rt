@@ -7,9 +7,19 @@ use crate::connections::serving::push_connections;
 use crate::connections::settings::Setting;
 use base_types::NoMemory;
 use book_http::Service;
+use http_requests::Handler;
+use http_requests::laws::{cuts_make_no_difference, pieces_are_fed_as_one, streams_can_be_cut};
 use std::alloc::Global;
 use sync_core::{Fault, Limits, PlainStore};
 use test_support::scripts::FailingStore;
+
+/// Laws, without effect at run time: the replies to a connection depend only on the octets that it
+/// sends, not on how these are cut into pieces.
+fn replies_depend_on_octets_alone<H: Handler>() {
+    streams_can_be_cut();
+    cuts_make_no_difference::<H>();
+    pieces_are_fed_as_one::<H>();
+}
 
 /// Adds the replies over a store that returns the fault from each call.
 fn push_over_failing(
@@ -18,9 +28,8 @@ fn push_over_failing(
     fault: Fault,
     out: &mut Vec<u8>,
 ) -> Result<(), NoMemory> {
-    let mut store = FailingStore::new(alloc);
-    store.set_fault(Some(fault));
-    let mut service = Service::new(alloc, store)?;
+    replies_depend_on_octets_alone::<Service<FailingStore>>();
+    let mut service = Service::new(alloc, FailingStore::new(fault))?;
     push_connections(alloc, &mut service, row.connections.as_slice(), out)
 }
 

@@ -1,6 +1,5 @@
 //! Pages of reports in JSON.
 
-use crate::formats::refusals::with_reply;
 use base_types::NoMemory;
 use book_model::{Entry, Page};
 use page_json::{read_report, write_report};
@@ -28,6 +27,14 @@ fn format_entries(alloc: Global, entries: &[Entry]) -> Result<String, NoMemory> 
     Ok(output)
 }
 
+/// The summary in a line, and the text below it.
+fn with_text(summary: String, text: &[u8]) -> Result<Vec<u8>, NoMemory> {
+    let mut output = summary.into_bytes();
+    output.push(b'\n')?;
+    output.extend_from_slice(text)?;
+    Ok(output)
+}
+
 /// Each entry, the token and whether the page is truncated, and below them the text that is written
 /// for the page.
 fn format_page(alloc: Global, page: &Page) -> Result<Vec<u8>, NoMemory> {
@@ -36,7 +43,7 @@ fn format_page(alloc: Global, page: &Page) -> Result<Vec<u8>, NoMemory> {
     let truncated = page.truncated;
     let output = format!(in alloc; "{entries}{token}, truncated {truncated}")?;
     let text = write_report(alloc, page)?;
-    with_reply(output, text.as_slice())
+    with_text(output, text.as_slice())
 }
 
 /// `page TEXT`: the page that is read, and the text that is written for it; or the fault's number.
