@@ -1,11 +1,11 @@
 //! A device that asks a store that returns a fault from each call, and one that asks a store which
-//! is behind. (`test_rows` tests the replies of such a store over HTTP.)
+//! is behind. (`test_faults` tests the replies of such a store over HTTP.)
 use super::new_store;
-use book_service::{Event, Reply, drive, mirror};
+use book_service::{Event, Reply};
 use std::alloc::Global;
 use std::process::Abort;
 use sync_core::{BookStore, Denied, Device, Fault};
-use test_support::scripts::{FailingStore, format_reply, run_script};
+use test_support::scripts::{FailingStore, format_reply, mirror_of, replies_to_events, run_script};
 
 /// A device of the book `staff`.
 fn device_of_staff(rt: &impl Abort, alloc: Global) -> Vec<Device> {
@@ -34,12 +34,8 @@ fn reply_of<S: BookStore>(
     devices: &mut Vec<Device>,
 ) -> Option<Reply> {
     let events = asks(rt, alloc);
-    let count = devices.len();
-    if !events.iter().all(|event| event.is_within(count)) {
-        return None;
-    }
-    let mut replies = drive(alloc, store, devices, events.as_slice()).expect(rt, "replies");
-    replies.pop()
+    let replies = replies_to_events(alloc, store, devices, events.as_slice());
+    replies.expect(rt, "replies").pop()
 }
 
 /// Asserts that a device and a mirror get the fault.
@@ -48,7 +44,7 @@ fn assert_passes_on(rt: &impl Abort, alloc: Global, fault: Fault) {
     let mut devices = device_of_staff(rt, alloc);
     let reply = reply_of(rt, alloc, &mut store, &mut devices);
     assert_eq!(rt; reply, Some(Reply::Fault(fault)));
-    let denied = mirror(alloc, &mut store, "staff", 1, 1).err();
+    let denied = mirror_of(alloc, &mut store, "staff", 1, 1).err();
     assert_eq!(rt; denied, Some(Denied::Fault(fault)));
 }
 

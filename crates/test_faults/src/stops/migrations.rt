@@ -1,15 +1,14 @@
 //! Migrates tables of the first schema to the second over a disk that fails.
 
-use crate::disks::{
+use crate::first_schema::{create_first_schema, migrate_tables, store_over};
+use crate::stops::disks::{
     CrashKind, FuseAt, FusedDisk, NO_FUSE, Place, Work, copy_disks, crash_disks, empty_disks,
     is_burnt, over_disks,
 };
-use crate::run::store_over;
-use crate::sweep::{CALLS_MAX, Sweep};
+use crate::stops::sweep::{CALLS_MAX, Sweep};
 use book_store::OpenFault;
-use sqlite::{Alter, Connection, Error, Files, params};
+use sqlite::{Alter, Connection, Files};
 use std::alloc::Global;
-use store_migration::migrate_connection;
 use sync_core::{BookStore, Limits};
 use test_support::crash_plans::books::query_books;
 use test_support::crash_plans::commands::Kind;
@@ -17,53 +16,11 @@ use test_support::crash_plans::counts::StateLeft;
 use test_support::crash_plans::mismatch::Mismatch;
 use vcard_text::NoMemory;
 
-/// The tables of the first schema, with two books.
-const TABLES: &str =
-    "CREATE TABLE meta (name TEXT NOT NULL PRIMARY KEY, val INTEGER NOT NULL) STRICT; \
-CREATE TABLE book (id INTEGER PRIMARY KEY, name TEXT NOT NULL UNIQUE, number INTEGER NOT NULL, \
-horizon INTEGER NOT NULL, created INTEGER NOT NULL, edited INTEGER NOT NULL, \
-imported INTEGER NOT NULL, import_edited INTEGER NOT NULL, moved_in INTEGER NOT NULL, \
-deleted INTEGER NOT NULL, moved_out INTEGER NOT NULL) STRICT; \
-CREATE TABLE member (book INTEGER NOT NULL REFERENCES book(id), uid TEXT NOT NULL, \
-changed INTEGER NOT NULL, card TEXT, PRIMARY KEY (book, uid), UNIQUE (book, changed)) STRICT; \
-CREATE TABLE import_key (book INTEGER NOT NULL REFERENCES book(id), ikey TEXT NOT NULL, \
-added INTEGER NOT NULL, edited INTEGER NOT NULL, same INTEGER NOT NULL, \
-number INTEGER NOT NULL, PRIMARY KEY (book, ikey)) STRICT; \
-INSERT INTO meta VALUES ('schema', 1); \
-INSERT INTO book VALUES (1, 'staff', 9, 0, 5, 1, 0, 0, 0, 3, 0); \
-INSERT INTO book VALUES (2, 'clients', 0, 0, 0, 0, 0, 0, 0, 0, 0); \
-INSERT INTO member VALUES (1, 'c', 6, NULL); \
-INSERT INTO member VALUES (1, 'd', 9, NULL)";
-
-/// The number of these books.
+/// The number of the books of these tables.
 const BOOKS: u64 = 2;
-
-const ANNA: &str = "BEGIN:VCARD\r\nVERSION:4.0\r\nUID:a\r\nFN:Anna\r\nEND:VCARD\r\n";
-
-const BOB: &str = "BEGIN:VCARD\r\nVERSION:4.0\r\nUID:b\r\nFN:Bob\r\nEND:VCARD\r\n";
 
 /// The seeds of the log's salts: each time that files are opened they get other salts.
 const SEEDS: [u64; 3] = [17, 18, 19];
-
-fn put<S: Alter>(
-    conn: &mut Connection<S>,
-    uid: &str,
-    changed: i64,
-    card: &str,
-) -> Result<(), Error> {
-    conn.execute(
-        "INSERT INTO member (book, uid, changed, card) VALUES (1, ?1, ?2, ?3)",
-        params![uid, changed, card],
-    )?;
-    Ok(())
-}
-
-/// Creates the tables of the first schema, with their books.
-fn create_first_schema<S: Alter>(conn: &mut Connection<S>) -> Result<(), Error> {
-    conn.execute_batch(TABLES)?;
-    put(conn, "a", 4, ANNA)?;
-    put(conn, "b", 7, BOB)
-}
 
 /// Work that creates tables of the first schema.
 #[derive(Clone, Copy)]
@@ -91,14 +48,6 @@ pub(crate) fn first_schema_disks<D: FusedDisk>(alloc: Global) -> Result<Files<D>
     creation
         .created
         .and(disks.ok_or(Mismatch::Finding("new disks are gone")))
-}
-
-/// Migrates the tables. A connection in a transaction is refused; here none is in one.
-fn migrate_tables<S: Alter>(alloc: Global, tables: &mut Connection<S>) -> Result<u64, OpenFault> {
-    if !tables.is_autocommit() {
-        return Err(OpenFault::NotOurs);
-    }
-    migrate_connection(alloc, tables)
 }
 
 /// Adds the books of the store.

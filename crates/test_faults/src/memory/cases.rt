@@ -1,11 +1,11 @@
 //! All cases.
 
-use crate::events::run_drive;
-use crate::migration::run_migrate_connection;
-use crate::opening::run_opening;
-use crate::paths::{run_first_path, run_read_order};
-use crate::requests::run_feed;
-use crate::tables::OverTables;
+use crate::memory::events::run_drive;
+use crate::memory::migration::run_migrate_connection;
+use crate::memory::opening::run_opening;
+use crate::memory::paths::{run_first_path, run_read_order};
+use crate::memory::requests::run_feed;
+use crate::memory::tables::OverTables;
 use test_support::oom::{
     Harness, InMemory, Stop, Stores, run_cards, run_commands, run_device, run_mirror, run_texts,
 };

@@ -1,15 +1,14 @@
 //! Opens stores over the tables of a connection in memory. If a store isn't opened, the connection
 //! is dropped, and with it its tables: then another connection is used to repeat the call.
 
-use crate::tables::{OverTables, TableStore, Tables};
+use crate::first_schema::store_over;
+use crate::memory::tables::{OverTables, TableStore, Tables};
 use book_service::Reply;
-use book_store::OpenFault;
+use book_store::{OpenFault, SqlStore};
+use sqlite::Alter;
 use std::alloc::Global;
 use sync_core::Limits;
 use test_support::oom::{Harness, Stop, filled_store, limits, query_books};
-
-/// A store, or why it wasn't opened.
-type Opened = Result<TableStore, OpenFault>;
 
 /// The books of an opened store, or why it wasn't opened.
 type Books = Result<Vec<Reply>, OpenFault>;
@@ -19,18 +18,18 @@ fn filled_tables(alloc: Global) -> Result<Tables, Stop> {
     Ok(filled_store(alloc, &OverTables)?.into_connection())
 }
 
-/// Adopts the connection. One in a transaction is refused; here none is in one.
-pub(crate) fn adopt_tables(alloc: Global, limits: Limits, tables: Tables) -> Opened {
-    if !tables.is_autocommit() {
-        return Err(OpenFault::NotOurs);
-    }
-    TableStore::adopt(alloc, tables, limits)
-}
-
 /// The books of an opened store, or why it wasn't opened.
-pub(crate) fn books_of_opened(alloc: Global, opened: Opened) -> Result<Books, Stop> {
+pub(crate) fn books_of_opened<S: Alter + Drop>(
+    alloc: Global,
+    opened: Result<SqlStore<S>, OpenFault>,
+) -> Result<Books, Stop> {
     match opened {
-        Ok(mut store) => Ok(Ok(query_books(alloc, &mut store)?)),
+        Ok(store) => {
+            let mut store = store;
+            let books = query_books(alloc, &mut store);
+            drop(store);
+            Ok(Ok(books?))
+        }
         Err(fault) => Ok(Err(fault)),
     }
 }
@@ -38,7 +37,7 @@ pub(crate) fn books_of_opened(alloc: Global, opened: Opened) -> Result<Books, St
 /// The books of a filled store that is adopted, or why it isn't.
 fn adopted_books(alloc: Global, limits: Limits) -> Result<Books, Stop> {
     let tables = filled_tables(alloc)?;
-    books_of_opened(alloc, adopt_tables(alloc, limits, tables))
+    books_of_opened(alloc, store_over(alloc, tables, limits))
 }
 
 /// Reports what was opened in the window, and again after it. `expected` are the expected books.
@@ -73,7 +72,7 @@ fn run_adopt(harness: &mut Harness) -> Result<(), Stop> {
     let expected = adopted_books(alloc, limits)?;
     let tables = filled_tables(alloc)?;
     harness.open_window("adopt");
-    let opened = adopt_tables(alloc, limits, tables);
+    let opened = store_over(alloc, tables, limits);
     harness.close_window();
     let answer = books_of_opened(alloc, opened);
     let again = adopted_books(alloc, limits);

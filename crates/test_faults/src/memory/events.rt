@@ -1,13 +1,13 @@
 //! Lists of events.
 
 use base_types::NoMemory;
-use book_service::{Event, Reply, drive};
+use book_service::{Event, Reply};
 use std::alloc::Global;
 use sync_core::{BookStore, Device};
 use test_support::oom::{
     FEW_CARDS, FILLING, Harness, Stop, Stores, have_same_books, is_no_memory, store_filled_by,
 };
-use test_support::scripts::parse_event;
+use test_support::scripts::{parse_event, replies_to_events};
 
 /// Devices of a book ask among commands that change it, from its creation on: for pages of one
 /// entry, from an old token, and once more when nothing is due.
@@ -107,11 +107,7 @@ fn drive_events<S: BookStore>(
     events: &[Event],
 ) -> Result<Vec<Reply>, NoMemory> {
     let Office { store, devices } = office;
-    let count = devices.len();
-    if !events.iter().all(|event| event.is_within(count)) {
-        return Err(NoMemory);
-    }
-    drive(alloc, store, devices, events)
+    replies_to_events(alloc, store, devices, events)
 }
 
 /// Drives the events in both offices, and returns whether the replies agree.
@@ -192,6 +188,15 @@ fn are_replied_alike_again<S: BookStore>(
     Ok(alike)
 }
 
+/// Makes the devices ask until they are up to date.
+fn ask_last<S: BookStore>(alloc: Global, office: &mut Office<S>) -> Result<(), NoMemory> {
+    let asks = events_in(alloc, LAST_ASKS)?;
+    let replies = drive_events(alloc, office, asks.as_slice());
+    drop(asks);
+    drop(replies?);
+    Ok(())
+}
+
 /// Whether both stores have the same books, and both offices' devices the same copies once they are
 /// up to date.
 fn are_settled_alike<S: BookStore>(
@@ -199,9 +204,8 @@ fn are_settled_alike<S: BookStore>(
     office: &mut Office<S>,
     twin: &mut Office<S>,
 ) -> Result<bool, Stop> {
-    let asks = events_in(alloc, LAST_ASKS)?;
-    drive_events(alloc, office, asks.as_slice())?;
-    drive_events(alloc, twin, asks.as_slice())?;
+    ask_last(alloc, office)?;
+    ask_last(alloc, twin)?;
     let same = have_same_books(alloc, &mut office.store, &mut twin.store)?;
     Ok(same && office.devices == twin.devices)
 }
@@ -258,7 +262,22 @@ fn run_events<S: BookStore>(
     report_replies(harness, office, twin, events, &answer);
 }
 
-/// Drives the events over a store with this filling, if the case is selected.
+/// Drives the events over a store with this filling, and over its twin.
+fn run_offices<K: Stores>(
+    harness: &mut Harness,
+    kind: &K,
+    name: &str,
+    filling: &str,
+    events: &[Event],
+) -> Result<(), Stop> {
+    let alloc = harness.alloc();
+    let mut office = new_office(alloc, kind, filling)?;
+    let mut twin = new_office(alloc, kind, filling)?;
+    run_events(harness, &mut office, &mut twin, events, name, kind.over());
+    Ok(())
+}
+
+/// The same for the events of the lines, if the case is selected.
 fn run_drive_case<K: Stores>(
     harness: &mut Harness,
     kind: &K,
@@ -266,17 +285,13 @@ fn run_drive_case<K: Stores>(
     filling: &str,
     events: &str,
 ) -> Result<(), Stop> {
-    let over = kind.over();
-    if !harness.is_selected_over(name, over) {
+    if !harness.is_selected_over(name, kind.over()) {
         return Ok(());
     }
-    let alloc = harness.alloc();
-    let events = events_in(alloc, events)?;
-    let mut office = new_office(alloc, kind, filling)?;
-    let mut twin = new_office(alloc, kind, filling)?;
-    let events = events.as_slice();
-    run_events(harness, &mut office, &mut twin, events, name, over);
-    Ok(())
+    let events = events_in(harness.alloc(), events)?;
+    let result = run_offices(harness, kind, name, filling, events.as_slice());
+    drop(events);
+    result
 }
 
 /// Drives lists of events: one over an empty store, one over a filled store, and one in which a

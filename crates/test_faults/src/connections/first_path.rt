@@ -60,6 +60,16 @@ const FAILURES: [Failure; 7] = [
     ("the flush fails", 0, BROKEN, 0, true),
 ];
 
+/// Runs the order on the octets with this failure. Returns how it ended, and the number of octets
+/// that it wrote.
+fn end_of(alloc: Global, octets: &[u8], failure: Failure) -> (Result<(), Stop>, usize) {
+    let (_, at_read, kind, at_write, at_flush) = failure;
+    let mut reader = FailingReader::new(octets, at_read, kind);
+    let mut writer = FailingWriter::new(alloc, at_write, at_flush);
+    let ended = run_try(alloc, &mut reader, &mut writer);
+    (ended, writer.octets.len())
+}
+
 /// Runs the order on the octets with this failure, and adds how it ended.
 fn push_path(
     alloc: Global,
@@ -67,11 +77,8 @@ fn push_path(
     failure: Failure,
     out: &mut Vec<u8>,
 ) -> Result<(), NoMemory> {
-    let (what, at_read, kind, at_write, at_flush) = failure;
-    let mut reader = FailingReader::new(octets, at_read, kind);
-    let mut writer = FailingWriter::new(alloc, at_write, at_flush);
-    let ended = run_try(alloc, &mut reader, &mut writer);
-    push_end(alloc, what, ended, writer.octets.len(), out)
+    let (ended, written) = end_of(alloc, octets, failure);
+    push_end(alloc, failure.0, ended, written, out)
 }
 
 /// Runs the order on the card of the row's first connection, with each failing input and output,

@@ -1,7 +1,8 @@
 //! Checks the state after a stop.
 
-use crate::disks::{FusedDisk, Work, over_disks};
-use crate::run::{Ending, new_store, run_rest, store_over};
+use crate::first_schema::store_over;
+use crate::stops::disks::{FusedDisk, Work, over_disks};
+use crate::stops::run::{Ending, new_store, run_rest};
 use book_store::SqlStore;
 use sqlite::{Alter, Connection, Files};
 use sync_core::BookStore;

@@ -2,9 +2,9 @@
 use crate::cards::ann::{run_card, run_first};
 use crate::cards::lines::{run_cut, run_line, run_part};
 use crate::cards::making::run_make;
+use crate::rows::{TestCalls, check_rows};
 use base_types::NoMemory;
 use std::alloc::Global;
-use test_support::rows::{TestCalls, check_rows};
 use vcard_lines::{escape, unescape};
 
 /// The calls of the rows. None of them keeps state.

@@ -1,6 +1,7 @@
 //! Feeds connections to a service.
 
 use crate::connections::parts::{CONNECTION, Connection};
+use crate::feeding::feed;
 use base_types::NoMemory;
 use http_requests::{Handler, Session};
 use std::alloc::Global;
@@ -13,7 +14,7 @@ pub(crate) fn push_replies<H: Handler>(
     out: &mut Vec<u8>,
 ) -> Result<(), NoMemory> {
     let mut session = Session::new(alloc);
-    let fed = session.feed(alloc, handler, octets);
+    let fed = feed(alloc, &mut session, handler, octets);
     let is_closed = session.closed();
     drop(session);
     let replies = fed?;

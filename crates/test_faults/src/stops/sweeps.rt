@@ -1,8 +1,8 @@
 //! Runs all sweeps, and reports them.
 
-use crate::disks::{FusedDisk, Place};
-use crate::migrations::{first_schema_disks, migrated_books, sweep_migration};
-use crate::sweep::{Sweep, sweep_list};
+use crate::stops::disks::{FusedDisk, Place};
+use crate::stops::migrations::{first_schema_disks, migrated_books, sweep_migration};
+use crate::stops::sweep::{Sweep, sweep_list};
 use sqlite::Files;
 use sqlite_disk::{Fuse, Memory};
 use std::alloc::Global;

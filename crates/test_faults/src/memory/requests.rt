@@ -1,5 +1,6 @@
 //! HTTP requests in one piece.
 
+use crate::feeding::feed;
 use base_types::NoMemory;
 use book_http::Service;
 use book_service::Reply;
@@ -61,7 +62,7 @@ fn push_reply<S: BookStore>(
     is_done: bool,
 ) -> Result<(), NoMemory> {
     let reply = if is_done {
-        session.feed(alloc, service, request.as_bytes())
+        feed(alloc, session, service, request.as_bytes())
     } else {
         reply_bytes(alloc, Reply::Fault(Fault::Memory), false)
     };
@@ -107,7 +108,8 @@ fn requests_left(alloc: Global, requests: Requests) -> Result<String, NoMemory> 
 
 /// Feeds the octets to a new session.
 fn feed_octets<S: BookStore>(alloc: Global, service: &mut Service<S>, octets: &[u8]) -> Answer {
-    Session::new(alloc).feed(alloc, service, octets)
+    let mut session = Session::new(alloc);
+    feed(alloc, &mut session, service, octets)
 }
 
 /// Feeds the octets to a session over each store, and returns whether the replies agree.
@@ -222,7 +224,7 @@ fn run_piece<K: Stores>(
     let alloc = harness.alloc();
     let mut session = Session::new(alloc);
     harness.open_window_over("Session::feed", kind.over());
-    let answer = session.feed(alloc, service, piece);
+    let answer = feed(alloc, &mut session, service, piece);
     harness.close_window();
     let closes_rightly = session.closed() == answer.is_err();
     report_fed(harness, kind, service, &answer, closes_rightly)

@@ -1,10 +1,10 @@
 //! Stops the list at each call of one file's disk.
 
-use crate::checking::{Stop, check_left};
-use crate::disks::{
+use crate::stops::checking::{Stop, check_left};
+use crate::stops::disks::{
     CrashKind, FuseAt, FusedDisk, NO_FUSE, Place, copy_disks, crash_disks, is_burnt,
 };
-use crate::run::{Ending, Run, run_list};
+use crate::stops::run::{Ending, Run, run_list};
 use sqlite::Files;
 use std::alloc::Global;
 use test_support::crash_plans::commands::Kind;

@@ -1,7 +1,7 @@
 //! Performs the list over disks, one of which fails.
 
-use crate::disks::{FuseAt, FusedDisk, Work, empty_disks, over_disks};
-use book_service::{Reply, perform};
+use crate::stops::disks::{FuseAt, FusedDisk, Work, empty_disks, over_disks};
+use book_service::Reply;
 use book_store::{OpenFault, SqlStore};
 use sqlite::{Alter, Connection, Error, Files};
 use std::alloc::Global;
@@ -9,6 +9,7 @@ use store_tables::creation::create_tables;
 use sync_core::{BookStore, Fault, Limits};
 use test_support::crash_plans::expected_run::{ExpectedRun, Step};
 use test_support::crash_plans::followers::Followers;
+use test_support::scripts::reply_to;
 use vcard_text::NoMemory;
 
 /// The seed of the log's salts: files that are opened again get other salts.
@@ -38,18 +39,6 @@ pub(crate) fn new_store<S: Alter + Drop>(
         return Err(OpenFault::NotOurs);
     }
     SqlStore::adopt_new(alloc, tables, limits)
-}
-
-/// The store over the tables of the connection, or why there is none.
-pub(crate) fn store_over<S: Alter + Drop>(
-    alloc: Global,
-    tables: Connection<S>,
-    limits: Limits,
-) -> Result<SqlStore<S>, OpenFault> {
-    if !tables.is_autocommit() {
-        return Err(OpenFault::NotOurs);
-    }
-    SqlStore::adopt(alloc, tables, limits)
 }
 
 /// Creates the tables as a new store does.
@@ -85,7 +74,7 @@ struct Answer {
 
 /// Performs the command.
 fn answer_to<B: BookStore>(expected_run: &ExpectedRun, store: &mut B, step: &Step) -> Answer {
-    let reply = perform(expected_run.alloc, store, &step.command);
+    let reply = reply_to(expected_run.alloc, store, &step.command);
     let answer = Answer {
         is_fault: matches!(&reply, Reply::Fault(Fault::Store)),
         is_right: reply == step.reply,

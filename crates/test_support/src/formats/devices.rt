@@ -1,10 +1,10 @@
 //! A device that applies pages.
 
+use crate::scripts::format_device;
 use base_types::NoMemory;
 use page_json::read_report;
 use std::alloc::Global;
 use sync_core::Device;
-use test_support::scripts::format_device;
 
 /// The device applies the page of the text, or drops its token if the text is no page.
 fn apply_text(alloc: Global, device: &mut Device, text: &str) -> Result<(), NoMemory> {

@@ -3,9 +3,9 @@
 use crate::formats::devices::device;
 use crate::formats::limits::limits;
 use crate::formats::pages::page;
+use crate::rows::{TestCalls, check_rows};
 use base_types::NoMemory;
 use std::alloc::Global;
-use test_support::rows::{TestCalls, check_rows};
 
 /// The calls, which keep no state.
 #[derive(Drop)]

@@ -1,6 +1,6 @@
 //! Runs each case with little memory: with none, then with more and more until it has enough.
 
-use crate::cases::run_cases;
+use crate::memory::cases::run_cases;
 use test_support::oom::{Harness, Outcome, Stop};
 
 /// The least amount of memory, in octets. It is doubled until the call has enough.

@@ -2,7 +2,6 @@
 //! memory, one of which fails at its n-th call and at each later one, for each n until none fails.
 //! The disks are opened again, and must have the books before the stopped command or those after
 //! it.
-#![tactic(auto)]
 
 mod checking;
 mod disks;

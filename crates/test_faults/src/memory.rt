@@ -1,6 +1,5 @@
 //! Calls over stores of two kinds, each in a window in which allocations may be refused. Runs them
 //! and the calls of `oom` in `test_support`, with all memory and with little.
-#![tactic(auto)]
 
 mod cases;
 mod events;
@@ -11,8 +10,8 @@ mod paths;
 mod requests;
 mod tables;
 
-use crate::cases::run_cases;
-use crate::low_memory::run_low_memory;
+use crate::memory::cases::run_cases;
+use crate::memory::low_memory::run_low_memory;
 use test_support::oom::Harness;
 pub use test_support::oom::Stop;
 
