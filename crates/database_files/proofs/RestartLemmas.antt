@@ -37,7 +37,7 @@ left_in_files {D = D} {g = g} it Allowed files same numbered sound allowed clean
 -- an opening shows the database that the files held
 pub opens_as : {D : Type 0} {g : Ghosts D} {E : Type 0} (files : Files D) (r : Result (Held (FileStore D g)) E) → IfOk r (λ c. HasCleanDisk (file_state c) → IsOpened c) → IfOk r (λ c. HasCleanDisk (file_state c) → Finds files c)
     → (db : Database) → HoldsListed (image_of g files) db → IfOk r (λ c. HasCleanDisk (file_state c) → ShowsOpened (file_state c) db)
-opens_as files (Ok c) opened found db held clean =
+opens_as files (Ok c) opened found db held = λ clean.
     let it = opened clean in
     let trees : (file_state c).now.trees ≡ db.trees = ap (λ (d : Database). d.trees) it.0.clean ∙ (found clean).holds db.trees held.holds in
     let lists = (it.1 it.0.is_open).0.lists in
@@ -49,7 +49,7 @@ opens_as files (Err e) opened found db held = tt
 pub fails_with_cause : {D : Type 0} {g : Ghosts D} {T : Type 0} (files : Files D) (r : Result T (Error × Leftover D g)) → IfErr r (λ e. IsCleanLeft e.1 → FailsToOpenFiles files e.1 e.0)
     → (db : Trees) → HoldsDatabase (image_of g files) db → IfErr r (λ e. IsCleanLeft e.1 → HasOpenCause files e.1 e.0)
 fails_with_cause files (Ok c) fails db holds = tt
-fails_with_cause files (Err e) fails db holds clean = elim (fails clean) [
+fails_with_cause files (Err e) fails db holds = λ clean. elim (fails clean) [
   | inl memory ↦ inl memory
   | inr (inl refused) ↦ absurd (refused.1 (inl (db, holds)))
   | inr (inr (inl fault)) ↦ inr (inl fault.1)

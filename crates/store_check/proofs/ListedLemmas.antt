@@ -233,8 +233,8 @@ module _ (limits : Bounds) (db : Database) (books members imports keeps : List R
 
   stored_of_held : HoldsWellFormed limits db → AreWellStored limits books members imports keeps
   stored_of_held h = record {
-    shown = shown_of_held h.rows h.holds h.well_formed.readable;
-    well_formed = well_formed_moved h.rows (decode_rows books members imports keeps) (same_rows h.rows h.holds h.well_formed.readable) limits h.well_formed;
+    shown = shown_of_held h.rows h.holds h.well_formed.sound.readable;
+    well_formed = well_formed_moved h.rows (decode_rows books members imports keeps) (same_rows h.rows h.holds h.well_formed.sound.readable) limits h.well_formed;
   }
 
 pub well_stored_held : WellStoredAreHeld

@@ -95,7 +95,7 @@ pub record PassRowChecks (limits : Bounds) (rows : TableRows) : Type 0 where
   pub apart : HaveDistinctChanges rows.members
   pub imports : AllByRecursion (λ i. IfBook rows.books i.book (IsCheckedImport i)) rows.imports
 
--- Sound, readable rows represent well-formed books exactly if they pass these tests.
+-- Sound rows represent well-formed books exactly if they pass these tests.
 abbrev pub CheckedAreWellFormed : Type 0
-CheckedAreWellFormed = (limits : Bounds) (rows : TableRows) → AreSoundRows rows → AreReadable rows →
+CheckedAreWellFormed = (limits : Bounds) (rows : TableRows) → AreSoundRows rows →
     PassRowChecks limits rows ↔ AreWellFormed limits rows
