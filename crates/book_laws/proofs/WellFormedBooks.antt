@@ -393,9 +393,9 @@ module _ (limits : Bounds) (books : Books) (name : List ℕ) (is : IsWellFormed 
       }
 
   -- a book is new
-  pub well_new : 1 ≤ limits.keep → finite.contains_key books name ≡ false → is_legal_name name ≡ true → finite.len books < limits.books_max → IsWellFormed limits (finite.insert books name (fresh_book (finite.len books + 1) limits.keep))
-  well_new least free legal room =
-      let book : Book = fresh_book (finite.len books + 1) limits.keep in
+  pub well_new : (keep : ℕ) → 1 ≤ keep → finite.contains_key books name ≡ false → is_legal_name name ≡ true → finite.len books < limits.books_max → IsWellFormed limits (finite.insert books name (fresh_book (finite.len books + 1) keep))
+  well_new keep least free legal room =
+      let book : Book = fresh_book (finite.len books + 1) keep in
       let n : finite.len (finite.insert books name book) ≡ finite.len books + 1 = len-insert text_total books name book ∙ cond-false _ _ _ free in
       record {
         within_limit = omega (arith, n, room);
@@ -403,7 +403,7 @@ module _ (limits : Bounds) (books : Books) (name : List ℕ) (is : IsWellFormed 
         first_id = for_each (λ q x. 1 ≤ x.id) book is.first_id (omega arith);
         last_id = for_each (λ q x. x.id ≤ finite.len (finite.insert books name book)) book (λ q x e. let le = is.last_id q x e in omega (arith, le, n)) (omega (arith, n));
         ids_apart = apart book (λ q x e same_id. let le = is.last_id q x e in absurd (omega (arith, le, same_id)));
-        each = for_each (λ q x. IsWellFormedBook limits x) book is.each (well_empty (finite.len books + 1) limits.keep limits least);
+        each = for_each (λ q x. IsWellFormedBook limits x) book is.each (well_empty (finite.len books + 1) keep limits least);
       }
 
 abbrev no_books : Books
