@@ -189,6 +189,22 @@ within limits after book room is = record {
 }
 
 -- and with any tombstone limit that is enough for its tombstones
+-- well-formed books are so by greater limits
+pub wider : (limits after : Bounds) (books : Books) → limits.changes_max ≤ after.changes_max → limits.books_max ≤ after.books_max → IsWellFormed limits books → IsWellFormed after books
+wider limits after books changes more is =
+    let few = is.within_limit in
+    record {
+      within_limit = omega (arith, few, more);
+      legal_names = is.legal_names;
+      first_id = is.first_id;
+      last_id = is.last_id;
+      ids_apart = is.ids_apart;
+      each = λ name book at.
+          let form = is.each name book at in
+          let low = form.within_limit in
+          within limits after book (omega (arith, low, changes)) form;
+    }
+
 pub with_other_keep : (limits : Bounds) (book : Book) (keep : ℕ) → 1 ≤ keep → tombstone_count book ≤ keep → IsWellFormedBook limits book → IsWellFormedBook limits (record book { keep = keep })
 with_other_keep limits book keep least enough is = record {
   counted_once = is.counted_once;

@@ -12,6 +12,7 @@ use Rattle.book_model.specs.BookNames.{is_legal_name}
 use Rattle.book_model.specs.Books.{Books, fresh_book}
 use Rattle.book_model.specs.CallOutcomes.{◌>>=◌, MatchesStep, refuse_unless}
 use Rattle.book_model.specs.Creating.{create_step, new_id}
+use Rattle.book_model.specs.WellFormed.{IsWellFormed}
 use Rattle.book_model.proofs.BasicLemmas.{is_some-false}
 use Rattle.sqlite.specs.Effect.{Database}
 use Rattle.sqlite.specs.State.{State, HasCleanDisk}
@@ -31,7 +32,7 @@ use Rattle.book_model.proofs.EntryLemmas.{right_created}
 -- ---- what holds of the books after a step
 
 -- of the books before it, and of those of its success
-matched : {A : Type 0} (Q : Books → Type 0) (r : Result A Denied) (step : Result (A × Books) Refusal) (old new : Books) → IfOk step (λ done. Q done.1) → Q old → MatchesStep r step old new → Q new
+pub matched : {A : Type 0} (Q : Books → Type 0) (r : Result A Denied) (step : Result (A × Books) Refusal) (old new : Books) → IfOk step (λ done. Q done.1) → Q old → MatchesStep r step old new → Q new
 matched Q (Ok answer) (Ok done) old new after before m = subst Q (sym m.1) after
 matched Q (Ok answer) (Err refusal) old new after before m = absurd m
 matched Q (Err (Refused refusal)) (Ok done) old new after before m = absurd m
@@ -108,6 +109,12 @@ opened_sound limits old new left settled formed order =
       committed = kept.now_is ∙ settled kept.was_open ∙ sym kept.committed_is;
       sound = subst HoldsSoundRows (sym kept.now_is) (record { rows = held.rows; holds = held.holds; sound = held.well_formed.sound });
     }
+
+pub opened_formed : (limits : Bounds) (old new : State) → ChangesNothing old new → HasNoPendingWrites old → (HasCleanDisk new → HoldsWellFormed limits old.now) → IsOpenOnHonestDisk new → IsWellFormed limits (stored_books new)
+opened_formed limits old new left settled formed order =
+    let kept = left.same order.0 order.1 settled in
+    let held = formed order.0 in
+    subst (IsWellFormed limits) (sym (books_held old.now held.rows held.holds held.well_formed.sound) ∙ sym (ap (λ (d : Database). books_in d.trees) kept.now_is)) held.well_formed.books
 
 pub opened_counts : (old new : State) (counts : CountsByName) → ChangesNothing old new → HasNoPendingWrites old → (HasCleanDisk new → AreCountsOf counts (stored_books old)) → HoldCounts new counts
 opened_counts old new counts left settled right order sound =

@@ -1,5 +1,5 @@
 -- The state of a store after calls that only read.
-use Rattle.std.proofs.Common.{◌≡◌, Result, Ok, Err, sym, ap, subst, ◌∙◌}
+use Rattle.std.proofs.Common.{◌≡◌, Result, Ok, Err, sym, ap, subst, ◌∙◌, arith}
 use Rattle.std.specs.FinMap as finite
 use Rattle.sqlite.specs.Effect.{Database}
 use Rattle.sqlite.specs.Held.{state}
@@ -11,6 +11,10 @@ use Rattle.book_model.specs.declared.refusal.Refusal.{Refusal}
 use Rattle.book_model.specs.Books.{Books}
 use Rattle.book_model.specs.Bounds.{Bounds, IsInRange}
 use Rattle.book_model.specs.CallOutcomes.{MatchesQuery}
+use Rattle.book_model.specs.WellFormed.{IsWellFormed}
+use Rattle.book_laws.specs.WellFormedLaws.{AreWithin, LeavesWellFormed}
+use Rattle.book_laws.proofs.WellFormedBooks.{well_none}
+use Rattle.store_check.specs.OpenResults.{max_limits}
 use Rattle.store_tables.specs.StatementEffects.{OnlyReads}
 use Rattle.store_rows.specs.SoundTables.{HoldsSoundRows}
 use Rattle.store_rows.specs.TableBooks.{books_of, books_in}
@@ -26,6 +30,7 @@ use Rattle.book_store.specs.StoreViews.{ChangesStore, IsStore, ReadsStore, Store
 use Rattle.store_writes.specs.TableChanges.{AppliesStep, CommitsOnce}
 use Rattle.store_lookups.specs.StoredBooks.{HoldCounts, IsOpenOnHonestDisk, IsCommittedAndSound, stored_books}
 use Rattle.store_writes.proofs.CallLemmas.{read_before}
+use Rattle.book_store.proofs.CountLemmas.{matched}
 
 -- the answer of a call that changed nothing
 pub reads_of : {T A S : Type 0} (allows : T → A → Type 0) (r : Result A Denied) (due : Result T Refusal) (old new : S) → FollowsStep allows r due → new ≡ old → MatchesQuery allows r due old new
@@ -43,6 +48,11 @@ still_store old new limits store left = record {
       let was = store.stays_sound (read_before old new left order) in
       let here = left.same order.0 was.sound.holds.schema order.1 (λ _. was.committed) in
       record { committed = here.now_is ∙ was.committed ∙ sym here.committed_is; sound = subst HoldsSoundRows (sym here.now_is) was.sound };
+  stays_well_formed = λ order.
+      let before = read_before old new left order in
+      let was = store.stays_sound before in
+      let here = left.same order.0 was.sound.holds.schema order.1 (λ _. was.committed) in
+      subst (λ (d : Database). IsWellFormed max_limits (books_in d.trees)) (sym here.now_is) (store.stays_well_formed before);
   range = store.range;
 }
 
@@ -100,6 +110,9 @@ counted_reads_store g allows old new counts r query store right same left return
 pub new_store_is_sound : (s : State) → IsNewStoreCommitted s → IsCommittedAndSound s
 new_store_is_sound s h = record { committed = h.committed; sound = record { rows = no_rows; holds = new_tables_empty s.now h.created; sound = no_rows_sound } }
 
+pub new_store_is_formed : (s : State) → IsNewStoreCommitted s → IsWellFormed max_limits (stored_books s)
+new_store_is_formed s h = subst (IsWellFormed max_limits) (sym (nothing_held s.now (new_tables_empty s.now h.created)).books) (well_none max_limits)
+
 -- a call that changed the tables of a store
 pub changes_store : {S A : Type 0} (g : Ghosts S) (old new : StoreView S) (r : Result A Denied) (step : Bounds → Books → Result (A × Books) Refusal) → IsStore (state g old.conn) old.limits → new.limits ≡ old.limits
     → AppliesStep (state g old.conn) (state g new.conn) r (step old.limits) → CommitsOnce (state g old.conn) (state g new.conn) (step old.limits) → ChangeFaultsFromOutside (state g old.conn) (state g new.conn) r → ChangesStore g old new r step
@@ -114,10 +127,33 @@ changes_store g old new r step store same changed commits causes = record {
   store_fault = causes;
 }
 
+pub max_in_range : IsInRange max_limits
+max_in_range = record {
+  page_least = omega arith;
+  page_most = omega arith;
+  cards_least = omega arith;
+  cards_most = omega arith;
+  changes_least = omega arith;
+  changes_most = omega arith;
+  books_least = omega arith;
+  books_most = omega arith;
+  keep_least = omega arith;
+  keep_most = omega arith;
+}
+
+-- limits in range are within those that an opening tests
+pub within_max : (limits : Bounds) → IsInRange limits → AreWithin limits max_limits
+within_max limits range = record { changes = range.changes_most; books = range.books_most }
+
 -- a change keeps the invariant of the store
-pub changed_store : {A : Type 0} (old new : State) (limits : Bounds) (r : Result A Denied) (step : Books → Result (A × Books) Refusal) → IsStore old limits → AppliesStep old new r step → IsStore new limits
-changed_store old new limits r step store changed = record {
+pub changed_store : {A : Type 0} (old new : State) (limits : Bounds) (r : Result A Denied) (step : Books → Result (A × Books) Refusal) → IsStore old limits
+    → (AreWithin limits max_limits → (books : Books) → IsWellFormed max_limits books → LeavesWellFormed max_limits (step books)) → AppliesStep old new r step → IsStore new limits
+changed_store old new limits r step store leaves changed = record {
   settled = changed.settled;
   stays_sound = λ order. changed.stays_sound order (store.stays_sound (changed.was_open_on_honest_disk order));
+  stays_well_formed = λ order.
+      let before = changed.was_open_on_honest_disk order in
+      let was = store.stays_well_formed before in
+      matched (IsWellFormed max_limits) r (step (stored_books old)) (stored_books old) (stored_books new) (leaves (within_max limits store.range) (stored_books old) was) was (changed.matches_step order (store.stays_sound before));
   range = store.range;
 }

@@ -10,6 +10,8 @@ use Rattle.book_model.specs.declared.denied.Denied.{Denied}
 use Rattle.book_model.specs.declared.refusal.Refusal.{Refusal}
 use Rattle.book_model.specs.Books.{Books}
 use Rattle.book_model.specs.Bounds.{Bounds, IsInRange}
+use Rattle.book_model.specs.WellFormed.{IsWellFormed}
+use Rattle.store_check.specs.OpenResults.{max_limits}
 use Rattle.store_tables.specs.StatementEffects.{OnlyReads}
 use Rattle.store_lookups.specs.ChangeFaults.{ChangeFaultsFromOutside}
 use Rattle.store_lookups.specs.StoreFaults.{FaultsFromOutside}
@@ -25,12 +27,13 @@ store_code {S} store =
     code_by (Held S × Bounds) (coded× (held_code store) coded_bounds) (λ v. (v.conn, v.limits))
     (λ p. record { conn = p.0; limits = p.1 }) (λ _. refl)
 
--- The invariant of a store: no transaction is open, and the tables are committed and sound as long
--- as the connection is open on an honest disk. It does not include that numbers and texts are
--- readable.
+-- The invariant of a store: no transaction is open; and as long as the connection is open on an
+-- honest disk, the tables are committed and sound, and hold well-formed books, by the limits that an
+-- opening tests.
 pub record IsStore (s : State) (limits : Bounds) : Type 0 where
   pub settled : s.in_transaction ≡ false
   pub stays_sound : IsOpenOnHonestDisk s → IsCommittedAndSound s
+  pub stays_well_formed : IsOpenOnHonestDisk s → IsWellFormed max_limits (stored_books s)
   pub range : IsInRange limits
 
 -- the books of a store

@@ -5,7 +5,8 @@ use Rattle.store_lookups.specs.StoredBooks.{stored_books}
 use Rattle.store_check.specs.OpenResults.{IsOpenResult}
 use Rattle.store_check.specs.TombstoneCounts.{IsCountOf}
 use Rattle.store_check.proofs.GreatestLemmas.{are_max_limits}
-use Rattle.book_store.proofs.CountLemmas.{opened_counts, opened_sound}
+use Rattle.book_model.specs.WellFormed.{IsWellFormed}
+use Rattle.book_store.proofs.CountLemmas.{opened_counts, opened_formed, opened_sound}
 use Rattle.book_store.proofs.sql_store.SqlStore.try_adopt.Goals as goal
 
 pub returns-in-Err-clause-refused : goal.returns-in-Err-clause-refused
@@ -20,10 +21,12 @@ returns-in-Err-clause-refused g c =
 pub invariant_of-result : goal.invariant_of-result
 invariant_of-result g c =
     let old = state g.S.Store c.args.connection in
-    let new = state g.S.Store c.count_tombstones.new.conn in (
+    let new = state g.S.Store c.count_tombstones.new.conn in
+    let limits = are_max_limits c.standard.result c.standard.ensures.page c.standard.ensures.cards c.standard.ensures.changes c.standard.ensures.books c.standard.ensures.keep in (
       record {
         settled = c.count_tombstones.ensures.changes_nothing.mode c.requires;
         stays_sound = opened_sound _ old new c.count_tombstones.ensures.changes_nothing c.assert_no_pending_writes.ensures (λ clean. (c.in-Ok.ensures.answers clean).0);
+        stays_well_formed = λ order. subst (λ b. IsWellFormed b (stored_books new)) limits (opened_formed _ old new c.count_tombstones.ensures.changes_nothing c.assert_no_pending_writes.ensures (λ clean. (c.in-Ok.ensures.answers clean).0) order);
         range = search rules;
       },
       opened_counts old new c.counts_of.result c.count_tombstones.ensures.changes_nothing c.assert_no_pending_writes.ensures (λ clean.
