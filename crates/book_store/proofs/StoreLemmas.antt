@@ -123,7 +123,7 @@ changes_store g old new r step store same changed commits causes = record {
     range = subst IsInRange (sym same) store.range;
   };
   matches_step = λ order. changed.matches_step order (store.stays_sound (changed.was_open_on_honest_disk order));
-  crash = λ order. commits (store.stays_sound order);
+  crash = commits store.stays_sound;
   store_fault = causes;
 }
 

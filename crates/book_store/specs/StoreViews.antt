@@ -15,7 +15,7 @@ use Rattle.store_check.specs.OpenResults.{max_limits}
 use Rattle.store_tables.specs.StatementEffects.{OnlyReads}
 use Rattle.store_lookups.specs.ChangeFaults.{ChangeFaultsFromOutside}
 use Rattle.store_lookups.specs.StoreFaults.{FaultsFromOutside}
-use Rattle.store_writes.specs.TableChanges.{HoldBooksAfter}
+use Rattle.store_writes.specs.TableChanges.{CommitsStep}
 use Rattle.store_lookups.specs.StoredBooks.{IsOpenOnHonestDisk, IsCommittedAndSound, stored_books}
 
 pub record StoreView (S : Type 0) : Type 0 where
@@ -62,13 +62,13 @@ pub record ReadsStore {S : Type 0} {T A : Type 0} (g : Ghosts S) (allows : T →
   pub store_fault : FaultsFromOutside (state g old.conn) (state g new.conn) r
 
 -- A call that changes the books: the contract of every store, and what a crash can leave. That is
--- what it could leave before the call, or the one commit, with the books after the whole call. Over
--- rows that can be changed, a fault of the store comes only from an outside cause.
+-- what it could leave before the call, or the one commit, with the books after the whole call, which
+-- is made only over a connection that was open on an honest disk. Over rows that can be changed, a
+-- fault of the store comes only from an outside cause.
 pub record ChangesStore {S : Type 0} {A : Type 0} (g : Ghosts S) (old new : StoreView S)
     (r : Result A Denied) (step : Bounds → Books → Result (A × Books) Refusal) : Type 0 where
   pub keeps_terms : KeepsTerms (table_model g) old new
   pub matches_step : PerformsStep (table_model g) old new r step
-  pub crash : IsOpenOnHonestDisk (state g old.conn) →
-      Survives (state g old.conn) (state g new.conn)
-      (HoldBooksAfter (step old.limits (books_of_store g old)))
+  pub crash : Survives (state g old.conn) (state g new.conn)
+      (CommitsStep (state g old.conn) (step old.limits))
   pub store_fault : ChangeFaultsFromOutside (state g old.conn) (state g new.conn) r

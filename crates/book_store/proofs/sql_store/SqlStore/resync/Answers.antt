@@ -27,7 +27,7 @@ resyncs_store g old new pairs r store same changed commits = record {
     range = subst IsInRange (sym same) store.range;
   };
   matches_step = λ order. changed.matches_step order (store.stays_sound (changed.was_open_on_honest_disk order));
-  crash = λ order. commits (store.stays_sound order);
+  crash = commits store.stays_sound;
 }
 
 -- a resync that isn't refused keeps books well formed
