@@ -1,13 +1,13 @@
 -- Runs of a server, one after another.
-use Rattle.std.proofs.Common.{◌≡◌, ◌⊎◌, inl, inr, List, [], ◌∷◌, ◌++◌, refl, sym, subst, ◌∙◌}
+use Rattle.std.proofs.Common.{inl, inr, List, [], ◌∷◌, ◌++◌, sym, subst, ◌∙◌}
 use Rattle.std.proofs.lemmas.List.{append_assoc}
 use Rattle.book_laws.specs.StoreHistories.{IsSoundStoreHistory}
 use Rattle.book_commands.specs.declared.reply.Reply.{Reply}
 use Rattle.book_service.specs.declared.event.Event.{Event}
-use Rattle.book_service.specs.Lives.{AlwaysInLives, IsLife, LivesAreRuns, LivesStayWellFormed, PartsOfLivesAreRuns}
+use Rattle.book_service.specs.Lives.{AlwaysInLives, LivesAreRuns, LivesStayWellFormed, PartsOfLivesAreRuns}
 use Rattle.book_service.specs.Promise.{Always, HasWellFormedRows, NextStateIsSound, RowsStayWellFormed}
 use Rattle.book_service.specs.Runs.{SystemState, TraceStep, AtEachStep, Run, end_of}
-use Rattle.book_service.proofs.StepLemmas.{end-append, runs_join, runs_split}
+use Rattle.book_service.proofs.StepLemmas.{runs_join, runs_split}
 
 pub lives_are_runs : LivesAreRuns
 lives_are_runs now [] trace life = subst (Run now) (sym life) tt

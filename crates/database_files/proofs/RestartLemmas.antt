@@ -1,10 +1,9 @@
 -- What a crash leaves of the files of a connection that is used no more, and what an opening shows.
-use Rattle.std.proofs.Common.{◌≡◌, ◌⊎◌, inl, inr, IfErr, IfOk, IsTrue, Result, Ok, Err, sym, ap, subst, ◌∙◌}
+use Rattle.std.proofs.Common.{◌≡◌, inl, inr, IfErr, IfOk, IsTrue, Result, Ok, Err, sym, ap, subst, ◌∙◌}
 use Rattle.std.proofs.Math.Logic.{∥∥₁_map}
 use Rattle.sqlite.specs.Effect.{Database}
 use Rattle.sqlite.specs.Files.{Finds, FailsToOpenFiles, HoldsDatabase, IsCleanLeft, IsOpened, file_state, image_of}
 use Rattle.sqlite.specs.Held.{Held, AreDatabases}
-use Rattle.sqlite.specs.Recovery.{Image}
 use Rattle.sqlite.specs.State.{HasCleanDisk}
 use Rattle.sqlite.specs.Tree.{Trees}
 use Rattle.sqlite.specs.WalFiles.{outcomes}

@@ -1,11 +1,10 @@
 -- The tables of well-formed books are computed from the books.
-use Rattle.std.proofs.Common.{◌≡◌, ℕ, ℤ, pos, zero, suc, Bool, true, false, ◌||◌, ◌≤◌, List, [], ◌∷◌, ◌++◌, drop, map, filter, find, flat_map, Option, Some, None, int_eq, IfSome, IsPermutation, refl, sym, ap, ap₂, subst, ◌∙◌, true≢false, arith}
+use Rattle.std.proofs.Common.{◌≡◌, ℕ, ℤ, pos, Bool, true, false, ◌||◌, ◌≤◌, List, [], ◌∷◌, ◌++◌, drop, map, filter, find, flat_map, Option, Some, None, int_eq, IfSome, IsPermutation, refl, sym, ap, ap₂, subst, ◌∙◌, arith}
 use Rattle.std.specs.FinMap as finite
 use Rattle.std.specs.List.{AllByRecursion, list_any}
 use Rattle.std.specs.Option.{option_map, option_map_or}
 use Rattle.std.proofs.lemmas.List.Concat.{flat_map_single}
 use Rattle.std.proofs.lemmas.List.Sorted.{IsPermutation-append, IsPermutation-append_right, IsPermutation-cons, IsPermutation-map, IsPermutation-middle, IsPermutation-refl, IsPermutation-sym, IsPermutation-trans}
-use Rattle.sqlite.specs.declared.types.Value.{Value}
 use Rattle.sqlite.specs.declared.types.Value.TheVariants.{Int, Text}
 use Rattle.sqlite.specs.Effect.{Database}
 use Rattle.sqlite.specs.Order.{Row, column}
@@ -15,7 +14,7 @@ use Rattle.sqlite_rules.specs.Lists.{Has}
 use Rattle.sqlite_trees.specs.Tree.{IsAscending}
 use Rattle.sqlite_trees.proofs.ListLemmas.{all-map, all-permutation, all_weaker, ascending-map, ascending_weaker, flat_map-map, flat_map_none, map-flat_map, map-map, IsPermutation-flat_map, IsPermutation-same}
 use Rattle.vcard_text.specs.Cards.{canonical_text}
-use Rattle.book_model.specs.Books.{Book, Books}
+use Rattle.book_model.specs.Books.{Book}
 use Rattle.book_model.specs.Bounds.{Bounds}
 use Rattle.store_tables.specs.Books.{BookRow, AreBooks, book_cells, book_row, has_id}
 use Rattle.store_tables.specs.Imports.{ImportRow, import_cells, import_row}
@@ -24,8 +23,8 @@ use Rattle.store_tables.specs.Members.{MemberRow, is_in_book, member_cells, memb
 use Rattle.store_tables.proofs.KeyedRows.{all_has, same_int}
 use Rattle.store_rows.specs.Values.{IsCanonical, IsNatural, lines_or_none, natural, text_card}
 use Rattle.store_rows.specs.TableRows.{TableRows, HoldsRows}
-use Rattle.store_rows.specs.TableBooks.{book_entry, books_in, books_of, imports_in, keep_of_book, line_row, member_entry, members_in, model_row, row_book, row_tally, import_entry}
-use Rattle.store_rows.specs.SoundTables.{AreReadable, AreSoundRows, AreWellFormed, HasBookId, HoldsWellFormed, IsReadableBook, IsReadableImport, IsReadableKeep, IsReadableMember}
+use Rattle.store_rows.specs.TableBooks.{book_entry, books_of, imports_in, keep_of_book, member_entry, members_in, model_row, row_book, row_tally, import_entry}
+use Rattle.store_rows.specs.SoundTables.{AreSoundRows, AreWellFormed, HasBookId, IsReadableBook, IsReadableImport, IsReadableKeep, IsReadableMember}
 use Rattle.store_rows.specs.TablesOfBooks.{AreTablesOf, AreUnderIds, TablesAreOfBooks, stored_book, stored_import, stored_imports, stored_keep, stored_member, stored_members}
 use Rattle.store_rows.proofs.ApartLemmas.{apart_moved}
 use Rattle.store_rows.proofs.BookLemmas.{book_at}
