@@ -1,12 +1,13 @@
 //! Migrates tables of the first schema to the second over a disk that fails.
 
 use crate::disks::{
-    CrashKind, FuseAt, FusedDisk, NO_FUSE, Place, Work, copy_disks, crash_disks, empty_disks,
-    is_burnt, over_disks,
+    CrashKind, FuseAt, FusedDisk, NO_FUSE, Place, Work, copy_disks, empty_disks, is_burnt,
+    over_disks,
 };
 use crate::run::store_over;
 use crate::sweep::{CALLS_MAX, Sweep};
 use book_store::OpenFault;
+use database_files::crash_files;
 use sqlite::{Alter, Connection, Error, Files, params};
 use std::alloc::Global;
 use store_migration::migrate_connection;
@@ -226,7 +227,7 @@ fn check_both<D: FusedDisk>(
     let alloc = sweep.alloc;
     let found = check_migrated(alloc, copy_disks(alloc, &disks, NO_FUSE)?, expected_books);
     sweep.count_state(calls, CrashKind::Written, found)?;
-    let found = check_migrated(alloc, crash_disks(disks), expected_books);
+    let found = check_migrated(alloc, crash_files(disks), expected_books);
     sweep.count_state(calls, CrashKind::Synced, found)
 }
 
