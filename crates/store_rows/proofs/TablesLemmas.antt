@@ -15,6 +15,7 @@ use Rattle.sqlite_trees.specs.Tree.{IsAscending}
 use Rattle.sqlite_trees.proofs.ListLemmas.{all-map, all-permutation, all_weaker, ascending-map, ascending_weaker, flat_map-map, flat_map_none, map-flat_map, map-map, IsPermutation-flat_map, IsPermutation-same}
 use Rattle.vcard_text.specs.Cards.{canonical_text}
 use Rattle.book_model.specs.Books.{Book}
+use Rattle.book_model.proofs.BasicLemmas.{same_Some_at}
 use Rattle.book_model.specs.Bounds.{Bounds}
 use Rattle.store_tables.specs.Books.{BookRow, AreBooks, book_cells, book_row, has_id}
 use Rattle.store_tables.specs.Imports.{ImportRow, import_cells, import_row}
@@ -93,10 +94,9 @@ card_is (Some text) h = ap Some (canonical_is text h)
 book_is : (rows : TableRows) (b : BookRow) → IsReadableBook b → stored_book (book_entry rows b) ≡ book_row b
 book_is rows b h =
     let n = h.numbers in
-    ap book_row (λ i. record {
+    ap book_row (λ i. record b {
       id = sym h.id i;
-      name = b.name;
-      numbers = record {
+      numbers = record b.numbers {
         number = sym n.number i;
         horizon = sym n.horizon i;
         created = sym n.created i;
@@ -137,7 +137,7 @@ module _ (rows : TableRows) (sound : AreSoundRows rows) where
   all_entries f = subst (λ l. IsPermutation l (flat_map f (finite.entries (books_of rows)))) (flat_map-map f (book_entry rows) rows.books) (IsPermutation-flat_map f _ _ entries_of)
 
   -- items of one table, of which each belongs to a book: their columns are those of the books' entries
-  module _ {X E : Type 0} (of : X → ℤ) (columns : X → Row) (stored : List ℕ × Book → List Row) (xs : List X) (listed : AllByRecursion (λ x. HasBookId rows.books (of x)) xs)
+  module _ {X : Type 0} (of : X → ℤ) (columns : X → Row) (stored : List ℕ × Book → List Row) (xs : List X) (listed : AllByRecursion (λ x. HasBookId rows.books (of x)) xs)
       (each : AllByRecursion (λ (b : BookRow). IsPermutation (map columns (part of xs b)) (stored (book_entry rows b))) rows.books) where
     columns_are : IsPermutation (flat_map stored (finite.entries (books_of rows))) (map columns xs)
     columns_are =
@@ -149,7 +149,7 @@ module _ (rows : TableRows) (sound : AreSoundRows rows) where
 -- ---- the tables
 
 module _ (limits : Bounds) (db : Database) (rows : TableRows) (holds : HoldsRows db rows) (well : AreWellFormed limits rows) where
-  sound : AreSoundRows rows
+  abbrev sound : AreSoundRows rows
   sound = well.sound
 
   books_are : IsPermutation (map stored_book (finite.entries (books_of rows))) (map book_cells (db.trees 2))
@@ -191,12 +191,12 @@ module _ (limits : Bounds) (db : Database) (rows : TableRows) (holds : HoldsRows
 
   members_are : AreUnderIds (stored_members (books_of rows)) (map member_cells (db.trees 4))
   members_are = under_ids member_row (λ (m : MemberRow). m.id) (λ m. refl) member_cells rows.members _ (db.trees 4) holds.members
-      (columns_are {E = Unit {0}} rows sound (λ (m : MemberRow). m.book) (λ m. drop 1 (member_row m)) (λ e. map (stored_member e.1) (finite.entries e.1.members)) rows.members sound.listed_members member_columns)
+      (columns_are rows sound (λ (m : MemberRow). m.book) (λ m. drop 1 (member_row m)) (λ e. map (stored_member e.1) (finite.entries e.1.members)) rows.members sound.listed_members member_columns)
       (ascending_weaker _ (λ (a b : MemberRow). int_eq a.id b.id ≡ false) (λ a b h. h.0) rows.members sound.members)
 
   imports_are : AreUnderIds (stored_imports (books_of rows)) (map import_cells (db.trees 7))
   imports_are = under_ids import_row (λ (m : ImportRow). m.id) (λ m. refl) import_cells rows.imports _ (db.trees 7) holds.imports
-      (columns_are {E = Unit {0}} rows sound (λ (m : ImportRow). m.book) (λ m. drop 1 (import_row m)) (λ e. map (stored_import e.1) (finite.entries e.1.imports)) rows.imports sound.listed_imports import_columns)
+      (columns_are rows sound (λ (m : ImportRow). m.book) (λ m. drop 1 (import_row m)) (λ e. map (stored_import e.1) (finite.entries e.1.imports)) rows.imports sound.listed_imports import_columns)
       (ascending_weaker _ (λ (a b : ImportRow). int_eq a.id b.id ≡ false) (λ a b h. h.0) rows.imports sound.imports)
 
   -- ---- keeps
@@ -211,7 +211,7 @@ module _ (limits : Bounds) (db : Database) (rows : TableRows) (holds : HoldsRows
     where
       step : (t : Bool) → p y ≡ t → filter p (y ∷ ys) ≡ x ∷ []
       step true e =
-          let same : y ≡ x = (let k = rw e at h in cc) in
+          let same : y ≡ x = same_Some_at y x (rw e at h) in
           rw e (ap₂ (λ a l. a ∷ l) same (none_passes p ys (all_weaker _ (λ z. p z ≡ false) (λ z k. k e) ys one.0)))
       step false e = rw e (only_one p ys x one.1 (rw e at h))
 
@@ -221,7 +221,7 @@ module _ (limits : Bounds) (db : Database) (rows : TableRows) (holds : HoldsRows
     where
       step : (o : Option KeepRow) → find (is_keep_of b.id) rows.keeps ≡ o → (k : KeepRow) × (find (is_keep_of b.id) rows.keeps ≡ Some k)
       step (Some k) e = (k, e)
-      step None e = absurd (let none : 1 ≤ 0 = subst (λ o. 1 ≤ option_map_or (λ (k : KeepRow). natural k.keep) o 0) e least in omega arith)
+      step None e = absurd (let none : 1 ≤ 0 = subst (λ o. 1 ≤ option_map_or (λ (k : KeepRow). natural k.keep) o 0) e least in omega (arith, none))
 
   keep_is : (b : BookRow) → IsReadableBook b → 1 ≤ keep_of_book b.id rows.keeps → map keep_row (part (λ (k : KeepRow). k.book) rows.keeps b) ≡ stored_keep (book_entry rows b) ∷ []
   keep_is b readable least =
@@ -246,7 +246,7 @@ module _ (limits : Bounds) (db : Database) (rows : TableRows) (holds : HoldsRows
   keeps_are : IsPermutation (map stored_keep (finite.entries (books_of rows))) (map keep_cells (db.trees 9))
   keeps_are = IsPermutation-trans _ _ _
       (subst (λ l. IsPermutation l (map keep_row rows.keeps)) (flat_map_single stored_keep (finite.entries (books_of rows)))
-      (columns_are {E = Unit {0}} rows sound (λ (k : KeepRow). k.book) keep_row (λ e. stored_keep e ∷ []) rows.keeps sound.listed_keeps keep_columns))
+      (columns_are rows sound (λ (k : KeepRow). k.book) keep_row (λ e. stored_keep e ∷ []) rows.keeps sound.listed_keeps keep_columns))
       holds.keeps
 
   tables_are : AreTablesOf (books_of rows) db
