@@ -114,7 +114,7 @@ module _ (limits : Bounds) (db : Database) (books imports keeps : List Row) (our
     stored_rows : (tallies : Vec BookTally Global) (t : TestedMembers (db.trees 4) limits books keeps (Ok tallies)) → AreWellStored limits books t.rows imports keeps
     stored_rows tallies t =
         let passed = t.passed.0 in
-        let keys = keys_hold db.trees obeys t.rows t.all t.passed.1.rising (all_weaker (IsGoodMember (map decode_book books)) IsMemberRow (λ r h. h.0) t.rows passed.good) in
+        let keys = keys_hold db.trees obeys.obeys t.rows t.all t.passed.1.rising (all_weaker (IsGoodMember (map decode_book books)) IsMemberRow (λ r h. h.0) t.rows passed.good) in
         tests_stored limits books t.rows imports keeps (record { own = own; keys = keys; passed = passed })
 
     -- the counts were listed from the tallies

@@ -57,7 +57,7 @@ same_number x n = then_term (at_ints false Eq x.book n.book) (last_term (at_ints
 module _ (db : Trees) (obeys : ObeyTables db) (all : List MemberRow) (holds : HoldMembers (db 4) all) where
   no_clash : (r : Row) → Has (db 4) r → clashes plain (1 ∷ 3 ∷ []) (db 4) r ≡ false
   no_clash r there =
-      let h : (not (clashes plain (1 ∷ 2 ∷ []) (db 4) r) && (not (clashes plain (1 ∷ 3 ∷ []) (db 4) r) && true)) ≡ true = all_has (λ row. passes Unique book_schema db member row ≡ true) (db 4) r (obeys.rules Unique).1.1.0 there in
+      let h : (not (clashes plain (1 ∷ 2 ∷ []) (db 4) r) && (not (clashes plain (1 ∷ 3 ∷ []) (db 4) r) && true)) ≡ true = all_has (λ row. passes Unique book_schema db member row ≡ true) (db 4) r (obeys.obeys.rules Unique).1.1.0 there in
       not-true _ (and_parts _ _ (and_parts _ _ h).1).0
 
   apart : (a b : MemberRow) → Has all a → Has all b → int_eq a.id b.id ≡ false → has_number a.book a.changed b ≡ false

@@ -9,9 +9,9 @@ use Rattle.sqlite.specs.Tree.{Trees, rowid}
 use Rattle.sqlite.specs.declared.error.Error.{Error}
 use Rattle.sqlite.specs.declared.error.Error.TheVariants.{SqliteFailure}
 use Rattle.sqlite.specs.declared.error.ErrorCode.TheVariants.{ConstraintViolation, OutOfMemory}
+use Rattle.sqlite_catalog.specs.Listing.{IsSound}
 use Rattle.sqlite_rules.specs.Edit.{id_in, next_rowid}
 use Rattle.sqlite_rules.specs.Lists.{Has}
-use Rattle.sqlite_schema.specs.Rules.{Obeys}
 use Rattle.sqlite_schema.specs.declared.schema.Constraint.{Constraint}
 use Rattle.sqlite_sql.specs.Ops.{fits_i64}
 use Rattle.store_tables.specs.Books.{BookRow, has_id, has_name}
@@ -23,11 +23,11 @@ use Rattle.store_tables.specs.Tables.{book_schema}
 
 -- ---- assumptions that hold in a file whose rows only this program wrote
 
--- The rows obey the constraints of the declared tables: the types of the columns, the keys and the
--- references. `sqlite` keeps this true of every open connection, and `Connection::schema` ensures
--- it.
+-- The list of objects declares the tables, and the rows obey their constraints: the types of the
+-- columns, the keys and the references. `sqlite` keeps this true of every open connection, and
+-- `Connection::schema` ensures it.
 abbrev pub ObeyTables : Trees → Type 0
-ObeyTables = Obeys book_schema
+ObeyTables = IsSound book_schema
 
 -- the id of a stored row
 abbrev pub row_id : Row → ℤ

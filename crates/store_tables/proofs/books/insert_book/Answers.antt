@@ -29,7 +29,7 @@ returns-clause-rolled_back g c clean inside = undone_executed _ _ (state g.S.Sto
 
 pub returns-clause-fails_from_outside : goal.returns-clause-fails_from_outside
 returns-clause-fails_from_outside g c bs clean inside has kept rows accepts _ _ _ obeys =
-    book_fails (state g.S.Store c.args.tx.now.conn.now) (state g.S.Store c.execute.new.self.conn.now) c.args.id c.args.name.now bs c.execute.result has rows accepts.id_unused accepts.name_unused c.ranges.id accepts.short obeys
+    book_fails (state g.S.Store c.args.tx.now.conn.now) (state g.S.Store c.execute.new.self.conn.now) c.args.id c.args.name.now bs c.execute.result has rows accepts.id_unused accepts.name_unused c.ranges.id accepts.short obeys.obeys
     (rw (c.params-to_sql.ensures, c.params-to_sql-2.ensures, to_z-of_z c.ranges.id) at (c.execute.ensures.runs clean inside))
 
 pub returns-clause-obeys : goal.returns-clause-obeys

@@ -29,7 +29,7 @@ returns-clause-rolled_back g c clean inside = undone_executed _ _ (state g.S.Sto
 
 pub returns-clause-fails_from_outside : goal.returns-clause-fails_from_outside
 returns-clause-fails_from_outside g c keeps clean inside has kept rows bs books accepts _ _ _ obeys =
-    keep_fails (state g.S.Store c.args.tx.now.conn.now) (state g.S.Store c.execute.new.self.conn.now) c.args.book c.args.keep bs keeps c.execute.result has books rows accepts.listed accepts.unused c.ranges.book obeys
+    keep_fails (state g.S.Store c.args.tx.now.conn.now) (state g.S.Store c.execute.new.self.conn.now) c.args.book c.args.keep bs keeps c.execute.result has books rows accepts.listed accepts.unused c.ranges.book obeys.obeys
     (rw (c.params-to_sql.ensures, c.params-to_sql-2.ensures, to_z-of_z c.ranges.book, to_z-of_z c.ranges.keep) at (c.execute.ensures.runs clean inside))
 
 pub returns-clause-obeys : goal.returns-clause-obeys

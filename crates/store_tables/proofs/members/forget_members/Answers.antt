@@ -38,7 +38,7 @@ returns-clause-rolled_back g c clean inside =
 
 pub returns-clause-fails_from_outside : goal.returns-clause-fails_from_outside
 returns-clause-fails_from_outside g c clean inside has obeys =
-    forget_fails (state g.S.Store c.args.tx.now.conn.now) (state g.S.Store c.execute.new.self.conn.now) c.args.book c.args.upto c.execute.result has obeys
+    forget_fails (state g.S.Store c.args.tx.now.conn.now) (state g.S.Store c.execute.new.self.conn.now) c.args.book c.args.upto c.execute.result has obeys.obeys
     (rw (c.params-to_sql.ensures, c.params-to_sql-2.ensures, to_z-of_z c.ranges.book, to_z-of_z c.ranges.upto) at (c.execute.ensures.runs clean inside))
 
 pub returns-clause-obeys : goal.returns-clause-obeys

@@ -51,7 +51,7 @@ returns-clause-fails_from_outside g c ms clean inside has kept rows bs books ids
     let free = next_unused 1 (trees 4) (have_ids member_row member_cells (λ _. refl) member_id (λ _. refl) ms (trees 4) rows) ids in
     let wide = column_ids member_row member_cells (λ _. refl) member_id (λ _. refl) ms (trees 4) rows 1 ids in
     change_fails (state g.S.Store c.args.tx.now.conn.now) (state g.S.Store c.execute.new.self.conn.now) c.args.book c.args.uid.now c.args.changed (option_copied c.args.card) bs ms c.execute.result
-    has kept books rows accepts.listed accepts.unused accepts.short_uid accepts.short_card fits free wide obeys
+    has kept books rows accepts.listed accepts.unused accepts.short_uid accepts.short_card fits free wide obeys.obeys
     (rw (c.params-to_sql.ensures, c.params-to_sql-2.ensures, c.params-to_sql-3.ensures, c.params-to_sql-4.ensures, card_bound c.args.card, to_z-of_z c.ranges.book, to_z-of_z c.ranges.changed) at (c.execute.ensures.runs clean inside))
 
 pub returns-clause-takes_one_id : goal.returns-clause-takes_one_id
