@@ -9,7 +9,7 @@ use Rattle.book_store.specs.OpenOutcomes.{AreNewStoreTrees, IsNewStoreCommitted}
 
 -- the trees alone determine that the tables were created
 pub new_store_trees : (db : Database) → IsEmptyStore schema_number db → AreNewStoreTrees db.trees
-new_store_trees db h = record { schema = refl; meta = h.meta; books = h.books; members = h.members; imports = h.imports; keeps = h.keeps }
+new_store_trees db h = record { schema = refl; obeys = h.obeys; meta = h.meta; books = h.books; members = h.members; imports = h.imports; keeps = h.keeps }
 
 -- after the commit, the created tables are committed
 pub new_store_committed : (mid end : State) → IsEmptyStore schema_number mid.now → Shows mid end mid.now mid.now false → IsNewStoreCommitted end

@@ -28,9 +28,9 @@ use Rattle.book_model.specs.BookQueries.{is_tombstone_after, tombstone_count, to
 use Rattle.book_model.specs.Counting.{one_if}
 use Rattle.book_model.specs.Forgetting.{is_row_kept, rows_after_forget}
 use Rattle.book_laws.proofs.PassingRows.{both_above, entries-retained}
-use Rattle.store_tables.specs.Acceptance.{ObeyTables, has_number}
+use Rattle.store_tables.specs.Acceptance.{has_number}
 use Rattle.store_tables.specs.Members.{AreMembers, HoldMembers, MemberRow, has_uid, is_removed_above, member_cells, member_row}
-use Rattle.store_tables.specs.Tables.{book_schema, member}
+use Rattle.store_tables.specs.Tables.{ObeyTables, book_schema, member}
 use Rattle.store_tables.proofs.FreshLemmas.{row_of}
 use Rattle.store_tables.proofs.KeyedRows.{int_itself, same_int, turned}
 use Rattle.store_rows.specs.ForgetLaws.{first_with_next}

@@ -43,6 +43,7 @@ pub book_added : BooksAreAdded
 book_added old new rows id name h sound natural free added w = record {
   holds = record {
     schema = w.schema;
+    obeys = w.obeys;
     meta = ap (map meta_listed) (w.other_tables.0 (λ e. cc)) ∙ h.meta;
     books = added.hold;
     members = subst (λ t. HoldMembers t rows.members) (sym (w.other_tables.1.1.0 (λ e. cc))) h.members;
@@ -65,6 +66,7 @@ pub keep_added : KeepsAreAdded
 keep_added old new rows b keep h sound there natural added w = record {
   holds = record {
     schema = w.schema;
+    obeys = w.obeys;
     meta = ap (map meta_listed) (w.other_tables.0 (λ e. cc)) ∙ h.meta;
     books = subst (λ t. HoldBooks t rows.books) (sym (w.other_tables.1.0 (λ e. cc))) h.books;
     members = subst (λ t. HoldMembers t rows.members) (sym (w.other_tables.1.1.0 (λ e. cc))) h.members;
@@ -121,6 +123,7 @@ pub import_added : ImportsAreAdded
 import_added old new rows b row h sound there its readable free added w = record {
   holds = record {
     schema = w.schema;
+    obeys = w.obeys;
     meta = ap (map meta_listed) (w.other_tables.0 (λ e. cc)) ∙ h.meta;
     books = subst (λ t. HoldBooks t rows.books) (sym (w.other_tables.1.0 (λ e. cc))) h.books;
     members = subst (λ t. HoldMembers t rows.members) (sym (w.other_tables.1.1.0 (λ e. cc))) h.members;

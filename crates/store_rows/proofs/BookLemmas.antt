@@ -95,6 +95,7 @@ pub renumbering_held : RenumberingIsHeld
 renumbering_held old new rows id numbers h sound natural books w = record {
   holds = record {
     schema = w.schema;
+    obeys = w.obeys;
     meta = ap (map meta_listed) (w.other_tables.0 (λ e. cc)) ∙ h.meta;
     books = books;
     members = subst (λ t. HoldMembers t rows.members) (sym (w.other_tables.1.1.0 (λ e. cc))) h.members;

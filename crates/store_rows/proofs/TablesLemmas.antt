@@ -1,5 +1,5 @@
 -- The tables of well-formed books are computed from the books.
-use Rattle.std.proofs.Common.{◌≡◌, ℕ, ℤ, pos, Bool, true, false, ◌||◌, ◌≤◌, List, [], ◌∷◌, ◌++◌, drop, map, filter, find, flat_map, Option, Some, None, int_eq, IfSome, IsPermutation, refl, sym, ap, ap₂, subst, ◌∙◌, arith}
+use Rattle.std.proofs.Common.{◌≡◌, inl, inr, ℕ, ℤ, pos, Bool, true, false, ◌||◌, ◌≤◌, List, [], ◌∷◌, ◌++◌, drop, map, filter, find, flat_map, Option, Some, None, int_eq, IfSome, IsPermutation, refl, sym, ap, ap₂, subst, ◌∙◌, arith}
 use Rattle.std.specs.FinMap as finite
 use Rattle.std.specs.List.{AllByRecursion, list_any}
 use Rattle.std.specs.Option.{option_map, option_map_or}
@@ -68,14 +68,14 @@ module _ {X : Type 0} (of : X → ℤ) where
 
   taken : (x : X) (xs : List X) (bs : List BookRow) → AreBooks bs → HasBookId bs (of x) → IsPermutation (flat_map (part (x ∷ xs)) bs) (x ∷ flat_map (part xs) bs)
   taken x xs [] kept is = absurd cc
-  taken x xs (b ∷ bs) kept is = step (int_eq (of x) b.id) refl
+  taken x xs (b ∷ bs) kept is = step (int_eq (of x) b.id) refl (λ later. taken x xs bs kept.1 later)
     where
-      step : (t : Bool) → int_eq (of x) b.id ≡ t → IsPermutation (flat_map (part (x ∷ xs)) (b ∷ bs)) (x ∷ flat_map (part xs) (b ∷ bs))
-      step true e =
+      step : (t : Bool) → int_eq (of x) b.id ≡ t → (HasBookId bs (of x) → IsPermutation (flat_map (part (x ∷ xs)) bs) (x ∷ flat_map (part xs) bs)) → IsPermutation (flat_map (part (x ∷ xs)) (b ∷ bs)) (x ∷ flat_map (part xs) (b ∷ bs))
+      step true e later =
           let others = all_weaker _ (λ (c : BookRow). int_eq (of x) c.id ≡ false) (λ c h. ap (λ k. int_eq k c.id) (same_int (of x) b.id e) ∙ h.0) bs kept.0 in
           rw e (IsPermutation-same _ _ (ap (λ l. x ∷ (part xs b ++ l)) (untouched x xs bs others)))
-      step false e =
-          let more = taken x xs bs kept.1 (ap (λ t. t || list_any (has_id (of x)) bs) (sym (int_turned b.id (of x) ∙ e)) ∙ is) in
+      step false e later =
+          let more = later (ap (λ t. t || list_any (has_id (of x)) bs) (sym (int_turned b.id (of x) ∙ e)) ∙ is) in
           rw e (IsPermutation-trans _ _ _ (IsPermutation-append_right (part xs b) _ _ more) (IsPermutation-middle (part xs b) x (flat_map (part xs) bs)))
 
   parts : (bs : List BookRow) (xs : List X) → AreBooks bs → AllByRecursion (λ x. HasBookId bs (of x)) xs → IsPermutation (flat_map (part xs) bs) xs
@@ -207,13 +207,13 @@ module _ (limits : Bounds) (db : Database) (rows : TableRows) (holds : HoldsRows
 
   only_one : {X : Type 0} (p : X → Bool) (xs : List X) (x : X) → Single p xs → find p xs ≡ Some x → filter p xs ≡ x ∷ []
   only_one p [] x one h = absurd cc
-  only_one p (y ∷ ys) x one h = step (p y) refl
+  only_one p (y ∷ ys) x one h = step (p y) refl (λ later. only_one p ys x one.1 later)
     where
-      step : (t : Bool) → p y ≡ t → filter p (y ∷ ys) ≡ x ∷ []
-      step true e =
+      step : (t : Bool) → p y ≡ t → (find p ys ≡ Some x → filter p ys ≡ x ∷ []) → filter p (y ∷ ys) ≡ x ∷ []
+      step true e later =
           let same : y ≡ x = same_Some_at y x (rw e at h) in
           rw e (ap₂ (λ a l. a ∷ l) same (none_passes p ys (all_weaker _ (λ z. p z ≡ false) (λ z k. k e) ys one.0)))
-      step false e = rw e (only_one p ys x one.1 (rw e at h))
+      step false e later = rw e (later (rw e at h))
 
   -- a book's keep is at least 1, so it has a row
   keep_there : (b : BookRow) → 1 ≤ keep_of_book b.id rows.keeps → (k : KeepRow) × (find (is_keep_of b.id) rows.keeps ≡ Some k)
@@ -252,6 +252,7 @@ module _ (limits : Bounds) (db : Database) (rows : TableRows) (holds : HoldsRows
   tables_are : AreTablesOf (books_of rows) db
   tables_are = record {
     schema = holds.schema;
+    obeys = holds.obeys;
     meta = holds.meta;
     each_book = books_are;
     each_member = members_are;

@@ -42,6 +42,7 @@ members_within id rows ms sound others = record { sound = sound; books = refl; o
 pub holds_members : (old new : Database) (rows : TableRows) (ms : List MemberRow) → HoldsRows old rows → HoldMembers (new.trees 4) ms → WritesTable 4 old new → HoldsRows new (record rows { members = ms })
 holds_members old new rows ms h members w = record {
   schema = w.schema;
+  obeys = w.obeys;
   meta = ap (map meta_listed) (w.other_tables.0 (λ e. cc)) ∙ h.meta;
   books = subst (λ t. HoldBooks t rows.books) (sym (w.other_tables.1.0 (λ e. cc))) h.books;
   members = members;

@@ -5,11 +5,10 @@ use Rattle.std.specs.List.{AllByRecursion, list_any}
 use Rattle.std.specs.Ordering.{int_eq}
 use Rattle.sqlite.specs.Order.{Row}
 use Rattle.sqlite.specs.State.{State, HasCleanDisk}
-use Rattle.sqlite.specs.Tree.{Trees, rowid}
+use Rattle.sqlite.specs.Tree.{rowid}
 use Rattle.sqlite.specs.declared.error.Error.{Error}
 use Rattle.sqlite.specs.declared.error.Error.TheVariants.{SqliteFailure}
 use Rattle.sqlite.specs.declared.error.ErrorCode.TheVariants.{ConstraintViolation, OutOfMemory}
-use Rattle.sqlite_catalog.specs.Listing.{IsSound}
 use Rattle.sqlite_rules.specs.Edit.{id_in, next_rowid}
 use Rattle.sqlite_rules.specs.Lists.{Has}
 use Rattle.sqlite_schema.specs.declared.schema.Constraint.{Constraint}
@@ -19,15 +18,9 @@ use Rattle.store_tables.specs.Failures.{HasOutsideCause}
 use Rattle.store_tables.specs.Imports.{ImportRow, has_key}
 use Rattle.store_tables.specs.Keeps.{KeepRow, is_keep_of}
 use Rattle.store_tables.specs.Members.{MemberRow, has_uid}
-use Rattle.store_tables.specs.Tables.{book_schema}
+use Rattle.store_tables.specs.Tables.{ObeyTables, book_schema}
 
 -- ---- assumptions that hold in a file whose rows only this program wrote
-
--- The list of objects declares the tables, and the rows obey their constraints: the types of the
--- columns, the keys and the references. `sqlite` keeps this true of every open connection, and
--- `Connection::schema` ensures it.
-abbrev pub ObeyTables : Trees → Type 0
-ObeyTables = IsSound book_schema
 
 -- the id of a stored row
 abbrev pub row_id : Row → ℤ

@@ -27,7 +27,7 @@ use Rattle.store_lookups.specs.StoredBooks.{stored_books}
 use Rattle.store_writes.proofs.CallLemmas.{fault_does}
 
 pub writes_table : (tree : ℕ) (old new : State) → WritesOnly tree old new → WritesTable tree old.now new.now
-writes_table tree old new w = record { schema = w.schema; other_tables = w.other_tables }
+writes_table tree old new w = record { schema = w.schema; obeys = w.obeys; other_tables = w.other_tables }
 
 pub spares_books : (old new : Trees) → KeepsOtherTables 4 old new → new 2 ≡ old 2
 spares_books old new h = h.1.0 (λ e. cc)

@@ -15,9 +15,9 @@ use Rattle.book_model.specs.declared.denied.Denied.{Denied}
 use Rattle.book_model.specs.declared.denied.Denied.TheVariants.{Refused}
 use Rattle.book_model.specs.declared.refusal.Refusal.{Refusal}
 use Rattle.book_model.specs.declared.denied.Fault.TheVariants.{Memory, Store}
-use Rattle.store_tables.specs.Acceptance.{HasFreeIds, ObeyTables}
+use Rattle.store_tables.specs.Acceptance.{HasFreeIds}
 use Rattle.store_tables.specs.Failures.{HasOutsideCause}
-use Rattle.store_tables.specs.Tables.{book_schema}
+use Rattle.store_tables.specs.Tables.{ObeyTables, book_schema}
 use Rattle.store_tables.proofs.FailureLemmas.{outside_of}
 use Rattle.store_lookups.specs.Faults.{denied_by_fault, error_fault}
 use Rattle.store_lookups.proofs.StoreFaultLemmas.{never_store, not_memory, passed_cause}

@@ -39,7 +39,7 @@ returns-in-Ok-clause-book_after g c rows name book clean inside wrote =
 
 pub returns-in-Ok-clause-obeys : goal.returns-in-Ok-clause-obeys
 returns-in-Ok-clause-obeys g c rows name book clean inside wrote obeys =
-    c.in-Ok.ensures.obeys wrote.now.members clean inside wrote.holds.schema wrote.within.sound.members wrote.holds.members
+    (c.in-Ok.ensures.writes wrote.now.members clean inside wrote.holds.schema wrote.within.sound.members wrote.holds.members).obeys
 
 pub returns-in-Ok-clause-takes_ids : goal.returns-in-Ok-clause-takes_ids
 returns-in-Ok-clause-takes_ids g c rows name book clean inside wrote =

@@ -2,10 +2,10 @@ use Rattle.std.proofs.Common.{◌≡◌}
 use Rattle.std.proofs.Math.Facts.{to_z-of_z}
 use Rattle.sqlite.specs.Held.{state}
 use Rattle.sqlite.specs.State.{HasCleanDisk}
-use Rattle.store_tables.specs.Acceptance.{HasFreeIds, ObeyTables}
+use Rattle.store_tables.specs.Acceptance.{HasFreeIds}
 use Rattle.store_tables.specs.Books.{HoldBooks}
 use Rattle.store_tables.specs.Members.{HoldMembers}
-use Rattle.store_tables.specs.Tables.{book_schema}
+use Rattle.store_tables.specs.Tables.{ObeyTables, book_schema}
 use Rattle.store_tables.proofs.FailureLemmas.{outside_later}
 use Rattle.store_tables.proofs.ReturningLemmas.{if_err_weaker, still, still_inside}
 use Rattle.store_tables.proofs.SchemaCreationLemmas.{clean_before}
