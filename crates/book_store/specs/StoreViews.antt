@@ -2,7 +2,8 @@
 use Rattle.std.specs.Prelude.{◌≡◌, false, Result, refl, ⊤}
 use Rattle.std.specs.Coded.{Coded, code_by, coded×}
 use Rattle.sqlite.specs.Held.{Held, held_code, state}
-use Rattle.sqlite.specs.State.{State, Survives}
+use Rattle.sqlite.specs.State.{HasCleanDisk, State, Survives}
+use Rattle.sqlite.specs.Tree.{Trees}
 use Rattle.sqlite_trees.specs.declared.store.Store.{Ghosts}
 use Rattle.sync_core.specs.StoreModels.{StoreModel, KeepsTerms, AnswersQuery, PerformsStep}
 use Rattle.sync_core.specs.StoreStates.{coded_bounds}
@@ -15,7 +16,7 @@ use Rattle.store_check.specs.OpenResults.{max_limits}
 use Rattle.store_tables.specs.StatementEffects.{OnlyReads}
 use Rattle.store_lookups.specs.ChangeFaults.{ChangeFaultsFromOutside}
 use Rattle.store_lookups.specs.StoreFaults.{FaultsFromOutside}
-use Rattle.store_writes.specs.TableChanges.{CommitsStep}
+use Rattle.store_writes.specs.TableChanges.{CommitsStep, TreesHold}
 use Rattle.store_lookups.specs.StoredBooks.{IsOpenOnHonestDisk, IsCommittedAndSound, stored_books}
 
 pub record StoreView (S : Type 0) : Type 0 where
@@ -27,13 +28,20 @@ store_code {S} store =
     code_by (Held S × Bounds) (coded× (held_code store) coded_bounds) (λ v. (v.conn, v.limits))
     (λ p. record { conn = p.0; limits = p.1 }) (λ _. refl)
 
+-- the trees of a store with these books, which an opening accepts
+pub record StoredTrees (trees : Trees) : Type 0 where
+  pub books : Books
+  pub holds : TreesHold books trees
+  pub well_formed : IsWellFormed max_limits books
+
 -- The invariant of a store: no transaction is open; and as long as the connection is open on an
 -- honest disk, the tables are committed and sound, and hold well-formed books, by the limits that an
--- opening tests.
+-- opening tests. Whatever a crash may leave is a store too, also after the connection was closed.
 pub record IsStore (s : State) (limits : Bounds) : Type 0 where
   pub settled : s.in_transaction ≡ false
   pub stays_sound : IsOpenOnHonestDisk s → IsCommittedAndSound s
   pub stays_well_formed : IsOpenOnHonestDisk s → IsWellFormed max_limits (stored_books s)
+  pub leaves_stores : HasCleanDisk s → (trees : Trees) → s.may_leave trees → StoredTrees trees
   pub range : IsInRange limits
 
 -- the books of a store
