@@ -1,5 +1,5 @@
 -- What a crash leaves of the files of a connection that is used no more, and what an opening shows.
-use Rattle.std.proofs.Common.{◌≡◌, inl, inr, IfErr, IfOk, IsTrue, Result, Ok, Err, sym, ap, subst, ◌∙◌}
+use Rattle.std.proofs.Common.{◌≡◌, inl, inr, IfErr, IfOk, IsTrue, Result, Ok, Err, sym, ap, subst, ◌∙◌, arith}
 use Rattle.std.proofs.Math.Logic.{∥∥₁_map}
 use Rattle.sqlite.specs.Effect.{Database}
 use Rattle.sqlite.specs.Files.{Finds, FailsToOpenFiles, HoldsDatabase, IsCleanLeft, IsOpened, file_state, image_of}
@@ -18,7 +18,7 @@ use Rattle.sqlite_disk.specs.declared.Files.{Files}
 use Rattle.sqlite_store.specs.FileStore as store
 use Rattle.sqlite_store.specs.declared.store.FileStore.{FileStore}
 use Rattle.sqlite_trees.specs.Objects.{catalog_tree}
-use Rattle.sqlite_trees.specs.View.{IsClean}
+use Rattle.sqlite_trees.specs.View.{IsClean, IsQuiet}
 use Rattle.sqlite_trees.proofs.Doubt.{no_doubt}
 use Rattle.database_files.specs.Restarts.{HasOpenCause, HoldsListed, LeaveOneOf, ShowsOpened}
 
@@ -32,6 +32,16 @@ left_in_files {D = D} {g = g} it Allowed files same numbered sound allowed clean
     let left : outcomes g (store.files it).0 (store.files it).1 image = subst (λ (q : D × D). outcomes g q.0 q.1 image) same may in
     let honest : IsClean (store.view it) = no_doubt _ at in
     ∥∥₁_map (opens_again it (numbered honest) (sound honest) image (at, left)) (λ db. (db.0, allowed db.0 db.1, db.2))
+
+-- if the disk has returned what was written until the store is closed, it had before
+pub clean_in_files : {D : Type 0} {g : Ghosts D} (c : Held (FileStore D g)) (it : FileStore D g) (files : Files D) → (files.log, files.db) ≡ store.files it
+    → IsQuiet store.view store.faults store.recovers store.is_shielded c.store it → AreClean g files.log files.db → HasCleanDisk (file_state c)
+unfolding Rattle.sqlite_pool.specs.Pool.state Rattle.sqlite_pool.specs.Pool.files
+clean_in_files {D = D} {g = g} c it files same quiet clean =
+    let at : AreClean g (store.files it).0 (store.files it).1 = subst (λ (q : D × D). AreClean g q.0 q.1) same clean in
+    let honest : IsClean (store.view it) = no_doubt _ at in
+    let fewer = quiet.clean in
+    omega (arith, fewer, honest)
 
 -- an opening shows the database that the files held
 pub opens_as : {D : Type 0} {g : Ghosts D} {E : Type 0} (files : Files D) (r : Result (Held (FileStore D g)) E) → IfOk r (λ c. HasCleanDisk (file_state c) → IsOpened c) → IfOk r (λ c. HasCleanDisk (file_state c) → Finds files c)

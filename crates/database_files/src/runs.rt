@@ -20,6 +20,7 @@ use std::alloc::Global;
 /// before, also if the disk failed and the connection is closed.
 pub fn into_files<D: Disk + Drop>(connection: Connection<FileStore<D>>) -> Files<D>
     ensures leaves { LeaveOneOf D.Disk result (file_state connection).may_leave }
+    ensures clean { AreClean D.Disk result.log result.db → HasCleanDisk (file_state connection) }
 {
     connection.into_store().close()
 }
