@@ -188,7 +188,6 @@ within limits after book room is = record {
   imports = is.imports;
 }
 
--- and with any tombstone limit that is enough for its tombstones
 -- well-formed books are so by greater limits
 pub wider : (limits after : Bounds) (books : Books) → limits.changes_max ≤ after.changes_max → limits.books_max ≤ after.books_max → IsWellFormed limits books → IsWellFormed after books
 wider limits after books changes more is =
@@ -205,6 +204,7 @@ wider limits after books changes more is =
           within limits after book (omega (arith, low, changes)) form;
     }
 
+-- and with any tombstone limit that is enough for its tombstones
 pub with_other_keep : (limits : Bounds) (book : Book) (keep : ℕ) → 1 ≤ keep → tombstone_count book ≤ keep → IsWellFormedBook limits book → IsWellFormedBook limits (record book { keep = keep })
 with_other_keep limits book keep least enough is = record {
   counted_once = is.counted_once;

@@ -1,5 +1,5 @@
 -- Calls one after another keep the books well formed.
-use Rattle.std.proofs.Common.{[], ◌∷◌, Result, Ok, Err}
+use Rattle.std.proofs.Common.{[], ◌∷◌, Result, Ok, Err, arith}
 use Rattle.std.specs.Result.{IfOk, result_unwrap_or}
 use Rattle.book_model.specs.declared.refusal.Refusal.{Refusal}
 use Rattle.book_model.specs.Bounds.{Bounds, IsInRange}
