@@ -11,7 +11,7 @@ use crate::keeping::{Kept, extra_column, keep_cells};
 use crate::names::push_missing_name;
 use crate::row_fault::are_void;
 use crate::row_lines::RowLines;
-use crate::uid::row_uid;
+use crate::uid::chosen_uid;
 use contact_columns::{ContactColumns, cell_text, row_field};
 use csv::ByteRecord;
 use std::alloc::Global;
@@ -52,6 +52,7 @@ fn contact_lines(
     alloc: Global,
     columns: &ContactColumns,
     row: &ByteRecord,
+    may_own: bool,
 ) -> Result<Kept, NoMemory>
     ensures contact { IfOk result (λ made. IsContact columns.now.columns (fields_of row.now)
         made.lines made.changes) }
@@ -62,11 +63,14 @@ fn contact_lines(
     let draft = draft_lines(alloc, columns, texts)?;
     let extra = extra_column(alloc)?;
     let names = columns.columns.as_slice();
-    let uid = row_uid(alloc, names, &extra, texts)?;
+    let uid = chosen_uid(alloc, names, &extra, texts, may_own)?;
     keep_cells(alloc, names, &extra, uid, texts, draft)
 }
 
 /// Converts a row of a file of contacts to a card of vCard 4.0.
+///
+/// `may_own` says whether the card may have the UID that the row has of its own; if not, or if it has
+/// none, the UID is computed from its cells.
 ///
 /// Each cell's text is in the card, or a change has the cell's index, from 0, as its `place`. Only
 /// tested: there are no other changes, and they are in the order of their cells; `Rewritten` is a
@@ -79,9 +83,10 @@ pub fn convert_row(
     alloc: Global,
     columns: &ContactColumns,
     row: &ByteRecord,
+    may_own: bool,
 ) -> Result<Conversion, CardFault>
-    // The card carries the text of each cell, or a change reports the cell; the card's UID is that
-    // of the row's cells.
+    // The card carries the text of each cell, or a change reports the cell; the card's UID is one
+    // of the row.
     ensures contact { IfOk result (λ made. IsContact columns.now.columns (fields_of row.now)
         made.card made.changes) }
 
@@ -89,7 +94,7 @@ pub fn convert_row(
     ensures refused { IfErr result (λ fault. fault ≢ Memory
         → IsRefused columns.now.columns (fields_of row.now) fault) }
 {
-    let Kept { lines, changes } = contact_lines(alloc, columns, row)?;
+    let Kept { lines, changes } = contact_lines(alloc, columns, row, may_own)?;
     let card = card_of_lines(alloc, lines.into_vec())?;
     Ok(Conversion { card, changes })
 }

@@ -66,7 +66,7 @@ fn push_rows(
 /// What the rows of an export become.
 pub(crate) fn run_contacts(alloc: Global, input: &[u8]) -> Result<String, NoMemory> {
     let mut out = String::new(alloc);
-    let Some(header) = find_header(alloc, input)? else {
+    let Some(header) = find_header(alloc, input, "")? else {
         out.push_str("no header")?;
         return Ok(out);
     };

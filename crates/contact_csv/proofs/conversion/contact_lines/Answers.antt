@@ -2,7 +2,7 @@ use Rattle.std.proofs.Common.{◌≡◌, ◌∙◌, map, length, ap, subst, stri
 use Rattle.csv.specs.Records.{fields_of}
 use Rattle.std.proofs.lemmas.List.{length-map}
 use Rattle.contact_columns.specs.Cells.{cell_text}
-use Rattle.contact_csv.specs.RowUids.{row_uid}
+use Rattle.contact_csv.specs.RowUids.{IsRowUid}
 use Rattle.contact_csv.specs.internal.Keeping.{Keeps}
 use Rattle.contact_csv.proofs.KeepLemmas.{row_kept}
 use Rattle.contact_csv.proofs.ResultLemmas.{ok_then}
@@ -14,8 +14,8 @@ returns-clause-contact c =
     let fields = fields_of c.args.row.now in
     let columns = c.args.columns.now.columns in
     let texts : c.as_slice-texts.result.now ≡ map cell_text fields = c.as_slice-texts.ensures ∙ c.in_ok-cells.ensures in
-    let same : uid ≡ row_uid columns (map cell_text fields) =
-    c.in_ok-uid.ensures ∙ ap (λ cs. row_uid cs c.as_slice-texts.result.now) c.as_slice-names.ensures ∙ ap (row_uid columns) texts in
+    let same : IsRowUid columns (map cell_text fields) uid =
+    subst (λ ts. IsRowUid columns ts uid) texts (subst (λ cs. IsRowUid cs c.as_slice-texts.result.now uid) c.as_slice-names.ensures c.in_ok-uid.ensures) in
     ok_then c.keep_cells.result (λ made keeps. row_kept uid columns fields made same
     (subst (λ count. Keeps uid columns (map cell_text fields) count made) (length-map fields cell_text)
     (subst (λ ts. Keeps uid columns ts (length ts) made) texts
