@@ -4,17 +4,20 @@ The expected cards are in converted_cards.py, worked out by hand. Whatever is co
 `check` and an import, and the same file gives the same octets.
 """
 
+import base64
 import csv
 import io
 import random
 import re
+import subprocess
+import sys
 import unittest
 import uuid
 
 from card_rows import octets as octets_of
 from converted_cards import ADDED_UID, CARDS, added_uid, card
 from order_trials import OrderTest
-from program import Ended, run
+from program import ROOT, Ended, run
 
 HEAD = b"uid,vcard\n"
 
@@ -32,7 +35,6 @@ PIECES = [
       b"\xef\xbb\xbfBegin:vCard\nFN:Cy\nEND:VCARD"],
      ["card 1, line 1: UID added", "card 2, line 3: UID added", "card 3, line 5: UID added"]),
 ]
-
 
 # Names of character sets, each with the name of Python's codec. What is called ISO/IEC 8859-1, -9 or
 # -11 is mostly Windows-1252, -1254 or -874, which only have more characters.
@@ -53,6 +55,10 @@ def text(lines, end="\r\n"):
 def unfolded(octets):
     """The lines of a card's text."""
     return octets.decode().replace("\r\n ", "").split("\r\n")[:-1]
+
+
+# A row may have a card of 262,144 octets.
+csv.field_size_limit(1_000_000)
 
 
 def rows_of(octets):
@@ -86,13 +92,15 @@ class Convert(OrderTest):
 
     def test_cards(self):
         for title, lines, wanted, report in CARDS:
-            for end in "\r\n", "\n":
+            for end in "\r\n", "\n", "\r":
                 with self.subTest(title, end=end):
                     octets = octets_of(text(lines, end))
                     ended = self.convert(octets)
                     rows = rows_of(ended.out)
                     self.assertEqual(1, len(rows), ended)
-                    uid = "UID:" + added_uid(octets)
+                    # A carriage return that ends lines is read as a line feed.
+                    read = octets.replace(b"\r", b"\n") if end == "\r" else octets
+                    uid = "UID:" + added_uid(read)
                     made = card("4.0", *(uid if it == ADDED_UID else it for it in wanted))
                     self.assertEqual(made, unfolded(rows[0][1].encode()))
                     lines_of_report = [f"card 1, {line}\n" for line in report]
@@ -107,6 +115,11 @@ class Convert(OrderTest):
             ("UTF-8 with its mark", b"\xef\xbb\xbf" + text(lines).encode()),
             ("UTF-16, low octet first", b"\xff\xfe" + text(lines).encode("utf-16-le")),
             ("UTF-16, high octet first", b"\xfe\xff" + text(lines).encode("utf-16-be")),
+            ("UTF-16 without a mark, low octet first", text(lines).encode("utf-16-le")),
+            ("UTF-16 without a mark, high octet first", text(lines).encode("utf-16-be")),
+            ("UTF-16 whose lines end with CR alone", text(lines, "\r").encode("utf-16")),
+            ("UTF-8 with its mark, lines that end with CR alone",
+             b"\xef\xbb\xbf" + text(lines, "\r").encode()),
             ("Latin-1", text(lines).encode("latin-1")),
         ]:
             with self.subTest(title):
@@ -130,6 +143,60 @@ class Convert(OrderTest):
                         self.assertEqual(0, ended.status, ended)
                         made = card("4.0", "UID:a", "FN:A", "NOTE:" + wanted)
                         self.assertEqual(made, unfolded(rows_of(ended.out)[0][1].encode()))
+
+    def test_charsets_that_are_not_known(self):
+        """A card whose text depends on one is refused by its name; one of ASCII isn't."""
+        ann = text(card("2.1", "UID:b", "FN:Ann"))
+        for name, value in [("GB2312", "\udcd2\udcbb"), ("EUC-KR", "\udcb0\udca1"),
+                            ("Shift_JIS", "\udc88\udc9f"), ("Big5", "\udca4@"),
+                            ("ISO-2022-JP", "\x1b$B0l\x1b(B")]:
+            for encoding in "", ";ENCODING=QUOTED-PRINTABLE":
+                with self.subTest(name, encoding=encoding):
+                    if encoding:
+                        value = "".join(f"={octet:02X}" for octet in octets_of(value))
+                    bad = text(card("2.1", "UID:a", f"FN;CHARSET={name}{encoding}:{value}"))
+                    good = text(card("2.1", "UID:c", f"FN;CHARSET={name}{encoding}:Cy"))
+                    ended = self.convert(octets_of(bad + ann + good))
+                    report = (f"card 1, line 1: not carried: the charset {name} isn't known: "
+                              "export the card in UTF-8\n"
+                              "card 3, line 14: FN rewritten\n").encode()
+                    self.assertEqual((1, report + summary(2, 1, 1)), (ended.status, ended.err))
+                    self.assertEqual(["b", "c"], [row[0] for row in rows_of(ended.out)])
+
+    def test_other_character_sets(self):
+        """The commands that OPERATING gives for them."""
+        page = (ROOT / "docs/OPERATING.md").read_text(encoding="utf-8")
+        script = page.partition("### Other character sets\n")[2].partition("<< 'END'\n")[2]
+        script = script.partition("END\n")[0]
+        lines = card("2.1", "UID:a", "FN;CHARSET=GB2312:\udcd2\udcbb, b",
+                     "N;CHARSET=Shift_JIS;ENCODING=QUOTED-PRINTABLE:=88=9F;b=\r\n=3D", "TEL:1")
+        (self.folder / "old.vcf").write_bytes(octets_of(text(lines)))
+        done = subprocess.run([sys.executable, "-", "old.vcf", "new.vcf"], cwd=self.folder,
+                              input=script.encode(), capture_output=True)
+        self.assertEqual((0, b""), (done.returncode, done.stderr))
+        ended = self.convert((self.folder / "new.vcf").read_bytes())
+        self.assertEqual(0, ended.status, ended)
+        made = card("4.0", "UID:a", "FN:一\\, b", "N:亜;b=", "TEL:1")
+        self.assertEqual(made, unfolded(rows_of(ended.out)[0][1].encode()))
+
+    def test_photos_that_are_too_large(self):
+        """A card of at most 262,144 octets keeps its photo, and a longer one is carried without."""
+        for version, kind in [("3.0", "PHOTO"), ("2.1", "LOGO"), ("3.0", "SOUND")]:
+            for size, is_kept in [(100_000, True), (200_000, False)]:
+                with self.subTest(version, kind=kind, size=size):
+                    photo = base64.b64encode(b"\xff\xd8\xff" + bytes(size)).decode()
+                    lines = card(version, "UID:a", "FN:Ann", f"{kind};ENCODING=BASE64:" + photo,
+                                 "PHOTO:http://a.test/b.png", "TEL:1")
+                    ended = self.convert(text(lines).encode())
+                    what = "rewritten" if is_kept else "left out"
+                    report = f"card 1, line 5: {kind} {what}\n".encode() + summary(1, 1, 0)
+                    self.assertEqual((0, report), (ended.status, ended.err))
+                    media = "audio/basic" if kind == "SOUND" else "image/jpeg"
+                    kept = [f"{kind}:data:{media};base64,{photo}"] if is_kept else []
+                    made = card("4.0", "UID:a", "FN:Ann", *kept, "PHOTO:http://a.test/b.png",
+                                "TEL:1")
+                    self.assertEqual(made, unfolded(rows_of(ended.out)[0][1].encode()))
+                    self.imported(ended.out, 1)
 
     def test_a_character_of_two_units(self):
         """RFC 2781, section 5: the Egyptian god Ra as a character, an equals sign, and his name."""

@@ -8,7 +8,7 @@ use Rattle.base_types.specs.Octets.{carriage_return, line_feed, space, tab}
 use Rattle.vcard_lines.specs.declared.line.Line.{Line}
 use Rattle.vcard_text.specs.Cards.{IsCard, uid_of}
 use Rattle.vcard_text.specs.Spelling.{Spells, without_bom}
-use Rattle.vcard_import.specs.Conversions.{IsConverted, IsRefused}
+use Rattle.vcard_import.specs.Conversions.{IsConverted, IsRefused, LeavesOutIfLong}
 use Rattle.vcard_import.specs.declared.conversion.Conversion.{Conversion}
 use Rattle.card_conversion.specs.declared.fate.Fate.{Fate}
 use Rattle.card_conversion.specs.declared.fate.Fate.TheVariants.{Blank, Other, Long, Refused}
@@ -34,11 +34,13 @@ begins_card line = begins_with_word (codes "BEGIN:VCARD") line && list_all is_wh
 abbrev pub is_card : List ℕ → Bool
 is_card octets = begins_card (first_line (without_bom octets))
 
--- A card: the one that the octets spell, with no change; or one that is converted from them.
+-- A card: the one that the octets spell, with no change; or one that is converted from them. A line
+-- is left out only if the card would be too long with it.
 pub record IsConversion (octets : List ℕ) (made : Conversion) : Type 0 where
   pub card : IsCard made.card
   pub converted : (Spells octets made.card × (made.changes ≡ []))
       ⊎ IsConverted octets made.card made.changes
+  pub left_out : LeavesOutIfLong octets made.changes
 
 -- The fate of a piece after pieces whose cards had these UIDs.
 abbrev pub IsFate : List (List ℕ) → List ℕ → Fate → Type 0

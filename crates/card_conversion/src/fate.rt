@@ -1,8 +1,7 @@
 //! `Fate`: what becomes of a piece of a file.
 
 use base_types::Text;
-use vcard_import::Conversion;
-use vcard_text::CardFault;
+use vcard_import::{Conversion, ImportFault};
 
 /// What becomes of a piece of a file.
 #[derive(Drop)]
@@ -14,7 +13,7 @@ pub(crate) enum Fate {
     /// It is a card of more than 8,388,608 octets, or the front of one.
     Long,
     /// It is a card that can't be converted.
-    Refused(CardFault),
+    Refused(ImportFault),
     /// It is a card with the UID of an earlier one.
     Repeated(Conversion),
     /// It is a card that the outlet can't take, for a reason in words.

@@ -15,8 +15,7 @@ use crate::piece_reader::PIECE_OCTETS_MAX;
 use base_types::{NoMemory, TextMap};
 use import_text::begins_with_word;
 use std::alloc::Global;
-use vcard_import::{Conversion, convert_card};
-use vcard_text::CardFault;
+use vcard_import::{Conversion, ImportFault, convert_card};
 
 /// The octets without a byte order mark of UTF-8.
 fn without_bom(octets: &[u8]) -> &[u8]
@@ -78,7 +77,7 @@ fn deliver_piece<O: Outlet>(
 }
 
 /// Converts a card. The inner `Err` is the fault of one that can't be converted.
-fn convert(alloc: Global, piece: &[u8]) -> Result<Result<Conversion, CardFault>, NoMemory>
+fn convert(alloc: Global, piece: &[u8]) -> Result<Result<Conversion, ImportFault>, NoMemory>
     ensures { IfOk result (λ converted.
         MatchResult converted (IsConversion piece.now) (IsRefused piece.now)) }
 {
@@ -89,7 +88,7 @@ fn convert(alloc: Global, piece: &[u8]) -> Result<Result<Conversion, CardFault>,
             Ok(Ok(conversion))
         }
         Err(fault) => match fault {
-            CardFault::Memory => Err(NoMemory),
+            ImportFault::Memory => Err(NoMemory),
             _ => Ok(Err(fault)),
         },
     }

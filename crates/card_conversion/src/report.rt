@@ -107,6 +107,9 @@ fn change_words(alloc: Global, at: &mut Reported<'_>, change: &Change) -> Result
         ChangeKind::KeptAside => aside_words(alloc, at, name),
         ChangeKind::Unreadable => Ok(String::from_str(alloc, "kept as X-UNREADABLE")?),
         ChangeKind::Added => added_words(alloc, at),
+        ChangeKind::Joined => Ok(format!(in alloc; "{name} joined to its ADR")?),
+        ChangeKind::LeftOut => Ok(format!(in alloc; "{name} left out")?),
+        ChangeKind::Labelled => Ok(format!(in alloc; "{name} given a LABEL")?),
     }
 }
 

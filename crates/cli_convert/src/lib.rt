@@ -7,6 +7,7 @@ mod content;
 mod create;
 mod exit;
 mod foreign;
+mod line_ends;
 mod names;
 mod opening;
 mod report;

@@ -7,6 +7,7 @@ use crate::charset_reader::Encoding;
 use crate::content::Content;
 use crate::create::{Created, create_new};
 use crate::exit::{ConvertStop, end, existing_file, stop_of};
+use crate::line_ends::{LineEnds, ends_with_returns};
 use crate::names::rows_front;
 use crate::opening::{open_file, read_content, text_after, wanted_encoding, with_dates};
 use crate::report::Report;
@@ -140,6 +141,11 @@ fn convert_told<F: Files, R: Read + Drop, W: Write, E: Write>(
     convert_opened(alloc, files, wanted, content, reader, rows, errors)
 }
 
+/// Whether the file has cards, or what is no card.
+fn is_of_cards(content: Content<'_>) -> bool {
+    matches!(content, Content::Cards)
+}
+
 /// Converts the text of a file that was opened.
 fn convert_text<F: Files, R: Read + Drop, W: Write, E: Write>(
     alloc: Global,
@@ -156,9 +162,14 @@ fn convert_text<F: Files, R: Read + Drop, W: Write, E: Write>(
     let mut reader = text;
     let (head, content) = read_content(alloc, wanted, &mut reader)?;
     let content = with_dates(alloc, files, wanted, encoding, content)?;
+    let are_returns = is_of_cards(content) && ends_with_returns(head.as_slice());
     let reader = head.get(start_of(content)..).unwrap_or(&[]).chain(reader);
+    let text = LineEnds {
+        reader,
+        are_returns,
+    };
     report.file = wanted_report(alloc, files, wanted)?;
-    match convert_told(alloc, files, wanted, content, reader, rows, report) {
+    match convert_told(alloc, files, wanted, content, text, rows, report) {
         Ok(summary) => Ok(summary),
         Err(fault) => Err(stop_of(alloc, fault, wanted.file)),
     }

@@ -1,5 +1,6 @@
 pub mod BecomeLemmas
-pub mod MissingLemmas
+pub mod LeftOutLemmas
+mod MissingLemmas
 pub mod RefusedLemmas
 pub mod ResultLemmas
 pub mod RuleLemmas

@@ -3,7 +3,7 @@ use Rattle.std.specs.Prelude.{IfErr, ◌≢◌}
 use Rattle.vcard_lines.specs.declared.fault.CardFault.TheVariants.{Memory}
 use Rattle.vcard_text.specs.Making.{IsFirstFaultOfLines}
 use Rattle.vcard_import.proofs.RefusedLemmas.{long_of}
-use Rattle.vcard_import.proofs.conversion.card_in.Goals as goal
+use Rattle.vcard_import.proofs.faultless.card_in.Goals as goal
 
 pub returns-clause-too_long : goal.returns-clause-too_long
 returns-clause-too_long c = λ faultless.
