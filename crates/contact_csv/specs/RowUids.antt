@@ -1,6 +1,6 @@
 -- The UID of a row's card (RFC 9562, section 5.5; RFC 6350, section 6.7.6). This project's own.
-use Rattle.std.specs.Prelude.{ℕ, ◌≡◌, ◌+◌, Bool, true, ◌||◌, List, [], ◌∷◌, ◌++◌, codes, bytes_eq}
-use Rattle.std.specs.Prelude.{get_or, if◌then◌else◌}
+use Rattle.std.specs.Prelude.{ℕ, ◌≡◌, ◌<◌, ◌+◌, Bool, true, false, not, ◌&&◌, ◌||◌, List, [], ◌∷◌}
+use Rattle.std.specs.Prelude.{◌++◌, codes, bytes_eq, get_or, length, if◌then◌else◌}
 use Rattle.vcard_import.specs.DerivedUid.{derived_uid}
 use Rattle.contact_columns.specs.Cells.{is_void}
 use Rattle.contact_columns.specs.declared.columns.Column.{Column}
@@ -29,20 +29,23 @@ octets_from columns place (text ∷ texts) =
 abbrev pub row_uid : List Column → List (List ℕ) → List ℕ
 row_uid columns texts = derived_uid (octets_from columns 0 texts)
 
--- the column has UIDs
+-- the column has UIDs, and isn't left out
 abbrev pub is_uid_column : Column → Bool
-is_uid_column column = bytes_eq column.property (codes "UID")
+is_uid_column column = not column.is_left_out && bytes_eq column.property (codes "UID")
 
--- the column has what its program tells contacts apart by
+-- the column has what its program tells contacts apart by, and isn't left out
 abbrev pub is_id_column : Column → Bool
-is_id_column column = bytes_eq column.known (codes "Id")
+is_id_column column = not column.is_left_out && bytes_eq column.known (codes "Id")
 
--- The UID of the row's card: that of its cells, the cell of a column that has UIDs, or the UUID of a
--- cell that tells it apart, with the name of its column.
+-- The UID that the cell of the column gives to its row: its text in a column of UIDs; or the UUID of
+-- the name of the column and the cell, if it has a value, in a column that tells contacts apart.
+pub data IsOwnUid (column : Column) (text uid : List ℕ) : Type 0 where
+  of_text : is_uid_column column ≡ true → uid ≡ text → IsOwnUid column text uid
+  of_identifier : is_id_column column ≡ true → is_void text ≡ false
+      → uid ≡ derived_uid (cell_octets column text) → IsOwnUid column text uid
+
+-- The UID of the row's card: that of its cells, or one that a cell of the row gives.
 pub data IsRowUid (columns : List Column) (texts : List (List ℕ)) (uid : List ℕ) : Type 0 where
   of_cells : uid ≡ row_uid columns texts → IsRowUid columns texts uid
-  of_column : (place : ℕ) → is_uid_column (column_at columns place) ≡ true
-      → uid ≡ get_or texts place [] → IsRowUid columns texts uid
-  of_identifier : (place : ℕ) → is_id_column (column_at columns place) ≡ true
-      → uid ≡ derived_uid (cell_octets (column_at columns place) (get_or texts place []))
-      → IsRowUid columns texts uid
+  of_cell : (place : ℕ) → place < length texts
+      → IsOwnUid (column_at columns place) (get_or texts place []) uid → IsRowUid columns texts uid

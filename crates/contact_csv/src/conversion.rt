@@ -1,10 +1,12 @@
 //! Converts one row.
-ghost use Rattle.std.specs.Prelude.{◌≡◌, ◌≢◌, IfOk, IfErr, map};
+ghost use Rattle.std.specs.Prelude.{◌≡◌, ◌≢◌, IfOk, IfErr, false, map};
 ghost use Rattle.csv.specs.Records.{fields_of};
 ghost use Rattle.vcard_lines.specs.declared.fault.CardFault.TheVariants.{Memory};
+ghost use Rattle.vcard_text.specs.Cards.{uid_of};
 ghost use Rattle.vcard_text.specs.Making.{upper_lines};
 ghost use Rattle.contact_columns.specs.Cells.{cell_text};
 ghost use Rattle.contact_csv.specs.Contacts.{IsContact, IsRefused};
+ghost use Rattle.contact_csv.specs.RowUids.{row_uid};
 
 use crate::entries::push_lines;
 use crate::keeping::{Kept, extra_column, keep_cells};
@@ -56,6 +58,8 @@ fn contact_lines(
 ) -> Result<Kept, NoMemory>
     ensures contact { IfOk result (λ made. IsContact columns.now.columns (fields_of row.now)
         made.lines made.changes) }
+    ensures computed { IfOk result (λ made. may_own ≡ false
+        → uid_of made.lines ≡ row_uid columns.now.columns (map cell_text (fields_of row.now))) }
     ensures upper { IfOk result (λ made. upper_lines made.lines ≡ made.lines) }
 {
     let cells = row_cells(alloc, row)?;
@@ -89,6 +93,10 @@ pub fn convert_row(
     // of the row.
     ensures contact { IfOk result (λ made. IsContact columns.now.columns (fields_of row.now)
         made.card made.changes) }
+
+    // If the card may not have the row's own UID, its UID is that of the row's cells.
+    ensures computed { IfOk result (λ made. may_own ≡ false
+        → uid_of made.card ≡ row_uid columns.now.columns (map cell_text (fields_of row.now))) }
 
     // An `Err` is the first fault of such lines, unless memory ran out.
     ensures refused { IfErr result (λ fault. fault ≢ Memory

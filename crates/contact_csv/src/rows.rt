@@ -71,7 +71,7 @@ impl<R: Read + Drop> ContactReader<R> {
 
         // It takes the fields of each record as they are, with the delimiter between them.
         ensures ready { IfOk result (λ reader. IsReady reader) }
-        ensures delimiter { IfOk result (λ reader. delimiter_of reader ≡ header.delimiter) }
+        ensures delimiter { IfOk result (λ reader. delimiter_of reader ≡ header.entry.delimiter) }
     {
         let mut rows = ReaderBuilder::new()
             .has_headers(false)

@@ -1,8 +1,8 @@
 //! The UID of a row's card.
-ghost use Rattle.std.specs.Prelude.{◌≡◌, ◌++◌, [], IfOk, IfSome, OnOk, get_or, string_bytes, true};
-ghost use Rattle.contact_csv.specs.Carrying.{column_at, extra_column};
-ghost use Rattle.contact_csv.specs.RowUids.{IsRowUid, cell_octets, is_id_column, is_uid_column};
-ghost use Rattle.contact_csv.specs.RowUids.{octets_from, row_uid};
+ghost use Rattle.std.specs.Prelude.{◌≡◌, ◌++◌, IfOk, IfSome, OnOk, false, string_bytes};
+ghost use Rattle.contact_csv.specs.Carrying.{extra_column};
+ghost use Rattle.contact_csv.specs.RowUids.{IsOwnUid, IsRowUid, cell_octets, is_id_column};
+ghost use Rattle.contact_csv.specs.RowUids.{is_uid_column, octets_from, row_uid};
 ghost use Rattle.vcard_import.specs.DerivedUid.{derived_uid};
 
 use crate::keeping::column_at;
@@ -69,18 +69,18 @@ pub(crate) fn row_uid(
     derived_uid(alloc, octets.as_slice())
 }
 
-/// Whether the column has UIDs.
+/// Whether the column has UIDs, and isn't left out.
 pub(crate) fn is_uid_column(column: &Column) -> bool
     ensures { result ≡ is_uid_column column.now }
 {
-    column.property.as_str() == "UID"
+    !column.is_left_out && column.property.as_str() == "UID"
 }
 
-/// Whether the column has what its program tells contacts apart by.
+/// Whether the column has what its program tells contacts apart by, and isn't left out.
 pub(crate) fn is_id_column(column: &Column) -> bool
     ensures { result ≡ is_id_column column.now }
 {
-    column.known.as_str() == "Id"
+    !column.is_left_out && column.known.as_str() == "Id"
 }
 
 /// Whether the text may be the UID of a card: 1 to 255 octets, and no control character.
@@ -88,23 +88,23 @@ fn is_legal(text: &str) -> bool {
     !is_void(text) && text.len() <= UID_OCTETS_MAX && !text.chars().any(|c| c.is_ascii_control())
 }
 
-/// The first cell of a column of UIDs that may be one.
-fn given_uid(
-    alloc: Global,
-    columns: &[Column],
-    extra: &Column,
-    cells: &[Text],
-) -> Result<Option<String>, NoMemory>
-    requires { extra.now ≡ extra_column }
-    ensures { IfOk result (λ own. IfSome own
-        (λ uid. IsRowUid columns.now cells.now (string_bytes uid))) }
+/// The text as a UID. None if no card may have it.
+fn legal_uid(alloc: Global, text: &str) -> Result<Option<String>, NoMemory>
+    ensures { IfOk result (λ own. IfSome own (λ uid. string_bytes uid ≡ text.now)) }
 {
-    for place in 0..cells.len() {
-        let column = column_at(columns, place, extra);
-        let text = cells[place].as_str();
-        if is_uid_column(column) && is_legal(text) {
-            return Ok(Some(String::from_str(alloc, text)?));
-        }
+    if is_legal(text) {
+        return Ok(Some(String::from_str(alloc, text)?));
+    }
+    Ok(None)
+}
+
+/// The UID that a cell of a column of UIDs gives. None in another column.
+fn given_uid(alloc: Global, column: &Column, text: &str) -> Result<Option<String>, NoMemory>
+    ensures { IfOk result (λ own. IfSome own
+        (λ uid. IsOwnUid column.now text.now (string_bytes uid))) }
+{
+    if is_uid_column(column) {
+        return legal_uid(alloc, text);
     }
     Ok(None)
 }
@@ -119,8 +119,23 @@ fn cell_uid(alloc: Global, column: &Column, text: &str) -> Result<String, NoMemo
     derived_uid(alloc, cell.as_slice())
 }
 
-/// The UID of the first cell that tells the row apart, if it has a value.
-fn identifier_uid(
+/// The UID that a cell gives which tells the row apart. None in another column, and if it has no
+/// value.
+fn identifier_uid(alloc: Global, column: &Column, text: &str) -> Result<Option<String>, NoMemory>
+    ensures { IfOk result (λ own. IfSome own
+        (λ uid. IsOwnUid column.now text.now (string_bytes uid))) }
+{
+    if is_void(text) {
+        return Ok(None);
+    }
+    if is_id_column(column) {
+        return Ok(Some(cell_uid(alloc, column, text)?));
+    }
+    Ok(None)
+}
+
+/// The UID that the first cell gives that may be one, in a column of UIDs.
+fn first_given(
     alloc: Global,
     columns: &[Column],
     extra: &Column,
@@ -132,9 +147,28 @@ fn identifier_uid(
 {
     for place in 0..cells.len() {
         let column = column_at(columns, place, extra);
-        let text = cells[place].as_str();
-        if is_id_column(column) && !column.is_left_out && !is_void(text) {
-            return Ok(Some(cell_uid(alloc, column, text)?));
+        if let Some(uid) = given_uid(alloc, column, cells[place].as_str())? {
+            return Ok(Some(uid));
+        }
+    }
+    Ok(None)
+}
+
+/// The UID of the first cell that tells the row apart, if it has a value.
+fn first_identifier(
+    alloc: Global,
+    columns: &[Column],
+    extra: &Column,
+    cells: &[Text],
+) -> Result<Option<String>, NoMemory>
+    requires { extra.now ≡ extra_column }
+    ensures { IfOk result (λ own. IfSome own
+        (λ uid. IsRowUid columns.now cells.now (string_bytes uid))) }
+{
+    for place in 0..cells.len() {
+        let column = column_at(columns, place, extra);
+        if let Some(uid) = identifier_uid(alloc, column, cells[place].as_str())? {
+            return Ok(Some(uid));
         }
     }
     Ok(None)
@@ -152,10 +186,10 @@ pub(crate) fn own_uid(
     ensures { IfOk result (λ own. IfSome own
         (λ uid. IsRowUid columns.now cells.now (string_bytes uid))) }
 {
-    if let Some(uid) = given_uid(alloc, columns, extra, cells)? {
-        return Ok(Some(uid));
+    match first_given(alloc, columns, extra, cells)? {
+        Some(uid) => Ok(Some(uid)),
+        None => first_identifier(alloc, columns, extra, cells),
     }
-    identifier_uid(alloc, columns, extra, cells)
 }
 
 /// The UID of the row's card: its own if it may have it, and else that of its cells.
@@ -167,12 +201,15 @@ pub(crate) fn chosen_uid(
     may_own: bool,
 ) -> Result<String, NoMemory>
     requires { extra.now ≡ extra_column }
-    ensures { IfOk result (λ uid. IsRowUid columns.now cells.now (string_bytes uid)) }
+    ensures row { IfOk result (λ uid. IsRowUid columns.now cells.now (string_bytes uid)) }
+    ensures computed { IfOk result (λ uid. may_own ≡ false
+        → string_bytes uid ≡ row_uid columns.now cells.now) }
 {
-    if may_own {
-        if let Some(uid) = own_uid(alloc, columns, extra, cells)? {
-            return Ok(uid);
-        }
+    if !may_own {
+        return row_uid(alloc, columns, extra, cells);
     }
-    row_uid(alloc, columns, extra, cells)
+    match own_uid(alloc, columns, extra, cells)? {
+        Some(uid) => Ok(uid),
+        None => row_uid(alloc, columns, extra, cells),
+    }
 }
