@@ -1,4 +1,4 @@
-use Rattle.std.proofs.Common.{◌≡◌, ◌+◌, ◌∙◌, ◌++◌, [], ap, get_or, subst, arith, length, drop}
+use Rattle.std.proofs.Common.{◌≡◌, ◌+◌, ◌∙◌, ◌++◌, [], ap, get_or, arith, drop}
 use Rattle.std.proofs.lemmas.List.{get_or_default}
 use Rattle.contact_csv.specs.Carrying.{column_at}
 use Rattle.contact_csv.specs.RowUids.{cell_octets, octets_from}
