@@ -89,7 +89,7 @@ impl Encoding {
     }
 
     /// The character set, if each octet is a character.
-    fn charset(self) -> Option<Charset> {
+    pub(crate) fn charset(self) -> Option<Charset> {
         match self {
             Encoding::Octets(charset) => Some(charset),
             _ => None,
@@ -100,26 +100,16 @@ impl Encoding {
 /// Reads a file as it is, or one in a character set as UTF-8.
 #[derive(Drop)]
 pub(crate) struct CharsetReader<R> {
-    alloc: Global,
-    reader: R,
-    charset: Option<Charset>,
+    pub(crate) alloc: Global,
+    pub(crate) reader: R,
+    /// The character set, if each octet is a character.
+    pub(crate) charset: Option<Charset>,
     /// The text of the octets that were read, of which those from `start` weren't given on yet.
-    text: String,
-    start: usize,
+    pub(crate) text: String,
+    pub(crate) start: usize,
 }
 
 impl<R: Read + Drop> CharsetReader<R> {
-    /// Reads the text of the source.
-    pub(crate) fn new(alloc: Global, encoding: Encoding, source: R) -> CharsetReader<R> {
-        CharsetReader {
-            alloc,
-            reader: source,
-            charset: encoding.charset(),
-            text: String::new(alloc),
-            start: 0,
-        }
-    }
-
     /// The octets that weren't given on yet.
     fn unread(&self) -> &[u8] {
         self.text.as_bytes().get(self.start..).unwrap_or(&[])

@@ -70,7 +70,14 @@ pub(crate) fn text_after<'a, R: Read + Drop>(
     file: R,
 ) -> Result<FileText<'a, R>, ConvertStop> {
     let whole = encoding.missing_mark(front).chain(front).chain(file);
-    read_as_text(alloc, path, CharsetReader::new(alloc, encoding, whole))
+    let reader = CharsetReader {
+        alloc,
+        reader: whole,
+        charset: encoding.charset(),
+        text: String::new(alloc),
+        start: 0,
+    };
+    read_as_text(alloc, path, reader)
 }
 
 /// The encoding that is wanted.
@@ -144,10 +151,11 @@ fn dates_in<R: Read + Drop>(
 fn file_dates<F: Files>(
     alloc: Global,
     files: &F,
-    path: &str,
-    encoding: Encoding,
+    wanted: Wanted<'_>,
     header: Header<'_>,
 ) -> Result<DateOrder, ConvertStop> {
+    let path = wanted.file;
+    let encoding = wanted_encoding(alloc, wanted)?;
     let (front, file) = open_file(alloc, files, path)?;
     let text = text_after(alloc, path, encoding, front.as_slice(), file)?;
     dates_in(alloc, path, text, header)
@@ -171,7 +179,6 @@ pub(crate) fn with_dates<'a, F: Files>(
     alloc: Global,
     files: &F,
     wanted: Wanted<'a>,
-    encoding: Encoding,
     content: Content<'a>,
 ) -> Result<Content<'a>, ConvertStop> {
     let Content::Contacts(header) = content else {
@@ -183,6 +190,6 @@ pub(crate) fn with_dates<'a, F: Files>(
     if !is_file(files, wanted.file) {
         return Ok(content);
     }
-    let dates = file_dates(alloc, files, wanted.file, encoding, header)?;
+    let dates = file_dates(alloc, files, wanted, header)?;
     Ok(Content::Contacts(header_with(header, dates)))
 }

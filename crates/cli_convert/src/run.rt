@@ -3,7 +3,6 @@ ghost use Rattle.std.specs.Prelude.{◌≡◌, ◌⊎◌, ◌<◌, IfOk, IsTrue}
 ghost use Rattle.cli_convert.specs.Endings.{Ends, Prints, prints_rows};
 
 use crate::card_files::CardFiles;
-use crate::charset_reader::Encoding;
 use crate::content::Content;
 use crate::create::{Created, create_new};
 use crate::exit::{ConvertStop, end, existing_file, stop_of};
@@ -151,7 +150,6 @@ fn convert_text<F: Files, R: Read + Drop, W: Write, E: Write>(
     alloc: Global,
     files: &F,
     wanted: Wanted<'_>,
-    encoding: Encoding,
     text: R,
     rows: &mut RowsOutlet<W>,
     report: &mut Report<E, F::File>,
@@ -161,7 +159,7 @@ fn convert_text<F: Files, R: Read + Drop, W: Write, E: Write>(
 {
     let mut reader = text;
     let (head, content) = read_content(alloc, wanted, &mut reader)?;
-    let content = with_dates(alloc, files, wanted, encoding, content)?;
+    let content = with_dates(alloc, files, wanted, content)?;
     let are_returns = is_of_cards(content) && ends_with_returns(head.as_slice());
     let reader = head.get(start_of(content)..).unwrap_or(&[]).chain(reader);
     let text = LineEnds {
@@ -190,7 +188,7 @@ fn convert<F: Files, W: Write, E: Write>(
     let (front, file) = open_file(alloc, files, wanted.file)?;
     check_folder(alloc, files, wanted.folder)?;
     let text = text_after(alloc, wanted.file, encoding, front.as_slice(), file)?;
-    convert_text(alloc, files, wanted, encoding, text, rows, report)
+    convert_text(alloc, files, wanted, text, rows, report)
 }
 
 /// Converts the cards or the contacts of a file. Writes their cards as rows to standard output, as
