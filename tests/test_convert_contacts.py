@@ -202,7 +202,7 @@ class ConvertContacts(OrderTest):
         self.assertEqual(Ended(0, HEAD, b"0 cards written, 0 changed, 0 not carried\n"), ended)
 
     def test_a_row_that_is_too_long(self):
-        long = ["Ann", *[""] * 7, "x" * 270_000, ""]
+        long = ["Ann", *[""] * 7, "x" * 262_144, ""]
         ended = self.convert(csv_text([OUTLOOK_HEAD, long]).encode())
         report = (b"row 1, line 2: not carried: the text is too long\n"
                   b"0 cards written, 0 changed, 1 not carried\n")
