@@ -258,6 +258,9 @@ NO_VALUES = [
     ("run a.db --socket", no_value("--socket <PATH>")),
     ("run --socket --port 1 a.db", no_value("--socket <PATH>")),
     ("convert a.vcf --to", no_value("--to <DIR>")),
+    ("convert a.vcf --columns", no_value("--columns <COLUMNS>")),
+    ("convert a.vcf --charset", no_value("--charset <CHARSET>")),
+    ("convert a.vcf --report", no_value("--report <REPORT>")),
     ("export a.db staff --form", no_value("--form <F>")),
     ("resync a.db --skip", no_value("--skip <N>")),
     ("mirror a.db staff --limit", no_value("--limit <L>")),
@@ -338,6 +341,13 @@ SOCKET_AND_PORT = [
     for arguments in ["run a.db --socket s --port 8080", "run --port=0 --socket=s a.db --log"]
 ]
 
+# The day and the month don't both come first.
+BOTH_ORDERS = [
+    (arguments, error("the argument '--day-first' cannot be used with '--month-first'", CONVERT))
+    for arguments in ["convert a.csv --day-first --month-first",
+                      "convert --month-first --rows 2 --day-first a.csv"]
+]
+
 NO_FORMS = [
     ("export a.db staff --form rows", no_form("rows")),
     ("export a.db staff --form=CARDS", no_form("CARDS")),
@@ -406,4 +416,4 @@ GOOD = [
 ]
 
 BAD = [*MISSING, *TOO_MANY, *UNKNOWN_ORDERS, *UNKNOWN_OPTIONS, *DOUBLED, *NO_VALUES, *NO_NUMBERS,
-       *SOCKET_AND_PORT, *NO_FORMS]
+       *SOCKET_AND_PORT, *BOTH_ORDERS, *NO_FORMS]

@@ -380,14 +380,24 @@ Convert cards and contacts of other programs to vCard 4.0, as CSV for `import`
 Usage: contacts convert [OPTIONS] <FILE>
 
 Arguments:
-  <FILE>  vCards of version 2.1, 3.0 or 4.0, CSV of Google or Outlook, or rows of `export`
+  <FILE>  vCards of version 2.1, 3.0 or 4.0, a spreadsheet of contacts as CSV, or rows of `export`
 
 Options:
-      --to <DIR>         Existing folder to write files to: one `.vcf` file per card, or the CSV \
+      --to <DIR>           Existing folder to write files to: one `.vcf` file per card, or the CSV \
 files of --rows and --octets
-      --rows <ROWS>      Write several CSV files, each with at most this number of rows, 1 to 10000
-      --octets <OCTETS>  Write several CSV files, each of at most this number of bytes, 1 to 8388608
-  -h, --help             Print help
+      --rows <ROWS>        Write several CSV files, each with at most this number of rows, 1 to 10000
+      --octets <OCTETS>    Write several CSV files, each of at most this number of bytes, 1 to 8388608
+      --day-first          Dates such as 05/04/1980 have the day first
+      --month-first        Dates such as 05/04/1980 have the month first
+      --columns <COLUMNS>  What columns of a spreadsheet become, as \
+'Name=fn,Mail=email;type=work,#3=-': a column's name, or # and its number, and one of fn, n.family, \
+n.given, n.additional, n.prefix, n.suffix, nickname, org, org.unit, title, role, email, tel, adr, \
+adr.street, adr.city, adr.region, adr.code, adr.country, adr.box, adr.extended, url, bday, \
+anniversary, note, categories, uid, gender, lang, impp, or - to leave it out
+      --charset <CHARSET>  Character set of the file: UTF-8, UTF-16, ISO-8859-1 to -16, \
+windows-1250 to -1258 or -874, KOI8-R or KOI8-U
+      --report <REPORT>    New file for the report, which is also on standard error
+  -h, --help               Print help
 
 Example:
   contacts convert phone.vcf > people.csv

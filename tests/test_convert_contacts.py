@@ -280,13 +280,16 @@ card 4, line 13: UID added
     def test_unknown_headers(self):
         known = "has no header of contacts that is known"
         unread = "has a header whose columns aren't known: "
+        say = "; say what its columns are, beginning with --columns "
         for title, octets, words in [
             ("no octet", b"", known),
-            ("another language", b"Imi\xc4\x99,Nazwisko,Poczta\nAnn,Lee,a@x.test\n", known),
-            ("other columns", b"uid,vcards\na,b\n", known),
+            ("another language", b"Imi\xc4\x99,Nazwisko,Poczta\nAnn,Lee,a@x.test\n",
+             known + say + "'Imi\u0119=fn'"),
+            ("other columns", b"uid,vcards\na,b\n", known + say + "'vcards=fn'"),
             # A file whose addresses and numbers would all be kept aside isn't converted.
             ("unknown reach", b"First Name;Labels;Mail (priv.);Mobil 2\nA;b;a@x.test;1\n",
-             unread + "Mail (priv.), Mobil 2"),
+             unread + "Mail (priv.), Mobil 2" + say
+             + "'Mail (priv.)=email,Mobil 2=tel;type=cell'"),
         ]:
             for name in "a.csv", "a.CSV":
                 with self.subTest(title, name=name):
@@ -391,14 +394,11 @@ card 4, line 13: UID added
         self.assertEqual(2, len(set(uids[0])))
 
     def test_dates(self):
-        """One order for the whole file; a date that may be two stays as it is, and is reported."""
+        """One order for the whole file, which its dates say (test_convert_options: if they don't)."""
         told = "the cell of Birthday kept as text: its day, month or year isn't certain"
         for cells, values in [
             (["05/04/1980", "15/04/1980"], [":19800405", ":19800415"]),
             (["05/04/1980", "04/15/1980"], [":19800504", ":19800415"]),
-            (["05/04/1980", "05/05/1980"], [";VALUE=text:05/04/1980", ":19800505"]),
-            (["15/04/1980", "04/15/1980", "05/04/1980"],
-             [":19800415", ":19800415", ";VALUE=text:05/04/1980"]),
             (["15.04.1980", "5.4.80", "05.04.29"], [":19800415", ":19800405", ":20290405"]),
             (["15-Apr-80", "1-Dez-2001", "3 M\u00e4r 1999"], [":19800415", ":20011201", ":19990303"]),
             (["1980-04-15", "1980/04/15", "19800415", "--04-15"],
@@ -460,8 +460,6 @@ card 4, line 13: UID added
             (workbook.getvalue(), "an Excel workbook; save it as CSV UTF-8"),
             (b"version: 1\ndn: cn=Ann\n", "LDIF; export the contacts as vCard or CSV"),
             (b"%PDF-1.4\n", "a PDF; export the contacts as vCard or CSV"),
-            (b"uid,fn,family,given,email,tel,org,note\np,Pat,,,,,,\n",
-             "in the form that contacts import takes as it is"),
         ]:
             for name in "a.csv", "a.vcf":
                 ended = self.convert(octets, name=name)

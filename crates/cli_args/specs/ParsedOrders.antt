@@ -158,9 +158,17 @@ restore_order rows = option_and_then (λ backup. with_file (λ file.
 abbrev pub check_order : List Row → Option Order
 check_order = with_file (λ file. Some (Check file))
 
+abbrev pub convert_order_of : List Row → Option Order
+convert_order_of rows = with_file (λ file. Some (Convert file (text_arg (codes "DIR") rows)
+    (u64_arg (codes "ROWS") rows) (u64_arg (codes "OCTETS") rows)
+    (is_given (codes "day-first") rows) (is_given (codes "month-first") rows)
+    (text_arg (codes "COLUMNS") rows) (text_arg (codes "CHARSET") rows)
+    (text_arg (codes "REPORT") rows))) rows
+
+-- the day and the month don't both come first
 abbrev pub convert_order : List Row → Option Order
-convert_order rows = with_file (λ file. Some (Convert file (text_arg (codes "DIR") rows)
-    (u64_arg (codes "ROWS") rows) (u64_arg (codes "OCTETS") rows))) rows
+convert_order rows = if is_given (codes "day-first") rows && is_given (codes "month-first") rows
+    then None else convert_order_of rows
 
 abbrev pub books_order : List Row → Option Order
 books_order = with_file (λ file. Some (Books file))

@@ -174,7 +174,12 @@ abbrev pub convert_command : Shape
 convert_command = order_command (codes "convert")
     (file_arg ∷ free_option (codes "DIR") (codes "to")
     ∷ free_number_option (codes "ROWS") (codes "rows") 1 10000
-    ∷ free_number_option (codes "OCTETS") (codes "octets") 1 8388608 ∷ [])
+    ∷ free_number_option (codes "OCTETS") (codes "octets") 1 8388608
+    ∷ switch (codes "day-first") (codes "day-first")
+    ∷ switch (codes "month-first") (codes "month-first")
+    ∷ free_option (codes "COLUMNS") (codes "columns")
+    ∷ free_option (codes "CHARSET") (codes "charset")
+    ∷ free_option (codes "REPORT") (codes "report") ∷ [])
 
 abbrev pub books_command : Shape
 books_command = order_command (codes "books") (file_arg ∷ [])

@@ -8,7 +8,7 @@ use crate::fault::LineFault;
 use crate::order::Order;
 use crate::values::{
     form_arg, given_text, given_texts, given_u64, is_given, is_given_empty, port_arg, refuse,
-    refuse_socket_and_port, text_arg, u64_arg,
+    refuse_both_orders, refuse_socket_and_port, text_arg, u64_arg,
 };
 use clap::ArgMatches;
 use std::alloc::Global;
@@ -162,19 +162,38 @@ fn check_order(alloc: Global, matches: &ArgMatches<'_>) -> Result<Order, LineFau
     Ok(Order::Check { file })
 }
 
-fn convert_order(alloc: Global, matches: &ArgMatches<'_>) -> Result<Order, LineFault>
-    ensures { ParsesTo (parsed.convert_order (rows_of (found_of matches.now))) result }
+fn convert_order_of(alloc: Global, matches: &ArgMatches<'_>) -> Result<Order, LineFault>
+    ensures { ParsesTo (parsed.convert_order_of (rows_of (found_of matches.now))) result }
 {
     let file = text_arg(alloc, matches, "FILE")?;
     let folder = given_text(alloc, matches, "DIR")?;
     let rows = given_u64(matches, "ROWS");
     let octets = given_u64(matches, "OCTETS");
+    let columns = given_text(alloc, matches, "COLUMNS")?;
+    let charset = given_text(alloc, matches, "CHARSET")?;
+    let report = given_text(alloc, matches, "REPORT")?;
     Ok(Order::Convert {
         file,
         folder,
         rows,
         octets,
+        day_first: is_given(matches, "day-first"),
+        month_first: is_given(matches, "month-first"),
+        columns,
+        charset,
+        report,
     })
+}
+
+/// The order `convert`, if the day and the month don't both come first.
+fn convert_order(alloc: Global, matches: &ArgMatches<'_>) -> Result<Order, LineFault>
+    ensures { ParsesTo (parsed.convert_order (rows_of (found_of matches.now))) result }
+{
+    if is_given(matches, "day-first") && is_given(matches, "month-first") {
+        refuse_both_orders(alloc)
+    } else {
+        convert_order_of(alloc, matches)
+    }
 }
 
 fn books_order(alloc: Global, matches: &ArgMatches<'_>) -> Result<Order, LineFault>

@@ -155,6 +155,16 @@ pub enum Order {
         rows: Option<u64>,
         /// The maximum number of octets of a file of rows, 1 to 8,388,608, if it was given.
         octets: Option<u64>,
+        /// Whether the day comes first in dates with slashes.
+        day_first: bool,
+        /// Whether the month comes first in them. Both aren't given.
+        month_first: bool,
+        /// What the columns of a spreadsheet become, if it was given.
+        columns: Option<Text>,
+        /// The name of the file's character set, if it was given.
+        charset: Option<Text>,
+        /// The path of a new file for the report, if it was given.
+        report: Option<Text>,
     },
     /// List the books.
     Books {

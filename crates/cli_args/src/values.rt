@@ -39,6 +39,20 @@ pub(crate) fn refuse_socket_and_port<T>(alloc: Global) -> Result<T, LineFault>
     Err(LineFault::Bad { text })
 }
 
+/// The message for two options of `convert` that exclude each other, in the form of `clap`'s own
+/// messages.
+const BOTH_ORDERS: &str = "error: the argument '--day-first' cannot be used with \
+     '--month-first'\n\nUsage: contacts convert [OPTIONS] <FILE>\n\nFor more information, try \
+     '--help'.\n";
+
+/// The fault for both orders of dates.
+pub(crate) fn refuse_both_orders<T>(alloc: Global) -> Result<T, LineFault>
+    ensures { ParsesTo None result }
+{
+    let text = Text::copy_of(alloc, BOTH_ORDERS)?;
+    Err(LineFault::Bad { text })
+}
+
 /// The text of an argument.
 pub(crate) fn text_arg(alloc: Global, matches: &ArgMatches<'_>, id: &str) -> Result<Text, LineFault>
     ensures { ParsesTo (parsed.text_arg id.now (rows_of (found_of matches.now))) result }

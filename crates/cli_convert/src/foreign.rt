@@ -42,8 +42,6 @@ pub(crate) fn foreign_format(head: &[u8]) -> Option<&'static str> {
         Some("a PDF; export the contacts as vCard or CSV")
     } else if head.starts_with(b"\x1F\x8B") {
         Some("compressed by gzip; unpack it, and convert its files")
-    } else if text.starts_with(b"uid,fn,family,given,email,tel,org,note") {
-        Some("in the form that contacts import takes as it is")
     } else if is_ldif(text) {
         Some("LDIF; export the contacts as vCard or CSV")
     } else if text.starts_with(b"<?xml") || text.starts_with(b"<html") {

@@ -2,6 +2,7 @@
 #![tactic(auto)]
 
 mod card_files;
+mod charset_reader;
 mod content;
 mod create;
 mod exit;
@@ -9,11 +10,13 @@ mod foreign;
 mod line_ends;
 mod names;
 mod opening;
+mod report;
 mod row_files;
 mod run;
 mod sources;
 mod wanted;
 
 pub use card_conversion::RowsOutlet;
+pub use contact_columns::DateOrder;
 pub use run::run_convert;
 pub use wanted::Wanted;

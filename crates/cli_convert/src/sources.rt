@@ -18,7 +18,7 @@ use std::io::{Read, Write};
 fn read_contacts<R: Read + Drop>(
     alloc: Global,
     reader: R,
-    header: Header,
+    header: Header<'_>,
 ) -> Result<ContactReader<RowText<R>>, ConversionFault>
     ensures { IfOk result IsReady }
 {
@@ -33,7 +33,7 @@ fn read_contacts<R: Read + Drop>(
 /// Converts what a file has to an outlet.
 pub(crate) fn convert_to<R: Read + Drop, O: Outlet, E: Write>(
     alloc: Global,
-    content: Content,
+    content: Content<'_>,
     reader: R,
     outlet: &mut O,
     errors: &mut E,
@@ -51,7 +51,7 @@ pub(crate) fn convert_to<R: Read + Drop, O: Outlet, E: Write>(
 /// Converts what a file has to rows on a writer.
 pub(crate) fn convert_to_writer<R: Read + Drop, W: Write, E: Write>(
     alloc: Global,
-    content: Content,
+    content: Content<'_>,
     reader: R,
     outlet: &mut RowsOutlet<W>,
     errors: &mut E,

@@ -1,6 +1,8 @@
 //! What the order is given.
 ghost use Rattle.std.specs.Prelude.{◌≡◌, ◌||◌, is_some};
 
+use contact_columns::DateOrder;
+
 /// What to convert, and where the cards go.
 #[derive(Clone, Copy)]
 pub struct Wanted<'a> {
@@ -12,6 +14,14 @@ pub struct Wanted<'a> {
     pub rows: Option<u64>,
     /// The most octets of a file of rows, 1 to 8,388,608.
     pub octets: Option<u64>,
+    /// The order of day and month in dates with slashes, if it was given.
+    pub dates: Option<DateOrder>,
+    /// What the columns of a file of contacts become, as `Name=fn,#7=-`; empty if it wasn't given.
+    pub columns: &'a str,
+    /// The name of the file's character set, if it was given.
+    pub charset: Option<&'a str>,
+    /// The path of a new file for the report, if it was given.
+    pub report: Option<&'a str>,
 }
 
 impl<'a> Wanted<'a> {

@@ -8,7 +8,7 @@ mod streams;
 use base_types::Text;
 use book_http::Listener;
 use cli_args::{LineFault, Order};
-use cli_convert::{RowsOutlet, Wanted, run_convert};
+use cli_convert::{DateOrder, RowsOutlet, Wanted, run_convert};
 use cli_host::{AdminStore, Host, note_waiting, order_of_args, run_and_report};
 use hub_server::Endpoint;
 use std::alloc::Global;
@@ -25,6 +25,17 @@ fn given(text: &Option<Text>) -> Option<&str> {
     }
 }
 
+/// The order of day and month in dates with slashes, if one was given.
+fn date_order(day_first: bool, month_first: bool) -> Option<DateOrder> {
+    if day_first {
+        Some(DateOrder::DayFirst)
+    } else if month_first {
+        Some(DateOrder::MonthFirst)
+    } else {
+        None
+    }
+}
+
 /// What to convert, if that is the order.
 fn conversion_of(order: &Result<Order, LineFault>) -> Option<Wanted<'_>> {
     match order {
@@ -34,12 +45,21 @@ fn conversion_of(order: &Result<Order, LineFault>) -> Option<Wanted<'_>> {
                 folder,
                 rows,
                 octets,
+                day_first,
+                month_first,
+                columns,
+                charset,
+                report,
             },
         ) => Some(Wanted {
             file: file.as_str(),
             folder: given(folder),
             rows: *rows,
             octets: *octets,
+            dates: date_order(*day_first, *month_first),
+            columns: given(columns).unwrap_or(""),
+            charset: given(charset),
+            report: given(report),
         }),
         _ => None,
     }
@@ -74,7 +94,7 @@ fn main(rt: HostRuntime) -> ExitCode {
         let mut rows = RowsOutlet {
             writer: rt.stdout(),
         };
-        let status = run_convert(rt.alloc(), &rt, wanted, &mut rows, &mut rt.stderr());
+        let status = run_convert(rt.alloc(), &rt, wanted, &mut rows, rt.stderr());
         return ExitCode::from(status);
     }
     // Nothing depends on this line, so a standard error that fails changes nothing.
