@@ -12,6 +12,7 @@ mod keeps;
 pub mod laws;
 mod leaving_out;
 mod opening;
+mod restarting;
 mod resyncing;
 mod schema_creation;
 mod sql_store;
