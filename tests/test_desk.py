@@ -133,7 +133,7 @@ class Desk(unittest.TestCase):
 
     def test_texts(self):
         """Each text that a script asks for is there."""
-        source = text(SITE / "js/texts.js")
+        source = text(SITE / "js/texts.js") + text(SITE / "js/importtexts.js")
         known = set(re.findall(r"^  (\w+):", source, re.M))
         for path in SCRIPTS:
             for name in re.findall(r'\b(?:t|count)\(\s*"(\w+)"', code(path)):

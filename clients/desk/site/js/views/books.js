@@ -38,8 +38,15 @@ async function octets(files) {
   return new Uint8Array(await whole.arrayBuffer());
 }
 
-/** Asks what to import. Answers the file's name and octets, or null. */
-export function askFile(book, run, files = null) {
+/** The files as a file input has them. */
+function listOf(files) {
+  const data = new DataTransfer();
+  for (const it of files) data.items.add(it);
+  return data.files;
+}
+
+/** Asks what to import as it is; `why` says why. */
+export function askFile(book, run, files, why) {
   return dialog(t("importTitle", { book }), (close) => {
     const accept = ".csv,.vcf,text/csv,text/vcard";
     const file = el("input", { type: "file", accept, multiple: true, id: newId("file") });
@@ -61,7 +68,7 @@ export function askFile(book, run, files = null) {
       go.disabled = !ready.file;
     });
     if (files) {
-      file.files = files;
+      file.files = listOf(files);
       file.dispatchEvent(new Event("change"));
     }
     const work = async () => {
@@ -80,7 +87,8 @@ export function askFile(book, run, files = null) {
       go.disabled = true;
     };
     return [
-      el("p", {}, t("importText")),
+      el("p", {}, why),
+      el("p", { class: "hint" }, t("importOldText")),
       el("label", { for: file.id, class: "file" }, el("span", {}, t("importFile")), file),
       said,
       el("div", { class: "bar" }, go, end),
@@ -127,6 +135,7 @@ export function showBook(book, run) {
       el("div", { class: "doings" },
         doing(t("update"), run.update),
         run.import && doing(t("importFiles"), run.import),
+        run.last && doing(t("importLast"), run.last),
         doing(t("exportCards"), run.exportCards),
         doing(t("exportColumns"), run.exportColumns),
         doing(t("exportVcf"), run.exportVcf),
