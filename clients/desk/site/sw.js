@@ -22,12 +22,12 @@ const FILES = [
   "js/sources.js", "js/store.js", "js/sync.js", "js/tables.js", "js/texts.js", "js/trash.js",
   "js/values.js", "js/vcard.js", "js/views/books.js", "js/views/card.js", "js/views/conflict.js",
   "js/views/dialogs.js", "js/views/fields.js", "js/views/form.js", "js/views/importrun.js",
-  "js/views/incoming.js", "js/views/letters.js", "js/views/list.js", "js/views/listhead.js",
-  "js/views/menu.js", "js/views/pairs.js", "js/views/preview.js", "js/views/print.js",
-  "js/views/sidebar.js", "js/views/sources.js", "js/views/ticks.js", "js/views/trash.js",
-  "js/views/versions.js", "js/views/waiting.js", "manifest.json", "style/base.css",
-  "style/card.css", "style/form.css", "style/frame.css", "style/intake.css", "style/list.css",
-  "style/narrow.css", "style/print.css",
+  "js/views/incoming.js", "js/views/letters.js", "js/views/lines.js", "js/views/list.js",
+  "js/views/listhead.js", "js/views/menu.js", "js/views/pairs.js", "js/views/preview.js",
+  "js/views/print.js", "js/views/sidebar.js", "js/views/sources.js", "js/views/ticks.js",
+  "js/views/trash.js", "js/views/versions.js", "js/views/waiting.js", "manifest.json",
+  "style/base.css", "style/card.css", "style/form.css", "style/frame.css", "style/intake.css",
+  "style/list.css", "style/narrow.css", "style/print.css",
 ];
 const at = (file) => new URL(file, self.registration.scope).href;
 const PAGE = at("./");

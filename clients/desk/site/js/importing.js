@@ -1,7 +1,7 @@
 // An import in parts: what is sent, what came of it, and what is still to be sent. All of it is
-// kept in the browser before the first part goes, so that it goes on after a reload. A part that may
-// have arrived is sent again under its own key, which changes nothing if it did (docs/API.md, Import
-// and export).
+// kept in the browser before the first part goes, so that it goes on after a reload. A part that
+// may have arrived is sent again under its own key, which changes nothing if it did (docs/API.md,
+// Import and export).
 import { Fault } from "./api.js";
 import { sameCard } from "./vcard.js";
 

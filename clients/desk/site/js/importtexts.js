@@ -104,7 +104,7 @@ export const IMPORT_TEXTS = {
   lostTitle: "Not carried",
   lostLine: "{file}, line {line}: {text}",
   timesText: "({n})",
-  showMore_lines: "Show {n} more",
+  showMoreLines: "Show {n} more",
   cardsTitle: "Cards",
   cardsShown: "Show",
   show_all: "all cards",

@@ -190,7 +190,7 @@ export function countLines(lines) {
   return [...counts].sort((a, b) => b[1] - a[1]);
 }
 
-/** The lines that say that something isn't carried. */
-export function notCarried(report) {
-  return report.filter((it) => /^not carried/.test(it.text));
+/** Whether a line says that something isn't carried. */
+export function isLost({ text }) {
+  return text.startsWith("not carried");
 }

@@ -43,7 +43,10 @@ export class Intake {
    */
   async open(book, files = null) {
     const last = await this.last();
-    if (last && last.state !== ENDED && (await this.show(last)) !== MORE) return null;
+    if (last && last.state !== ENDED) {
+      const said = await this.show(last);
+      if (last.state !== ENDED || (said !== MORE && !files)) return null;
+    }
     const answer = await previewDialog(book, this.forPreview(), files, (take) => {
       this.dropped = take;
     });

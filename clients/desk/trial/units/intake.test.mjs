@@ -18,7 +18,7 @@ const pause = async () => {};
 const card = (uid, ...lines) =>
   ["BEGIN:VCARD", "VERSION:4.0", `UID:${uid}`, ...lines, "END:VCARD", ""].join("\r\n");
 
-/** A server that takes whole lines of a CSV, at most `most` a request, and tells what it was sent. */
+/** A server that takes whole lines of a CSV, at most `most` a request; `asked` has what came. */
 function server(most, { dates = () => "none", header = "Name\n" } = {}) {
   const asked = [];
   return {
@@ -45,8 +45,8 @@ function server(most, { dates = () => "none", header = "Name\n" } = {}) {
   };
 }
 
-function run(it, more = {}) {
-  return { convert: (...all) => it.convert(...all), tell() {}, pause, isOver: () => false, ...more };
+function run(it) {
+  return { convert: (...all) => it.convert(...all), tell() {}, pause, isOver: () => false };
 }
 
 test("a file goes in pieces, each with the header, and each line once", async () => {
@@ -65,7 +65,8 @@ test("where no row fits, the piece becomes longer", async () => {
   const it = server(400);
   const made = await convertFile(new Blob([`Name\n${long}\nb\n`]), {}, run(it));
   assert.deepEqual(made.rows.map((row) => row.uid.length), [700_000, 1]);
-  assert.deepEqual(it.asked.slice(0, 3).map(([, text]) => text.length), [262_144, 524_288, 700_008]);
+  const sizes = it.asked.slice(0, 3).map(([, text]) => text.length);
+  assert.deepEqual(sizes, [262_144, 524_288, 700_008]);
 });
 
 test("the same card in two pieces is taken once, and a busy server is asked again", async () => {
@@ -126,7 +127,8 @@ test("columns that aren't known are guessed, and shown", async () => {
 });
 
 test("columns by name and by number", () => {
-  assert.deepEqual(wordsFor(["A", "b,c", "D"], "a=fn,#2=tel;type=work"), ["fn", "tel;type=work", ""]);
+  const words = wordsFor(["A", "b,c", "D"], "a=fn,#2=tel;type=work");
+  assert.deepEqual(words, ["fn", "tel;type=work", ""]);
   assert.deepEqual(wordsFor(["A", "A"], "A=fn,A=-"), ["fn", "-"]);
   assert.equal(columnsText(["fn", "", "-"]), "#1=fn,#3=-");
   assert.deepEqual(rowsOf('a,"b ""c"",\nd"\r\n\n,e', ",", 9), [["a", 'b "c",\nd'], ["", "e"]]);
@@ -142,7 +144,8 @@ test("the head of a file of rows, with what stands before it", async () => {
 
 test("one number in several spellings", () => {
   const alike = new Alike();
-  const add = (place, tel) => alike.add(place, marksOf(card(`u${place}`, `FN:N${place}`, `TEL:${tel}`)));
+  const add = (place, tel) =>
+    alike.add(place, marksOf(card(`u${place}`, `FN:N${place}`, `TEL:${tel}`)));
   const find = (tel) => alike.find(marksOf(card("x", "FN:X", `TEL:${tel}`)));
   add(1, "+49 30 23125-014");
   add(2, "020 7946 0192");
@@ -176,9 +179,10 @@ const known = (uid) => BOOK.some((it) => it.uid === uid);
 
 test("what is in the book or twice in the file is marked, and left out", async () => {
   const items = await itemsFor([
-    card("a", "FN:Ann Lee", "EMAIL:ANN@x.test"), card("a", "FN:Other"), card("c", "FN:C", "EMAIL:ann@X.test "),
-    card("d", "FN:D", "TEL:020 7946 0192"), card("e", "FN:Lee  ann"), card("f", "FN:F"), card("g", "FN:f"),
-    card("h", "FN:Héloïse"), card("i", "FN:Heloise"), card("j", "FN:"), card("k", "FN:"),
+    card("a", "FN:Ann Lee", "EMAIL:ANN@x.test"), card("a", "FN:Other"),
+    card("c", "FN:C", "EMAIL:ann@X.test "), card("d", "FN:D", "TEL:020 7946 0192"),
+    card("e", "FN:Lee  ann"), card("f", "FN:F"), card("g", "FN:f"), card("h", "FN:Héloïse"),
+    card("i", "FN:Heloise"), card("j", "FN:"), card("k", "FN:"),
   ], BOOK);
   assert.deepEqual(items.map((it) => it.like && [it.like.in, it.like.why, it.like.isSame]), [
     ["book", "uid", true], ["book", "uid", false], ["book", "mail", false],
@@ -188,7 +192,7 @@ test("what is in the book or twice in the file is marked, and left out", async (
   assert.deepEqual(planOf(items, known).map((it) => it.uid), ["f", "h", "j", "k"]);
 });
 
-test("another card gets a UID of its own only if it has to; a replaced one has the book's", async () => {
+test("another card gets another UID only if it must, and one that replaces the book's", async () => {
   const items = await itemsFor([card("a", "FN:New"), card("c", "FN:C", "EMAIL:ann@x.test")], BOOK);
   for (const it of items) it.what = OTHER;
   let rows = planOf(items, known);
@@ -204,7 +208,8 @@ test("another card gets a UID of its own only if it has to; a replaced one has t
 });
 
 test("one that replaces an earlier one of the file stands in its place", async () => {
-  const items = await itemsFor([card("x", "FN:One Person"), card("y", "FN:One Person", "NOTE:later")]);
+  const person = (uid, ...lines) => card(uid, "FN:One Person", ...lines);
+  const items = await itemsFor([person("x"), person("y", "NOTE:later")]);
   items[1].what = REPLACE;
   const rows = planOf(items, () => false);
   assert.deepEqual(rows.map((it) => it.uid), ["x"]);
@@ -221,7 +226,8 @@ test("a group names its members as they are in the book", async () => {
 });
 
 test("10,000 cards of one number and name are looked through in time", async () => {
-  const cards = Array.from({ length: 10_000 }, (_, n) => card(`u${n}`, "FN:A", "TEL:+44 20 7946 0000"));
+  const one = (_, n) => card(`u${n}`, "FN:A", "TEL:+44 20 7946 0000");
+  const cards = Array.from({ length: 10_000 }, one);
   const from = Date.now();
   const items = await itemsFor(cards, BOOK);
   assert.equal(items.filter((it) => it.what === SKIP).length, 9_999);
@@ -229,8 +235,9 @@ test("10,000 cards of one number and name are looked through in time", async () 
 });
 
 test("lines of a report by kind", () => {
-  const lines = ["TEL rewritten", "kept under urn:uuid:1", "TEL rewritten", "kept under urn:uuid:2"];
-  assert.deepEqual(countLines(lines.map((text) => ({ text }))), [["TEL rewritten", 2], ["kept under", 2]]);
+  const lines = ["TEL rewritten", "kept under urn:uuid:1", "TEL rewritten", "kept under urn:2"];
+  const counted = countLines(lines.map((text) => ({ text })));
+  assert.deepEqual(counted, [["TEL rewritten", 2], ["kept under", 2]]);
 });
 
 /** A desk that keeps nothing, and a book of the server. */
@@ -262,7 +269,8 @@ function office(rows, behave = () => null) {
 }
 
 const people = (n) => Array.from({ length: n }, (_, it) => ({
-  uid: `p${it}`, text: card(`p${it}`, `FN:P ${it}`), name: `P ${it}`, file: "f", line: it, version: 0,
+  uid: `p${it}`, text: card(`p${it}`, `FN:P ${it}`), name: `P ${it}`, file: "f", line: it,
+  version: 0,
 }));
 
 test("an import goes in parts", async () => {
@@ -285,7 +293,8 @@ test("a connection that stays away stops the import, which goes on later", async
   let isAway = true;
   const it = office(people(600), (key) => (isAway && key === "k.1" ? new Fault("none", 0) : null));
   await goOn(it.journal, it.desk);
-  assert.deepEqual([it.journal.state, it.journal.why, numbersOf(it.journal).done], [STOPPED, "none", 250]);
+  const { state, why } = it.journal;
+  assert.deepEqual([state, why, numbersOf(it.journal).done], [STOPPED, "none", 250]);
   isAway = false;
   await goOn(JSON.parse(JSON.stringify(it.journal)), it.desk);
   assert.equal(it.book.size, 600);
@@ -296,7 +305,8 @@ test("a card that is refused is taken out and named; the others go on", async ()
   const it = office(people(10), (key, body) => {
     const uids = [...body.matchAll(/^"(.*?)","BEGIN/gm)].map((found) => found[1]);
     const at = uids.findIndex((uid) => bad.includes(uid));
-    return at < 0 ? null : new Fault("server", 400, { fault: "bad-import", row: at + 1, cause: 28 });
+    const fault = { fault: "bad-import", row: at + 1, cause: 28 };
+    return at < 0 ? null : new Fault("server", 400, fault);
   });
   await goOn(it.journal, it.desk);
   assert.deepEqual(it.sent, ["k.0", "k.0.1", "k.0.2"]);
@@ -310,7 +320,8 @@ test("a full book stops the import, with what is done", async () => {
     (key === "k.2" ? new Fault("server", 507, { fault: "book-full" }) : null));
   await goOn(it.journal, it.desk);
   const { done, left } = numbersOf(it.journal);
-  assert.deepEqual([it.journal.state, it.journal.why, done, left], [STOPPED, "book-full", 500, 100]);
+  const { state, why } = it.journal;
+  assert.deepEqual([state, why, done, left], [STOPPED, "book-full", 500, 100]);
 });
 
 test("it stops between parts, and not within one", async () => {

@@ -3,8 +3,7 @@ import { bdi, button, el, fill } from "../dom.js";
 import { ENDED, numbersOf } from "../importing.js";
 import { count, number, t, timeText } from "../say.js";
 import { dialog } from "./dialogs.js";
-
-const SHOWN = 200;
+import { linesView } from "./lines.js";
 
 /** The answer if somebody wants to import another file. */
 export const MORE = "more";
@@ -96,8 +95,9 @@ class Running {
       journal.left ? el("p", {}, t("importLeft", { n: number(journal.left) })) : null,
       journal.why && el("p", { class: "error" }, journal.why),
       isEnded ? null : el("p", {}, t("importStoppedText")),
-      journal.refused.length ? [el("h4", {}, t("importRefused")), el("ul", { class: "lines" },
-        journal.refused.slice(0, SHOWN).map((it) => el("li", {}, bdi(refusedLine(it)))))] : null,
+      journal.refused.length > 0 && [
+        el("h4", {}, t("importRefused")), linesView(journal.refused.map(refusedLine)),
+      ],
       el("p", { class: "hint" }, bdi(t("importFrom", {
         files: journal.files.join(", "), time: timeText(journal.ended || journal.begun),
       }))));

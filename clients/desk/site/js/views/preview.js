@@ -1,52 +1,48 @@
 // Before anything is stored: what is in the files, what is in the book already, what isn't carried.
-import { bdi, button, el, fill, newId } from "../dom.js";
+import { button, el, fill, newId } from "../dom.js";
 import { Fault } from "../api.js";
-import { countLines, isOfContent, markItems, notCarried, planOf, sizeOf } from "../incoming.js";
+import { countLines, isLost, isOfContent, markItems, planOf, sizeOf } from "../incoming.js";
 import { count, faultText, number, t } from "../say.js";
 import { Source } from "../sources.js";
 import { dialog } from "./dialogs.js";
 import { IncomingView, MarksView } from "./incoming.js";
+import { linesView } from "./lines.js";
 import { SourceView } from "./sources.js";
 
 const MOST = 10_000; // cards of a book
-const SHOWN = 200; // lines of a report that are shown at once
 
-/** Lines, of which the first are shown and the others when somebody asks. */
-function longList(lines, kind) {
-  const list = el("ul", { class: kind }, lines.slice(0, SHOWN).map((it) => el("li", {}, bdi(it))));
-  if (lines.length <= SHOWN) return list;
-  const more = button(t("showMore_lines", { n: number(lines.length - SHOWN) }), () => {
-    list.append(...lines.slice(SHOWN, SHOWN * 10).map((it) => el("li", {}, bdi(it))));
-    more.remove();
-  }, { class: "quiet" });
-  return [list, more];
+/** What isn't carried. */
+function lostView(lines) {
+  if (!lines.length) return null;
+  return el("section", { class: "lost" },
+    el("h3", {}, `${t("lostTitle")} (${number(lines.length)})`), linesView(lines));
 }
 
-/** What isn't carried, and what is written in another way. */
+/** What is written in another way: by kind, and card by card what isn't as it was. */
+function changesView(kinds, lines) {
+  if (!kinds.length) return null;
+  const counted = kinds.map(([kind, n]) => [kind, t("timesText", { n: number(n) })]);
+  return el("details", {}, el("summary", {}, t("changesTitle")),
+    el("p", { class: "hint" }, t("changesText")), linesView(counted),
+    lines.length > 0 && [el("h4", {}, t("changesCards")), linesView(lines)]);
+}
+
 function reportView(sources) {
-  const lines = sources.flatMap((it) => (it.made?.report ?? []).map((line) => [it, line]));
-  const text = ([source, it]) => t("lostLine", {
-    file: source.name, line: number(it.line), text: it.text,
-  });
-  const lost = lines.filter((it) => notCarried([it[1]]).length).map(text);
-  const content = lines.filter((it) => isOfContent(it[1].text) && !notCarried([it[1]]).length);
-  const kinds = countLines(lines.map((it) => it[1]).filter((it) => !notCarried([it]).length));
+  const all = sources.flatMap(({ name, made }) => (made?.report ?? []).map((it) => ({
+    text: it.text, isLost: isLost(it),
+    said: t("lostLine", { file: name, line: number(it.line), text: it.text }),
+  })));
+  const kept = all.filter((it) => !it.isLost);
   return [
-    lost.length ? el("section", { class: "lost" },
-      el("h3", {}, `${t("lostTitle")} (${number(lost.length)})`), longList(lost, "lines")) : null,
-    kinds.length ? el("details", {}, el("summary", {}, t("changesTitle")),
-      el("p", { class: "hint" }, t("changesText")),
-      el("ul", { class: "lines" }, kinds.slice(0, SHOWN).map(([kind, n]) => el("li", {},
-        bdi(kind), el("span", { class: "many" }, ` ${t("timesText", { n: number(n) })}`)))),
-      content.length ? [el("h4", {}, t("changesCards")), longList(content.map(text), "lines")] : null)
-      : null,
+    lostView(all.filter((it) => it.isLost).map((it) => it.said)),
+    changesView(countLines(kept), kept.filter((it) => isOfContent(it.text)).map((it) => it.said)),
   ];
 }
 
 class Preview {
   constructor(book, run, close) {
     Object.assign(this, { book, run, close, sources: [], views: [], items: [] });
-    Object.assign(this, { busy: 0, over: false });
+    Object.assign(this, { pending: 0, failed: null, over: false });
     this.total = el("p", { class: "card-total" });
     this.said = el("p", { class: "said", role: "status" });
     this.bar = el("progress", { max: 1, value: 0, "aria-label": t("importing"), hidden: true });
@@ -63,7 +59,7 @@ class Preview {
     this.cards.node.hidden = true;
     this.chooser = this.choose();
     this.go = button(t("importNow"), () => this.done(), { class: "main", disabled: true });
-    this.again = button(t("tryAgain"), () => this.read(this.failed ?? []), { hidden: true });
+    this.again = button(t("tryAgain"), () => this.read(this.failed.sources), { hidden: true });
     this.node = [
       this.chooser, el("div", { class: "import" }, this.total, this.said, this.bar),
       this.files, this.marks.node, this.report, this.cards.node,
@@ -98,32 +94,36 @@ class Preview {
     await this.read(this.sources);
   }
 
-  /** Reads files, again if something is said otherwise. */
+  /** Reads files, again if something is said otherwise. The last of several shows what is there. */
   async read(sources) {
-    this.busy += 1;
-    const turn = this.busy;
+    this.pending += 1;
     this.failed = null;
     this.again.hidden = true;
     this.go.disabled = true;
     this.bar.hidden = false;
     try {
-      for (const it of sources) if (!(await this.readOne(it))) return;
-      await this.mark();
+      for (const it of sources) if (!(await this.readOne(it))) break;
     } catch (fault) {
       if (!(fault instanceof Fault)) throw fault;
       if (fault.isMissing) this.close({ older: this.sources.map((it) => it.file) });
-      else this.couldNot(fault, sources);
-      return;
+      this.failed = { fault, sources };
     } finally {
-      if (turn === this.busy) this.bar.hidden = true;
+      this.pending -= 1;
     }
-    if (turn === this.busy) this.update();
+    if (this.pending || this.over) return;
+    this.bar.hidden = true;
+    if (this.failed) this.couldNot(this.failed.fault);
+    else await this.show();
   }
 
-  couldNot(fault, sources) {
-    this.failed = sources;
+  couldNot(fault) {
     this.again.hidden = false;
     fill(this.said, el("span", { class: "error" }, faultText(fault)));
+  }
+
+  async show() {
+    await this.mark();
+    if (!this.pending && !this.over) this.update();
   }
 
   readOne(source) {
@@ -148,7 +148,7 @@ class Preview {
   update() {
     this.views.forEach((it) => it.update());
     if (!this.files.firstChild) fill(this.files, this.views.map((it) => it.node));
-    this.chooser.classList.toggle("small", true);
+    this.chooser.classList.add("small");
     fill(this.report, reportView(this.sources));
     this.cards.node.hidden = !this.items.length;
     this.marks.update(this.items);
@@ -184,9 +184,9 @@ class Preview {
 }
 
 /**
- * Asks what of files is imported. Answers `{rows, items, sources}`, `{older}` with the files
- * if the server doesn't convert, or null. `run` has what
- * is needed of the server and the copy; `opened(take)` gets what to call if files are dropped.
+ * Asks what of files is imported. Answers `{rows, items, sources}`, `{older}` with the files if the
+ * server doesn't convert, or null. `run` has what is needed of the server and the copy;
+ * `opened(take)` gets what to call if files are dropped.
  */
 export function previewDialog(book, run, files, opened) {
   let preview = null;
