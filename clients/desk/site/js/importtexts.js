@@ -134,6 +134,10 @@ export const IMPORT_TEXTS = {
   importChanged: "Somebody changed this card meanwhile, so it wasn’t replaced.",
   importGone: "Somebody deleted or moved this card meanwhile, so it wasn’t replaced.",
   importLast: "What was last imported…",
+  importKeepFailed:
+    "This browser couldn’t keep how far it is ({why}). What is done stays. Go on when there is " +
+    "room.",
+  importAway: "No reply came from the server. Nothing was stored: try again.",
   importUnfinished: "The import into {book} isn’t finished.",
   importShow: "Show it",
   importElsewhere: "Another tab of this browser is importing. Wait for its end.",

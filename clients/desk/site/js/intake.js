@@ -52,6 +52,10 @@ export class Intake {
     });
     if (!answer?.rows) return answer;
     const journal = await this.begin(book, answer);
+    if (!journal) {
+      this.desk.frame.toast(t("importElsewhere"));
+      return null;
+    }
     return (await this.show(journal, true)) === MORE ? this.open(book) : null;
   }
 
@@ -66,9 +70,10 @@ export class Intake {
     };
   }
 
-  /** The cards of a book, as this desk shows them: `{uid, text, version}` each. */
+  /** The cards of a book, as the server has them and this desk changed them. */
   async cards(book) {
     const { desk } = this;
+    await desk.follower.bring(book);
     const all = new Map();
     for (let key = [book]; ;) {
       const range = IDBKeyRange.bound(key, ofBook(book).upper, true);
@@ -87,7 +92,7 @@ export class Intake {
     return [...all.values()];
   }
 
-  /** Keeps an import in the browser, before any of it is sent. */
+  /** Keeps an import in the browser before any of it is sent; null if another is unfinished. */
   async begin(book, { rows, items, sources }) {
     const parts = cutRows(rows);
     const report = sources.flatMap((it) => (it.made?.report ?? []).map((line) =>
@@ -98,13 +103,18 @@ export class Intake {
       skipped: items.filter((it) => it.what === SKIP).length,
     });
     const tx = this.desk.store.db.transaction("settings", "readwrite", STRICT);
+    const end = ended(tx);
     const table = tx.objectStore("settings");
-    table.delete(allParts());
-    parts.forEach((it, at) => table.put(it, partKey(at)));
-    table.put(report, REPORT);
-    table.put(journal, JOURNAL);
-    await ended(tx);
-    return journal;
+    const other = await done(table.get(JOURNAL));
+    const isFree = !other || other.state === ENDED;
+    if (isFree) {
+      table.delete(allParts());
+      parts.forEach((it, at) => table.put(it, partKey(at)));
+      table.put(report, REPORT);
+      table.put(journal, JOURNAL);
+    }
+    await end;
+    return isFree ? journal : null;
   }
 
   /** Shows an import, which goes on if `isGoing`. Answers `MORE` or null. */
@@ -136,12 +146,23 @@ export class Intake {
       // Another tab may have gone on with it.
       const kept = await this.last();
       if (kept?.key === journal.key) Object.assign(journal, kept);
-      if (journal.state !== ENDED) await goOn(journal, this.forRun(journal, tell));
-      if (journal.state === ENDED) await this.dropParts();
+      if (journal.state !== ENDED) await this.send(journal, tell);
       return true;
     });
     if (!isFree) Object.assign(journal, { state: STOPPED, why: t("importElsewhere") });
     this.desk.follow(journal.book);
+  }
+
+  /** Sends what is left. If the browser can't keep how far it is, as on a full disk, it stops. */
+  async send(journal, tell) {
+    try {
+      await goOn(journal, this.forRun(journal, tell));
+      if (journal.state === ENDED) await this.dropParts();
+    } catch (fault) {
+      if (!(fault instanceof DOMException)) throw fault;
+      const why = t("importKeepFailed", { why: fault.message });
+      Object.assign(journal, { state: STOPPED, why });
+    }
   }
 
   /** What an import needs of the server and the copy. */

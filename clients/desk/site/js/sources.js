@@ -92,7 +92,7 @@ export class Source {
 
   async lookAtColumns() {
     const text = this.fault ? this.fault.columns : this.made.columns;
-    if (this.made && this.made.kind !== "contacts") return;
+    if (this.made ? this.made.kind !== "contacts" : this.names.length) return;
     const { names, samples } = await headOf(this.octets, this.made?.header ?? 0);
     // What the server names by number has its name in the file.
     if (!text && !this.words.length) return;

@@ -97,6 +97,7 @@ export class IncomingView {
   }
 
   turn(by) {
+    if ((by < 0 ? this.before : this.after).getAttribute("aria-disabled") === "true") return;
     this.first += by;
     this.draw();
     this.list.scrollIntoView({ block: "nearest" });
@@ -114,8 +115,9 @@ export class IncomingView {
     fill(this.list, rows.slice(this.first, last).map((it) => this.row(it)));
     const isLong = rows.length > PAGE;
     for (const it of [this.before, this.after]) it.hidden = !isLong;
-    this.before.disabled = this.first === 0;
-    this.after.disabled = last === rows.length;
+    // A button that is disabled would lose the focus.
+    this.before.setAttribute("aria-disabled", String(this.first === 0));
+    this.after.setAttribute("aria-disabled", String(last === rows.length));
     const from = number(rows.length ? this.first + 1 : 0);
     this.range.textContent = t("cardsRange", { from, to: number(last), all: number(rows.length) });
   }

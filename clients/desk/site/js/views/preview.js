@@ -118,7 +118,8 @@ class Preview {
 
   couldNot(fault) {
     this.again.hidden = false;
-    fill(this.said, el("span", { class: "error" }, faultText(fault)));
+    const words = fault.from === "none" ? t("importAway") : faultText(fault);
+    fill(this.said, el("span", { class: "error" }, words));
   }
 
   async show() {
