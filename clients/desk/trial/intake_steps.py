@@ -77,7 +77,7 @@ def drop(page, *files):
 
 def shown(page):
     page.wait(f"{DIALOG}?.querySelector('.choose.small')"
-              f" && {DIALOG}.querySelector('progress').hidden")
+              f" && {DIALOG}.querySelector('progress').hidden", 40)
 
 
 def go(page):

@@ -42,8 +42,9 @@ export class BookFiles {
     if (desk.intake.dropped) desk.intake.dropped([...files]);
     if (document.querySelector("dialog[open]")) return;
     const books = desk.books.filter((it) => it.rights !== "read").map((it) => it.name);
-    const name = books.includes(desk.chosen) && !desk.filter
-      ? desk.chosen
+    const [one] = books.length === 1 ? books : [desk.chosen];
+    const name = books.includes(one) && (books.length === 1 || !desk.filter)
+      ? one
       : await ask(t("dropTitle"), [], [...books.map((it) => [it, it]), [t("cancel"), null]]);
     if (name) await this.import(name, files);
   }

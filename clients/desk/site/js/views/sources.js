@@ -103,7 +103,6 @@ export class SourceView {
     this.columns = el("details", { class: "of-file" });
     this.node = el("section", { class: "source" }, el("h3", {}, bdi(source.name)), this.said,
       this.dates, this.columns, lettersChoice(source, act));
-    this.update();
   }
 
   update() {
