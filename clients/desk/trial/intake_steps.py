@@ -269,7 +269,7 @@ def file_stopped(trial, page, office):
     go(page)
     text = page.run(SAID)
     assert "250 new cards" in text and "950 aren’t imported yet" in text, text
-    assert "No reply came" in text, text
+    assert "No reply came" in text and "250 of them were sent" in text, text
     page.picture(trial.pictures / "import-stopped.png")
     audit(page, "an import that is stopped")
     page.go(office.front)
@@ -289,7 +289,17 @@ def file_stop(trial, page, office):
     """Somebody stops an import between its parts, and leaves the rest out."""
     drop(page, ("many.vcf", "".join(card(f"s{n}", f"FN:Stop {n}") for n in range(2000))))
     page.wait(f"{SAID}.includes('2,000 cards to import')")
+    # Each part takes a while.
+    page.run("""(() => {
+        const real = window.fetch;
+        window.fetch = async (...all) => {
+            if (String(all[0]).includes('/import?')) await new Promise((it) => setTimeout(it, 900));
+            return real(...all);
+        };
+    })()""")
     page.run(f"{GO}.click()")
+    page.wait(f"{DIALOG}?.innerText.includes('250 of 2,000 cards are done')")
+    page.picture(trial.pictures / "import-going.png")
     page.press("Stop", DIALOG)
     page.wait(f"{HEAD} === 'Not all was imported'")
     page.press("Leave the rest out", DIALOG)
@@ -368,7 +378,7 @@ def file_by_keys(trial, page, office):
     hands.to("Files")
     audit(page, "a file to choose")
     page.picture(trial.pictures / "import-choose.png")
-    page.choose_file(f"{'dialog'} input[type=file]", path)
+    page.choose_file("dialog input[type=file]", path)
     page.wait(f"{SAID}.includes('1 card to import')")
     hands.to("For all with the same mail address")
     hands.to("Finn Five")
@@ -376,8 +386,8 @@ def file_by_keys(trial, page, office):
     page.wait(f"{HEAD} === 'The import is done'")
     page.wait("document.activeElement.localName === 'h3'")
     hands.press("Close")
-    until(lambda: "five" in office.cards())
-    hands.at("search")
+    assert "five" in office.cards()
+    page.wait("document.activeElement.getAttribute('aria-label') === 'Sort and select'")
 
 
 @step

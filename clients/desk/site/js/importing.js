@@ -61,7 +61,9 @@ export function newImport(key, book, parts, about) {
 export function numbersOf(journal) {
   const sum = (key) => journal.parts.reduce((all, it) => all + it[key], 0);
   const done = journal.parts.filter((it) => it.state === DONE);
+  const sent = journal.parts.filter((it) => it.state === SENT);
   return {
+    maybe: sent.reduce((all, it) => all + it.rows, 0), // sent, and no reply came
     new: sum("new"), edited: sum("edited"), same: sum("same"),
     total: sum("rows") + sum("out"), refused: journal.refused.length,
     done: done.reduce((all, it) => all + it.rows + it.out, 0),

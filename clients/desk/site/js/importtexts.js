@@ -36,7 +36,7 @@ export const IMPORT_TEXTS = {
   columnWord: "Becomes",
   columnNumber: "Column {n}",
   columnOf: "What becomes of {name}",
-  columnUnknown: "Known to the server, or kept aside",
+  columnUnknown: "Kept aside",
   columnOut: "Left out",
   targetGroups: {
     name: "Name", reach: "Phone, mail, web", job: "Work", address: "Address",
@@ -54,7 +54,8 @@ export const IMPORT_TEXTS = {
     lang: "Language", uid: "Identifier (UID)",
   },
   datesTitle: "What comes first in this file’s dates?",
-  datesText: "The file doesn’t show it. Until you choose, its cards aren’t imported.",
+  datesText: "The file doesn’t show it. Until you choose, nothing is imported.",
+  datesNeeded: "Choose below what comes first in dates.",
   datesDay: "The day: {sample} is {date}",
   datesMonth: "The month: {sample} is {date}",
   lettersTitle: "Are the letters of names wrong?",
@@ -128,7 +129,6 @@ export const IMPORT_TEXTS = {
   importStoppedText: "What is done stays. The rest can be imported now or later.",
   importGoOn: "Go on",
   importLeave: "Leave the rest out",
-  importLeft: "{n} cards weren’t imported, as you left the rest out.",
   importEndedTitle: "The import is done",
   importWaits: "A change of this card here isn’t sent yet.",
   importChanged: "Somebody changed this card meanwhile, so it wasn’t replaced.",
@@ -144,7 +144,7 @@ export const IMPORT_TEXTS = {
   importSave: "Save this as a file",
   importAgain: "Import more",
   importRefused: "These weren’t imported:",
-  importFrom: "From {files}, on {time}",
+  importFrom: "From {files}, {time}",
   importWhere: "{name} ({file}, line {line}): {why}",
 
   // Where the server doesn’t convert
@@ -183,6 +183,14 @@ export const IMPORT_COUNTS = {
   importTwice: {
     one: "{n} is twice in the file in the same words, and is taken once.",
     other: "{n} are twice in the file in the same words, and are taken once.",
+  },
+  importLeft: {
+    one: "{n} card wasn’t imported, as you left the rest out.",
+    other: "{n} cards weren’t imported, as you left the rest out.",
+  },
+  importMaybe: {
+    one: "{n} of them was sent, and no reply came: it may be in the book.",
+    other: "{n} of them were sent, and no reply came: they may be in the book.",
   },
   importNotDone: { one: "{n} isn’t imported yet", other: "{n} aren’t imported yet" },
   importDenied: { one: "{n} refused", other: "{n} refused" },

@@ -1,5 +1,6 @@
 // Books: the question for a name, a book with its numbers, a file to import.
 import { button, el, fill, newId } from "../dom.js";
+import { listOf } from "../files.js";
 import { count, number, t, timeText } from "../say.js";
 import { dialog } from "./dialogs.js";
 
@@ -36,13 +37,6 @@ export function bookQuestion(add) {
 async function octets(files) {
   const whole = files.length > 1 ? new Blob(files.flatMap((it) => [it, "\r\n"])) : files[0];
   return new Uint8Array(await whole.arrayBuffer());
-}
-
-/** The files as a file input has them. */
-function listOf(files) {
-  const data = new DataTransfer();
-  for (const it of files) data.items.add(it);
-  return data.files;
 }
 
 /** Asks what to import as it is; `why` says why. */

@@ -20,7 +20,10 @@ export function summaryLines(journal) {
     it.refused ? count("importDenied", it.refused) : "",
     it.left && journal.state !== ENDED ? count("importNotDone", it.left) : "",
   ].filter(Boolean).join(" · ");
-  return [done, others].filter(Boolean);
+  return [
+    done, others, journal.left ? count("importLeft", journal.left) : "",
+    it.maybe ? count("importMaybe", it.maybe) : "",
+  ].filter(Boolean);
 }
 
 export function refusedLine(it) {
@@ -36,7 +39,6 @@ export function summaryText(journal, report) {
     t("importFrom", { files: journal.files.join(", "), time }),
     t(journal.state === ENDED ? "importEndedTitle" : "importStoppedTitle"),
     ...summaryLines(journal),
-    journal.left ? t("importLeft", { n: journal.left }) : "",
     journal.why,
     journal.refused.length ? t("importRefused") : "",
     ...journal.refused.map(refusedLine),
@@ -92,7 +94,6 @@ class Running {
     const [done, ...others] = summaryLines(journal);
     fill(this.words,
       el("p", { class: "good" }, done), others.map((it) => el("p", {}, it)),
-      journal.left ? el("p", {}, t("importLeft", { n: number(journal.left) })) : null,
       journal.why && el("p", { class: "error" }, journal.why),
       isEnded ? null : el("p", {}, t("importStoppedText")),
       journal.refused.length > 0 && [

@@ -115,6 +115,7 @@ export class IncomingView {
     fill(this.list, rows.slice(this.first, last).map((it) => this.row(it)));
     const isLong = rows.length > PAGE;
     for (const it of [this.before, this.after]) it.hidden = !isLong;
+    this.range.hidden = !isLong && this.shown === "all";
     // A button that is disabled would lose the focus.
     this.before.setAttribute("aria-disabled", String(this.first === 0));
     this.after.setAttribute("aria-disabled", String(last === rows.length));

@@ -1,6 +1,7 @@
 // Before anything is stored: what is in the files, what is in the book already, what isn't carried.
 import { button, el, fill, newId } from "../dom.js";
 import { Fault } from "../api.js";
+import { listOf } from "../files.js";
 import { countLines, isLost, isOfContent, markItems, planOf, sizeOf } from "../incoming.js";
 import { count, faultText, number, t } from "../say.js";
 import { Source } from "../sources.js";
@@ -83,6 +84,7 @@ class Preview {
   /** Files were chosen or dropped: they come in place of those before. */
   async take(files) {
     for (const it of this.sources) it.turn += 1;
+    this.input.files = listOf(files);
     this.sources = files.map((it) => new Source(it));
     const act = { again: (source) => this.read([source]) };
     this.views = this.sources.map((it) => new SourceView(it, act));
@@ -171,11 +173,13 @@ class Preview {
       skipped ? count("importSkipped", skipped) : "", lost ? count("importLost", lost) : "",
     ].filter(Boolean).join(" · ");
     const isFull = added > this.free;
-    fill(this.said, words, isFull && el("span", { class: "error" }, t("tooMany", {
-      book: this.book, has: number(this.kept.length), free: number(this.free),
-    })));
+    const asks = this.sources.some((it) => it.asksDates);
+    fill(this.said, words, asks && el("span", { class: "asks" }, t("datesNeeded")),
+      isFull && el("span", { class: "error" }, t("tooMany", {
+        book: this.book, has: number(this.kept.length), free: number(this.free),
+      })));
     this.go.textContent = count("importButton", rows);
-    this.go.disabled = !rows || isFull || this.sources.some((it) => it.asksDates);
+    this.go.disabled = !rows || isFull || asks;
   }
 
   done() {
