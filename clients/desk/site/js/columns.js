@@ -95,13 +95,21 @@ export function delimiterOf(text) {
   return [",", ";", "\t", "|"].map((it) => [cells(it), it]).sort((a, b) => b[0] - a[0])[0][1];
 }
 
+/** The text of octets that may be cut anywhere: as the server, Windows-1252 if it isn't UTF-8. */
+function textOf(octets) {
+  try {
+    return new TextDecoder("utf-8", { fatal: true }).decode(octets, { stream: true });
+  } catch {
+    return new TextDecoder("windows-1252").decode(octets);
+  }
+}
+
 /**
  * The names of the columns, and what the first rows have in each: `{names, samples}`. `header` is
  * how many octets the header has with what stands before it; 0 if the server didn't say.
  */
 export async function headOf(file, header) {
-  const text = async (from, to) =>
-    new TextDecoder().decode(await file.slice(from, to).arrayBuffer());
+  const text = async (from, to) => textOf(await file.slice(from, to).arrayBuffer());
   const before = await text(0, header || 65_536);
   const delimiter = delimiterOf(before);
   const rows = rowsOf(before, delimiter, header ? 1000 : 5)

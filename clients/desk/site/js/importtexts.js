@@ -96,7 +96,8 @@ export const IMPORT_TEXTS = {
   do_other: "Import as another card",
   do_replace: "Replace that card",
   replaceHint:
-    "A card that is replaced goes into this browser’s trash, and can be put back for 30 days.",
+    "The file’s card replaces all of the other one, which goes into this browser’s trash and can " +
+    "be put back for 30 days.",
 
   // What is said of the files
   changesTitle: "What is written in another way",

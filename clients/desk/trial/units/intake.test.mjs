@@ -142,6 +142,13 @@ test("the head of a file of rows, with what stands before it", async () => {
   assert.deepEqual(await headOf(file, 0), wanted);
 });
 
+test("the head of a file that isn't UTF-8, and of one that is cut within a sign", async () => {
+  const old = new Blob([new Uint8Array([0x53, 0x74, 0x72, 0x61, 0xdf, 0x65]), ",b\n1,2\n"]);
+  assert.deepEqual((await headOf(old, 9)).names, ["Straße", "b"]);
+  const long = new Blob(["ü,b\n", "1,2\n".repeat(16_384), "ü".repeat(9)]);
+  assert.deepEqual((await headOf(long, 0)).names, ["ü", "b"]);
+});
+
 test("one number in several spellings", () => {
   const alike = new Alike();
   const add = (place, tel) =>
