@@ -353,7 +353,7 @@ def file_shapes(trial, page, office):
         for scheme in page.schemes:
             page.scheme(scheme)
             page.rest(300)
-            for part in ("columns", "marks", "incoming"):
+            for part in ("choose", "columns", "marks", "incoming"):
                 page.run(f"{DIALOG}.querySelector('.{part}').scrollIntoView()")
                 page.rest(150)
                 page.picture(trial.pictures / f"import-{part}-{name}-{scheme}.png")
