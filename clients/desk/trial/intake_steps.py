@@ -16,7 +16,7 @@ SAID = f"({DIALOG}?.querySelector('.import')?.innerText ?? '')"
 GO = f"{DIALOG}.querySelector('.bar .main')"
 ROWS = f"{DIALOG}.querySelectorAll('.incoming > li')"
 HEAD = f"({DIALOG}?.querySelector('h3')?.textContent ?? '')"
-SHEET = "Kunde;Durchwahl;Geheim;E-Mail\nPat Lee;+49 30 1234567;secret;pat@x.test\n" \
+SHEET = "Kunde;Mobil 2;Geheim;Mail (priv.)\nPat Lee;+49 30 1234567;secret;pat@x.test\n" \
     "Kim Roe;+49 30 7654321;hidden;kim@x.test\n"
 ABSENT = (404, 405)
 
@@ -154,10 +154,10 @@ def file_columns(trial, page, office):
     page.wait(f"{SAID}.includes('2 cards to import')")
     assert "This is a guess" in page.run(f"{DIALOG}.innerText")
     choices = page.run(f"[...{DIALOG}.querySelectorAll('.columns select')].map((it) => it.value)")
-    assert choices[0] == "fn" and choices[1].startswith("tel") and choices[3] == "email", choices
+    assert choices == ["fn", "tel;type=cell", "", "email"], choices
     audit(page, "columns")
     page.picture(trial.pictures / "import-columns.png")
-    for at, word in ((2, "-"), (1, "tel;type=cell")):
+    for at, word in ((2, "-"), (1, "tel;type=work")):
         page.run(f"""(() => {{
             const box = {DIALOG}.querySelectorAll('.columns select')[{at}];
             box.focus();
@@ -170,7 +170,7 @@ def file_columns(trial, page, office):
     go(page)
     close(page)
     pat, = (it for it in office.cards().values() if "FN:Pat Lee" in it)
-    assert "TEL;TYPE=cell:+49 30 1234567" in pat, pat
+    assert "TEL;TYPE=work:+49 30 1234567" in pat, pat
     assert "secret" not in json.dumps(pat), pat
 
 

@@ -36,7 +36,7 @@ export const IMPORT_TEXTS = {
   columnWord: "Becomes",
   columnNumber: "Column {n}",
   columnOf: "What becomes of {name}",
-  columnUnknown: "Kept aside",
+  columnUnknown: "Kept as it is",
   columnOut: "Left out",
   targetGroups: {
     name: "Name", reach: "Phone, mail, web", job: "Work", address: "Address",
