@@ -247,7 +247,7 @@ def delete(day):
 
 # The name of a file, its text, what the desk says of it, and what comes of it.
 FILES = [
-    ("part.csv", "First Name,E-mail Address\nNed Part,np@x.test\nBad,b@x.test,c,d\n",
+    ("part.csv", "First Name,E-mail Address\nUrsula Part,up@x.test\nBad,b@x.test,c,d\n",
      "1 not carried", "1 new card, 0 changed, 0 as they were"),
     ("good.csv", f"{HEADER}n1,Ned Stone,Stone,Ned,ned@example.test,020 7946 0188,Stone & Sons,"
      "\nn3,Nora,,,,,,\n", "2 cards to import", "2 new cards, 0 changed, 0 as they were"),
