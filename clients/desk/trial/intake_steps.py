@@ -103,6 +103,22 @@ def file_front(trial):
     assert status == 401, (status, head)
 
 
+@step
+@arriving()
+def file_away(trial, page, office):
+    """The server is away while a file is read: that is said, and it can be read again."""
+    refuse(page, "POST", "/convert", 503, "")
+    page.run(f"{DROP}({json.dumps([['a.vcf', card('a', 'FN:Ann Away')]])})")
+    page.wait(f"{SAID}.includes('error') || {SAID}.includes('server')")
+    page.wait(f"[...{DIALOG}.querySelectorAll('.bar button')]"
+              ".some((it) => it.textContent === 'Try again' && it.checkVisibility())")
+    audit(page, "a file that can't be read now")
+    page.run("window.fetchAgain()")
+    page.press("Try again", DIALOG)
+    page.wait(f"{SAID}.includes('1 card to import')")
+    page.press("Cancel", DIALOG)
+
+
 @fault
 @arriving()
 def file_preview(trial, page, office):

@@ -7,6 +7,12 @@ import { itemsOf } from "./incoming.js";
 /** A date of a card that was kept as text, as it may be two. */
 const DATE = /^(?:BDAY|ANNIVERSARY);[^:]*VALUE=text:(\d{1,2})[/-](\d{1,2})[/-](\d{4}|\d{2})\s*$/im;
 
+/** Whether a fault says that the file is none that is converted; else it may be another time. */
+function isOfFile(fault) {
+  const words = ["not-converted", "body-too-large", "bad-query"];
+  return fault instanceof Fault && words.some((it) => fault.is(it));
+}
+
 export class Source {
   constructor(file) {
     this.file = file;
@@ -63,7 +69,7 @@ export class Source {
       this.octets = await inUtf8(this.file, this.charset);
       made = await this.converted(here);
     } catch (refused) {
-      if (!(refused instanceof Fault) || refused.isMissing) throw refused;
+      if (!isOfFile(refused)) throw refused;
       fault = refused;
     }
     if (isOver()) return false;

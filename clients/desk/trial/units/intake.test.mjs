@@ -126,6 +126,13 @@ test("columns that aren't known are guessed, and shown", async () => {
   assert.ok(source.isGuessed);
 });
 
+test("no reply says nothing of the file", async () => {
+  const convert = async () => { throw new Fault("none", 0); };
+  const source = new Source(new File(["Name\n"], "a.csv"));
+  await assert.rejects(source.read(run({ convert })), Fault);
+  assert.equal(source.fault, null);
+});
+
 test("columns by name and by number", () => {
   const words = wordsFor(["A", "b,c", "D"], "a=fn,#2=tel;type=work");
   assert.deepEqual(words, ["fn", "tel;type=work", ""]);
