@@ -25,7 +25,7 @@ COPY = "copy [OPTIONS] <FILE> <NEW>"
 RESTORE = "restore [OPTIONS] <BACKUP> <FILE>"
 RESYNC = "resync [OPTIONS] <FILE>"
 CHECK = "check <FILE>"
-CONVERT = "convert [OPTIONS] <FILE>"
+CONVERT = "convert [OPTIONS] <FILE>..."
 BOOKS = "books <FILE>"
 VERIFY = "verify <FILE>"
 
@@ -135,7 +135,7 @@ MISSING = [
     ("resync", missing("<FILE>", "resync <FILE>")),
     ("resync --skip 2", missing("<FILE>", "resync --skip <N> <FILE>")),
     ("check", missing("<FILE>", CHECK)),
-    ("convert", missing("<FILE>", "convert <FILE>")),
+    ("convert", missing("<FILE>...", "convert <FILE>...")),
     ("books", missing("<FILE>", BOOKS)),
     ("verify", missing("<FILE>", VERIFY)),
 ]
@@ -163,7 +163,6 @@ TOO_MANY = [
     ("restore a.db b.db c.db", unexpected("c.db", RESTORE)),
     ("resync a.db b.db", unexpected("b.db", RESYNC)),
     ("check a.csv b.csv", unexpected("b.csv", CHECK)),
-    ("convert a.vcf b.vcf", unexpected("b.vcf", CONVERT)),
     ("books a.db staff", unexpected("staff", BOOKS)),
     ("verify a.db b.db", unexpected("b.db", VERIFY)),
 ]

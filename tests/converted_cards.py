@@ -395,14 +395,14 @@ CARDS = [
         "an empty FN gets the name that N gives (RFC 6350, section 6.2.1: a card has an FN)",
         card("3.0", "UID:a", "FN:", "N:Lee;Pat;;Dr.;"),
         ["UID:a", "FN:Dr. Pat Lee", "N:Lee;Pat;;Dr.;"],
-        ["line 4: FN rewritten"],
+        ["line 4: FN was empty and got a name"],
     ),
     Converted(
         "an empty FN of a card without N: the organisation's name; the card's text is read twice",
         card("2.1", "FN;ENCODING=QUOTED-PRINTABLE:", "UID:a", "N:;;;;", "ORG:Lee, Ltd;Sales",
              "X-ADDRESSBOOKSERVER-MEMBER:b"),
         ["FN:Lee\\, Ltd", "UID:a", "N:;;;;", "ORG:Lee\\, Ltd;Sales", "X-MEMBER:b"],
-        ["line 3: FN rewritten", "line 6: ORG rewritten",
+        ["line 3: FN was empty and got a name", "line 6: ORG rewritten",
          "line 7: X-ADDRESSBOOKSERVER-MEMBER kept under another name"],
     ),
     Converted(

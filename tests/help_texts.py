@@ -377,10 +377,11 @@ refused, with status 1.
 HELP["convert"] = """\
 Convert cards and contacts of other programs to vCard 4.0, as CSV for `import`
 
-Usage: contacts convert [OPTIONS] <FILE>
+Usage: contacts convert [OPTIONS] <FILE>...
 
 Arguments:
-  <FILE>  vCards of version 2.1, 3.0 or 4.0, a spreadsheet of contacts as CSV, or rows of `export`
+  <FILE>...  vCards of version 2.1, 3.0 or 4.0, a spreadsheet of contacts as CSV, or rows of \
+`export`; several files become one output
 
 Options:
       --to <DIR>           Existing folder to write files to: one `.vcf` file per card, or the CSV \
@@ -396,16 +397,18 @@ adr.street, adr.city, adr.region, adr.code, adr.country, adr.box, adr.extended, 
 anniversary, note, categories, uid, gender, lang, impp, or - to leave it out
       --charset <CHARSET>  Character set of the file: UTF-8, UTF-16, ISO-8859-1 to -16, \
 windows-1250 to -1258 or -874, KOI8-R or KOI8-U
-      --report <REPORT>    New file for the report, which is also on standard error
+      --report <REPORT>    New file for all lines of the report, one for each line of a card that \
+was changed
   -h, --help               Print help
 
 Example:
   contacts convert phone.vcf > people.csv
 
-Needs no store file. Standard error gets a line for each line of a card that was changed, a line \
-for each card that can't be carried over, and their numbers. The status is 1 if a card wasn't \
-carried over. With --rows or --octets the files are named after FILE, `phone-1.csv`, `phone-2.csv` \
-and so on, beside FILE or in the folder. No file is overwritten.
+Needs no store file. Standard error gets a line for each card whose content changed or that can't \
+be carried over, how often each other change came, and the numbers of cards. The status is 1 if a \
+card wasn't carried over. With --rows or --octets the files are named after the first FILE, \
+`phone-1.csv`, `phone-2.csv` and so on, beside it or in the folder. No file is overwritten, and \
+nothing is written before each FILE is known to be one that is converted.
 """
 
 HELP["books"] = """\

@@ -9,12 +9,14 @@ import csv
 import io
 import random
 import re
+import resource
 import subprocess
 import sys
 import unittest
 import uuid
 
 from card_rows import octets as octets_of
+from conversion_reports import digest
 from converted_cards import ADDED_UID, CARDS, added_uid, card
 from order_trials import OrderTest
 from program import ROOT, Ended, run
@@ -66,8 +68,9 @@ def rows_of(octets):
     return list(csv.reader(io.StringIO(octets.decode(), newline="")))[1:]
 
 
-def summary(written, changed, refused):
-    return b"%d cards written, %d changed, %d not carried\n" % (written, changed, refused)
+def report(lines, written, changed, refused, files=None):
+    """What is printed where these are the lines of the report."""
+    return digest(lines, written, changed, refused, files).encode()
 
 
 class Convert(OrderTest):
@@ -91,7 +94,7 @@ class Convert(OrderTest):
         self.assertEqual(0, ended.status, ended)
 
     def test_cards(self):
-        for title, lines, wanted, report in CARDS:
+        for title, lines, wanted, changes in CARDS:
             for end in "\r\n", "\n", "\r":
                 with self.subTest(title, end=end):
                     octets = octets_of(text(lines, end))
@@ -103,11 +106,23 @@ class Convert(OrderTest):
                     uid = "UID:" + added_uid(read)
                     made = card("4.0", *(uid if it == ADDED_UID else it for it in wanted))
                     self.assertEqual(made, unfolded(rows[0][1].encode()))
-                    lines_of_report = [f"card 1, {line}\n" for line in report]
-                    due = "".join(lines_of_report).encode() + summary(1, bool(report), 0)
+                    listed = [f"card 1, {line}" for line in changes]
+                    due = report(listed, 1, bool(changes), 0)
                     self.assertEqual((0, due), (ended.status, ended.err))
                     self.assertEqual(ended, self.convert(octets), "not the same again")
                     self.imported(ended.out, 1)
+
+    def test_a_report_in_a_file(self):
+        """It has a line for each change, and then what is printed at the end."""
+        for title, lines, _wanted, changes in CARDS:
+            with self.subTest(title):
+                ended = self.convert(octets_of(text(lines)), "--report", "r.txt")
+                file = self.folder / "r.txt"
+                listed = "".join(f"card 1, {line}\n" for line in changes)
+                told = [it for it in ended.err.decode().splitlines(True) if it.startswith("card 1, ")]
+                end = ended.err.decode().removeprefix("".join(told))
+                self.assertEqual(listed + end, file.read_text(encoding="utf-8"))
+                file.unlink()
 
     def test_encodings(self):
         lines = card("3.0", "UID:a", "FN:Zoë Ångström")
@@ -157,10 +172,9 @@ class Convert(OrderTest):
                     bad = text(card("2.1", "UID:a", f"FN;CHARSET={name}{encoding}:{value}"))
                     good = text(card("2.1", "UID:c", f"FN;CHARSET={name}{encoding}:Cy"))
                     ended = self.convert(octets_of(bad + ann + good))
-                    report = (f"card 1, line 1: not carried: the charset {name} isn't known: "
-                              "export the card in UTF-8\n"
-                              "card 3, line 14: FN rewritten\n").encode()
-                    self.assertEqual((1, report + summary(2, 1, 1)), (ended.status, ended.err))
+                    lines = [f"card 1, line 1: not carried: the charset {name} isn't known: "
+                             "export the card in UTF-8", "card 3, line 14: FN rewritten"]
+                    self.assertEqual((1, report(lines, 2, 1, 1)), (ended.status, ended.err))
                     self.assertEqual(["b", "c"], [row[0] for row in rows_of(ended.out)])
 
     def test_other_character_sets(self):
@@ -189,8 +203,8 @@ class Convert(OrderTest):
                                  "PHOTO:http://a.test/b.png", "TEL:1")
                     ended = self.convert(text(lines).encode())
                     what = "rewritten" if is_kept else "left out"
-                    report = f"card 1, line 5: {kind} {what}\n".encode() + summary(1, 1, 0)
-                    self.assertEqual((0, report), (ended.status, ended.err))
+                    due = report([f"card 1, line 5: {kind} {what}"], 1, 1, 0)
+                    self.assertEqual((0, due), (ended.status, ended.err))
                     media = "audio/basic" if kind == "SOUND" else "image/jpeg"
                     kept = [f"{kind}:data:{media};base64,{photo}"] if is_kept else []
                     made = card("4.0", "UID:a", "FN:Ann", *kept, "PHOTO:http://a.test/b.png",
@@ -214,27 +228,26 @@ class Convert(OrderTest):
         """A head of 50,000 folds before 50,000 lines of base64 is one line."""
         folded = ["X", *50_000 * [" ="], " ;BASE64", *50_000 * ["A"]]
         ended = self.convert(text(card("3.0", "UID:a", "FN:Ann", *folded), "\n").encode())
-        report = b"card 1, line 5: kept as X-UNREADABLE\n" + summary(1, 1, 0)
-        self.assertEqual((0, report), (ended.status, ended.err))
+        due = report(["card 1, line 5: kept as X-UNREADABLE"], 1, 1, 0)
+        self.assertEqual((0, due), (ended.status, ended.err))
         kept = "X-UNREADABLE:X" + 50_000 * "=" + "\\;BASE64" + 50_000 * "A"
         wanted = card("4.0", "UID:a", "FN:Ann", kept)
         self.assertEqual(wanted, unfolded(rows_of(ended.out)[0][1].encode()))
 
     def test_pieces(self):
-        for title, pieces, report in PIECES:
+        for title, pieces, lines in PIECES:
             with self.subTest(title):
                 ended = self.convert(b"".join(pieces))
                 uids = [added_uid(piece) for piece in pieces if piece.strip()]
                 self.assertEqual(uids, [row[0] for row in rows_of(ended.out)])
-                lines = "".join(line + "\n" for line in report).encode()
-                self.assertEqual(lines + summary(len(uids), len(uids), 0), ended.err)
+                self.assertEqual(report(lines, len(uids), len(uids), 0), ended.err)
                 self.assertEqual(0, ended.status)
 
     def test_joined_files(self):
         """The first of two joined files has no line feed at its end."""
         first, second = text(card("3.0", "UID:a", "FN:Ann")), text(card("3.0", "UID:b", "FN:Bob"))
         ended = self.convert((first.removesuffix("\r\n") + second).encode())
-        self.assertEqual((0, summary(2, 0, 0)), (ended.status, ended.err))
+        self.assertEqual((0, report([], 2, 0, 0)), (ended.status, ended.err))
         self.assertEqual([["a", "Ann"], ["b", "Bob"]], [
             [uid, unfolded(vcard.encode())[3].partition(":")[2]]
             for uid, vcard in rows_of(ended.out)
@@ -250,29 +263,47 @@ class Convert(OrderTest):
             self.assertEqual(5, uuid.UUID(uid).version)
         self.assertEqual(added_uid(octets), uids[0])
         self.assertEqual(uids[0], rows_of(self.convert(octets).out)[0][0])
-        report = b"card 1, line 1: UID added\ncard 2, line 5: UID added\n" + summary(2, 2, 0)
-        self.assertEqual(report, ended.err)
+        lines = ["card 1, line 1: UID added", "card 2, line 5: UID added"]
+        self.assertEqual(report(lines, 2, 2, 0), ended.err)
 
     def test_what_is_not_carried(self):
         ann = text(card("4.0", "UID:a", "FN:Ann"))
-        for title, octets, written, report in [
+        for title, octets, written, line in [
             ("no octet", "", 0, ""),
             ("blank lines between cards", "\n\n" + ann + "\r\n \n", 1, ""),
             ("words between cards", ann + "words\nmore\n" + ann.replace("UID:a", "UID:b"), 2,
-             "line 6: not carried: no card begins here\n"),
+             "line 6: not carried: no card begins here"),
             ("too long", ann.replace("Ann", "x" * 270_000), 0,
-             "card 1, line 1: not carried: the text is too long\n"),
+             "card 1, line 1: not carried: the text is too long"),
             ("too long in vCard 3.0", "BEGIN:VCARD\nVERSION:3.0\nNOTE:" + "a" * 262_144, 0,
-             "card 1, line 1: not carried: the text is too long\n"),
-            ("no card", "x", 0, "line 1: not carried: no card begins here\n"),
+             "card 1, line 1: not carried: the text is too long"),
+            ("no card", "x", 0, "line 1: not carried: no card begins here"),
         ]:
             with self.subTest(title):
                 ended = self.convert(octets.encode())
-                refused = bool(report)
-                self.assertEqual(report.encode() + summary(written, 0, refused), ended.err)
+                refused = int(bool(line))
+                self.assertEqual(report([line] * refused, written, 0, refused), ended.err)
                 self.assertEqual(int(refused), ended.status)
                 self.assertEqual(written, len(rows_of(ended.out)))
                 self.assertTrue(ended.out.startswith(HEAD))
+
+    def test_a_line_of_a_million_parameters(self):
+        """It isn't carried, in 60 MB of memory; 65,536 semicolons are, and the cards around it."""
+        ann, bob = (text(card("3.0", f"UID:{name}", f"FN:{name}")) for name in ("Ann", "Bob"))
+        crammed = text(card("3.0", "UID:c", "FN:C", "TEL" + ";A=1" * 1_000_000 + ":1"))
+
+        def bounded():
+            resource.setrlimit(resource.RLIMIT_AS, (60_000_000, 60_000_000))
+
+        (self.folder / "cards.vcf").write_bytes((ann + crammed + bob).encode())
+        ended = run("convert", "cards.vcf", cwd=self.folder, preexec_fn=bounded)
+        lines = ["card 2, line 6: not carried: the card has more than 65,536 semicolons"]
+        self.assertEqual((1, report(lines, 2, 0, 1)), (ended.status, ended.err))
+        self.assertEqual(["Ann", "Bob"], [row[0] for row in rows_of(ended.out)])
+        for count, carried in (65_536, 1), (65_537, 0):
+            octets = text(card("4.0", "UID:a", "FN:A", "NOTE:" + ";" * count)).encode()
+            ended = self.convert(octets)
+            self.assertEqual((1 - carried, carried), (ended.status, len(rows_of(ended.out))))
 
     def test_a_uid_twice(self):
         """The same card is passed, however often it comes. Another one is kept under a UID that is
@@ -281,11 +312,11 @@ class Convert(OrderTest):
         old = text(card("3.0", "UID:a", "FN:Ann"), "\n")
         own = added_uid(bob.encode())
         ended = self.convert((ann + old + bob + bob + ann).encode())
-        report = ("card 2, line 6: an earlier card is the same\n"
-                  f"card 3, line 11: an earlier card has the same UID; kept under {own}\n"
-                  "card 4, line 16: an earlier card is the same\n"
-                  "card 5, line 21: an earlier card is the same\n").encode()
-        self.assertEqual((0, report + summary(2, 1, 0)), (ended.status, ended.err))
+        lines = ["card 2, line 6: an earlier card is the same",
+                 f"card 3, line 11: an earlier card has the same UID; kept under {own}",
+                 "card 4, line 16: an earlier card is the same",
+                 "card 5, line 21: an earlier card is the same"]
+        self.assertEqual((0, report(lines, 2, 1, 0)), (ended.status, ended.err))
         self.assertEqual([["a", card("4.0", "UID:a", "FN:Ann")],
                           [own, card("4.0", f"UID:{own}", "FN:Bob")]],
                          [[uid, unfolded(vcard.encode())] for uid, vcard in rows_of(ended.out)])
@@ -296,16 +327,16 @@ class Convert(OrderTest):
         ann, bob = text(card("4.0", "UID:a", "FN:Ann")), text(card("4.0", "UID:a", "FN:Bob"))
         notes = (262_144 - len(bob)) // len("NOTE:x\r\n") * "NOTE:x\r\n"
         ended = self.convert((ann + bob.replace("END", notes + "END")).encode())
-        report = (b"card 2, line 6: not carried: an earlier card has the same UID, and with "
-                  b"another one the text is too long\n" + summary(1, 0, 1))
-        self.assertEqual((1, report), (ended.status, ended.err))
+        lines = ["card 2, line 6: not carried: an earlier card has the same UID, and with "
+                 "another one the text is too long"]
+        self.assertEqual((1, report(lines, 1, 0, 1)), (ended.status, ended.err))
 
     def test_a_file_for_each_card(self):
         uids = ["a", "urn:uuid:7f", "é", "../b", ".c", "x" * 201, "d.vcf"]
         octets = "".join(text(card("4.0", f"UID:{uid}", "FN:A")) for uid in uids).encode()
         (self.folder / "to").mkdir()
         ended = self.convert(octets, "--to", "to")
-        self.assertEqual(Ended(0, b"", summary(7, 0, 0)), ended)
+        self.assertEqual(Ended(0, b"", report([], 7, 0, 0, files=7)), ended)
         names = sorted(path.name for path in (self.folder / "to").iterdir())
         wanted = ["7f.vcf", "a.vcf", "card-3.vcf", "card-4.vcf", "card-5.vcf", "card-6.vcf",
                   "d.vcf.vcf"]
@@ -324,7 +355,7 @@ class Convert(OrderTest):
     def test_files_of_rows(self):
         octets = "".join(text(card("4.0", f"UID:{n}", "FN:A")) for n in range(7)).encode()
         ended = self.convert(octets, "--rows", 3)
-        self.assertEqual(Ended(0, b"", summary(7, 0, 0)), ended)
+        self.assertEqual(Ended(0, b"", report([], 7, 0, 0, files=3)), ended)
         files = ["cards-1.csv", "cards-2.csv", "cards-3.csv"]
         self.assertEqual([*files, "cards.vcf"], self.names())
         counts = [len(rows_of((self.folder / name).read_bytes())) for name in files]
@@ -342,7 +373,7 @@ class Convert(OrderTest):
                              (len(HEAD) + 2 * row - 1, [1] * 7)]:
             with self.subTest(most=most):
                 ended = self.convert(octets, "--octets", most, "--to", "to")
-                self.assertEqual(Ended(0, b"", summary(7, 0, 0)), ended)
+                self.assertEqual(Ended(0, b"", report([], 7, 0, 0, files=len(counts))), ended)
                 files = sorted((self.folder / "to").iterdir())
                 self.assertEqual(counts, [len(rows_of(it.read_bytes())) for it in files])
                 for file in files:
@@ -388,8 +419,8 @@ class Convert(OrderTest):
                     octets[place:place] = drawn.choice([b"\r\n", b"=", b":", b";", b"\n ", b"\0"])
             with self.subTest(number=number):
                 ended = self.convert(bytes(octets))
-                end = re.search(rb"(?:^|\n)(\d+) cards written, (\d+) changed, (\d+) not carried\n$",
-                                ended.err)
+                end = re.search(rb"(?:^|\n)(\d+) cards written, (\d+) changed, \d+ with parts kept "
+                                rb"aside, (\d+) not carried\n$", ended.err)
                 self.assertTrue(end, ended)
                 self.assertEqual(1 if int(end[3]) else 0, ended.status)
                 rows = rows_of(ended.out)

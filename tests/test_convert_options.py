@@ -8,6 +8,7 @@ import io
 import re
 import unittest
 
+from conversion_reports import digest
 from converted_cards import added_uid
 from order_trials import OrderTest
 from program import Ended, run
@@ -144,9 +145,8 @@ class ConvertOptions(OrderTest):
     def test_columns(self):
         for delimiter in ",", ";", "\t":
             ended = self.convert(csv_text([HEADER, ROW], delimiter).encode(), "--columns", SAID)
-            report = ("columns left out: Anlage\n"
-                      "row 1, line 2: the cell of Geb. am rewritten\n"
-                      "1 cards written, 1 changed, 0 not carried\n")
+            report = "columns left out: Anlage\n"
+            report += digest(["row 1, line 2: the cell of Geb. am rewritten"], 1, 1, 0)
             self.assertEqual((0, report), (ended.status, ended.err.decode()), delimiter)
             self.assertEqual([LINES], cards_of(ended))
             self.assertNotIn(b"secret", ended.out)
@@ -272,9 +272,8 @@ class ConvertOptions(OrderTest):
         """The same row twice is carried once. Another row keeps its person, under another UID."""
         octets = b"uid,First Name,E-mail Address\na,Ann,\na,Ann,\na,Bob,\n"
         ended = self.convert(octets)
-        report = (b"row 2, line 3: an earlier row has the same cells\n"
-                  b"row 3, line 4: the cell of uid kept as X-UID\n"
-                  b"2 cards written, 1 changed, 0 not carried\n")
+        report = digest(["row 2, line 3: an earlier row has the same cells",
+                         "row 3, line 4: the cell of uid kept as X-UID"], 2, 1, 0).encode()
         self.assertEqual((0, report), (ended.status, ended.err))
         uids = [row[0] for row in rows_of(ended.out)]
         self.assertEqual(["a", added_uid(b"uid\x1fa\x1eFirst Name\x1fBob\x1e")], uids)
@@ -320,6 +319,31 @@ class ConvertOptions(OrderTest):
             ended = self.convert(csv_text(rows).encode(), name=name)
             self.assertEqual((0, wanted), (ended.status, cards_of(ended)))
 
+    # ---- addresses of Exchange
+
+    def test_addresses_of_exchange(self):
+        """An address within a server is kept aside. The one of SMTP beside it is the EMAIL."""
+        inner = "/o=ExchangeLabs/ou=Exchange Administrative Group/cn=Recipients/cn=0f1e-pat"
+        head = ["First Name", "E-mail Address", "E-mail Type", "E-mail Display Name",
+                "E-mail 2 Address", "E-mail 2 Type", "E-mail 2 Display Name"]
+        for cells, mails in [
+            ([inner, "EX", "Pat Lee (pat@example.com)", "", "", ""], ["EMAIL:pat@example.com"]),
+            ([inner.upper(), "EX", "Pat (Sales) (pat@example.com) ", "PAT@example.com", "SMTP", ""],
+             ["EMAIL:PAT@example.com"]),
+            ([inner, "EX", "Pat Lee", "", "", ""], []),
+            ([inner, "EX", "Pat (no address)", "", "", ""], []),
+            ([inner, "EX", "Pat (a@)", "b@x.test", "SMTP", "B (b@x.test)"], ["EMAIL:b@x.test"]),
+            (["a@x.test", "SMTP", "A (other@x.test)", inner, "EX", "B (b@x.test)"],
+             ["EMAIL:a@x.test", "EMAIL:b@x.test"]),
+        ]:
+            with self.subTest(cells):
+                ended = self.convert(csv_text([head, ["Pat", *cells]]).encode())
+                [row] = rows_of(ended.out)
+                found = [line for line in lines_of(row[1]) if line.startswith("EMAIL")]
+                self.assertEqual((0, mails), (ended.status, found))
+                self.assertRegex(row[1].replace("\r\n ", ""), "(?i)X-E-MAIL-(2-)?ADDRESS:/o=")
+                self.assertRegex(ended.err.decode(), "the cell of E-mail (2 )?Address kept as X-")
+
     # ---- character sets
 
     def test_charsets(self):
@@ -360,11 +384,17 @@ class ConvertOptions(OrderTest):
     # ---- the report
 
     def test_a_report_in_a_file(self):
-        octets = b"First Name,E-mail Address,Shoe\nAnn,a@x.test,38\nBob,\n"
+        """It has a line for each change, and then the end of what is printed."""
+        octets = b"First Name,E-mail Address,Shoe,Birthday\nAnn,a@x.test,38,1980-04-15\nBob,\n"
         ended = self.convert(octets, "--report", "r.txt")
-        self.assertEqual(1, ended.status)
+        lines = ["row 1, line 2: the cell of Shoe kept as X-SHOE",
+                 "row 1, line 2: the cell of Birthday rewritten",
+                 "row 2, line 3: not carried: the row has more or fewer cells than the header"]
+        self.assertEqual((1, digest(lines, 1, 1, 1)), (ended.status, ended.err.decode()))
         self.assertEqual(ended, self.convert(octets))
-        self.assertEqual(ended.err, (self.folder / "r.txt").read_bytes())
+        listed = "".join(line + "\n" for line in lines)
+        end = "".join(ended.err.decode().splitlines(True)[2:])
+        self.assertEqual(listed + end, (self.folder / "r.txt").read_text())
 
     def test_a_report_overwrites_nothing(self):
         (self.folder / "r.txt").write_bytes(b"mine")

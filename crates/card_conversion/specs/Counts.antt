@@ -2,7 +2,7 @@
 use Rattle.std.specs.Prelude.{ℕ, ◌+◌, ◌-◌, ◌^◌, ◌==◌, List, length, min, fold, if◌then◌else◌}
 use Rattle.vcard_import.specs.declared.conversion.Conversion.{Conversion}
 use Rattle.card_conversion.specs.declared.fate.Fate.{Fate}
-use Rattle.card_conversion.specs.declared.fate.Fate.TheVariants.{Blank, Other, Long, Refused}
+use Rattle.card_conversion.specs.declared.fate.Fate.TheVariants.{Blank, Other, Long, Overfull, Refused}
 use Rattle.card_conversion.specs.declared.fate.Fate.TheVariants.{Repeated, Crowded, Declined}
 use Rattle.card_conversion.specs.declared.fate.Fate.TheVariants.{Written, Moved}
 use Rattle.card_conversion.specs.declared.ledger.Summary.{Summary}
@@ -43,6 +43,7 @@ abbrev pub counted : Summary → Fate → Summary
 counted summary Blank = summary
 counted summary Other = with_refused summary
 counted summary Long = with_refused summary
+counted summary Overfull = with_refused summary
 counted summary (Refused fault) = with_refused summary
 counted summary (Repeated made) = summary
 counted summary (Crowded made) = with_refused summary
@@ -50,6 +51,10 @@ counted summary (Declined made words) = with_refused summary
 counted summary (Written made) = with_written summary made
 counted summary (Moved made) = with_moved summary
 
+-- the numbers after more pieces
+abbrev pub summary_after : Summary → List Entry → Summary
+summary_after start entries = fold (λ summary entry. counted summary entry.fate) start entries
+
 -- the numbers of all pieces
 abbrev pub summary_of : List Entry → Summary
-summary_of entries = fold (λ summary entry. counted summary entry.fate) nothing_counted entries
+summary_of entries = summary_after nothing_counted entries

@@ -1,10 +1,10 @@
 -- What becomes of the pieces of a file that is converted. This project's own.
 use Rattle.std.specs.Prelude.{ℕ, ◌≡◌, ◌≤◌, ◌⊎◌, ◌||◌, ◌&&◌, ◌==◌}
 use Rattle.std.specs.Prelude.{Bool, true, false, List, [], ◌∷◌, ◌++◌}
-use Rattle.std.specs.Prelude.{length, flat_map, codes, drop, not, take_while}
+use Rattle.std.specs.Prelude.{length, filter, flat_map, codes, drop, nat_lt, not, take_while}
 use Rattle.std.specs.List.{Contains, list_all}
 use Rattle.import_text.specs.RawLines.{begins_with_word}
-use Rattle.base_types.specs.Octets.{carriage_return, line_feed, space, tab}
+use Rattle.base_types.specs.Octets.{carriage_return, line_feed, semicolon, space, tab}
 use Rattle.vcard_lines.specs.declared.line.Line.{Line}
 use Rattle.vcard_text.specs.Cards.{IsCard, uid_of}
 use Rattle.vcard_text.specs.Spelling.{Spells, without_bom}
@@ -12,7 +12,7 @@ use Rattle.vcard_import.specs.Conversions.{IsConverted, IsRefused, LeavesOutIfLo
 use Rattle.card_conversion.specs.Moved.{IsMoved, lines_under, own_uid}
 use Rattle.vcard_import.specs.declared.conversion.Conversion.{Conversion}
 use Rattle.card_conversion.specs.declared.fate.Fate.{Fate}
-use Rattle.card_conversion.specs.declared.fate.Fate.TheVariants.{Blank, Other, Long, Refused}
+use Rattle.card_conversion.specs.declared.fate.Fate.TheVariants.{Blank, Other, Long, Overfull, Refused}
 use Rattle.card_conversion.specs.declared.fate.Fate.TheVariants.{Repeated, Crowded, Declined}
 use Rattle.card_conversion.specs.declared.fate.Fate.TheVariants.{Written, Moved}
 
@@ -35,6 +35,10 @@ begins_card line = begins_with_word (codes "BEGIN:VCARD") line && list_all is_wh
 -- the first line begins a card, perhaps after a byte order mark
 abbrev pub is_card : List ℕ → Bool
 is_card octets = begins_card (first_line (without_bom octets))
+
+-- more than 65,536 semicolons, each of which may begin a parameter
+abbrev pub is_overfull : List ℕ → Bool
+is_overfull octets = nat_lt 65536 (length (filter (λ octet. octet == semicolon) octets))
 
 -- A card: the one that the octets spell, with no change; or one that is converted from them. A line
 -- is left out only if the card would be too long with it.
@@ -59,6 +63,7 @@ abbrev pub IsFate : List (List ℕ) → List ℕ → Fate → Type 0
 IsFate uids octets Blank = is_blank octets ≡ true
 IsFate uids octets Other = is_card octets ≡ false
 IsFate uids octets Long = 8388608 ≤ length octets
+IsFate uids octets Overfull = is_overfull octets ≡ true
 IsFate uids octets (Refused fault) = IsRefused octets fault
 IsFate uids octets (Repeated made) = IsConversion octets made
     × Contains uids (uid_of made.card) × Contains uids (own_uid made.card)
@@ -77,6 +82,7 @@ abbrev pub uids_of_fate : Fate → List (List ℕ)
 uids_of_fate Blank = []
 uids_of_fate Other = []
 uids_of_fate Long = []
+uids_of_fate Overfull = []
 uids_of_fate (Refused fault) = []
 uids_of_fate (Repeated made) = []
 uids_of_fate (Crowded made) = []
@@ -89,6 +95,7 @@ abbrev pub cards_of_fate : Fate → List (List Line)
 cards_of_fate Blank = []
 cards_of_fate Other = []
 cards_of_fate Long = []
+cards_of_fate Overfull = []
 cards_of_fate (Refused fault) = []
 cards_of_fate (Repeated made) = []
 cards_of_fate (Crowded made) = []

@@ -1,5 +1,6 @@
 pub mod Accounts
 pub mod Counts
+pub mod Courses
 pub mod Deliveries
 pub mod Fates
 pub mod LineEnds

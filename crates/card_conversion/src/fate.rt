@@ -12,6 +12,8 @@ pub(crate) enum Fate {
     Other,
     /// It is a card of more than 8,388,608 octets, or the front of one.
     Long,
+    /// It is a card with more than 65,536 semicolons, which begin parameters.
+    Overfull,
     /// It is a card that can't be converted.
     Refused(ImportFault),
     /// It is the same card as an earlier one, and is passed.

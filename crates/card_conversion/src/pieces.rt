@@ -7,7 +7,7 @@ ghost use Rattle.card_conversion.specs.Moved.{own_uid};
 ghost use Rattle.vcard_import.specs.Conversions.{IsRefused};
 ghost use Rattle.std.specs.List.{list_all};
 ghost use Rattle.card_conversion.specs.Fates.{IsApart, IsConversion, first_line, is_blank};
-ghost use Rattle.card_conversion.specs.Fates.{is_card, is_white};
+ghost use Rattle.card_conversion.specs.Fates.{is_card, is_overfull, is_white};
 ghost use Rattle.card_conversion.specs.internal.States.{DeliversNew, Takes, TakesAfter};
 ghost use Rattle.vcard_text.specs.Spelling.{without_bom};
 
@@ -61,6 +61,16 @@ fn is_card(piece: &[u8]) -> bool
 {
     let line = first_line(without_bom(piece));
     begins_with_word(line, b"BEGIN:VCARD") && are_white(&line[11..])
+}
+
+/// The most semicolons of a card. Each may begin a parameter, which takes some 400 octets of memory.
+const SEMICOLONS_MAX: usize = 65_536;
+
+/// Whether there are more semicolons than a card may have.
+fn is_overfull(piece: &[u8]) -> bool
+    ensures { result ≡ is_overfull piece.now }
+{
+    piece.iter().filter(|octet| **octet == b';').count() > SEMICOLONS_MAX
 }
 
 /// Writes a card, and remembers its UID. Of one that was written it remembers the UID of its own,
@@ -189,6 +199,9 @@ pub(crate) fn take_piece<O: Outlet>(
     }
     if piece.len() >= PIECE_OCTETS_MAX {
         return Ok(Fate::Long);
+    }
+    if is_overfull(piece) {
+        return Ok(Fate::Overfull);
     }
     match convert(alloc, piece)? {
         Ok(conversion) => deliver_piece(alloc, uids, number, conversion, outlet),

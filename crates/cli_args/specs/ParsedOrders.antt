@@ -45,6 +45,10 @@ text_arg id rows = first_of id rows
 abbrev pub texts_arg : Text → List Row → List Text
 texts_arg id rows = unwrap_or (all_of id rows) []
 
+-- all values of an argument after the first one
+abbrev pub later_texts : Text → List Row → List Text
+later_texts id rows = drop 1 (texts_arg id rows)
+
 abbrev pub u64_arg : Text → List Row → Option ℕ
 u64_arg id rows = option_and_then (number_upto (2 ^ 64 - 1)) (one_of id rows)
 
@@ -159,7 +163,8 @@ abbrev pub check_order : List Row → Option Order
 check_order = with_file (λ file. Some (Check file))
 
 abbrev pub convert_order_of : List Row → Option Order
-convert_order_of rows = with_file (λ file. Some (Convert file (text_arg (codes "DIR") rows)
+convert_order_of rows = with_file (λ file. Some (Convert file (later_texts (codes "FILE") rows)
+    (text_arg (codes "DIR") rows)
     (u64_arg (codes "ROWS") rows) (u64_arg (codes "OCTETS") rows)
     (is_given (codes "day-first") rows) (is_given (codes "month-first") rows)
     (text_arg (codes "COLUMNS") rows) (text_arg (codes "CHARSET") rows)

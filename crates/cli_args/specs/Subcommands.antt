@@ -14,6 +14,10 @@ use Rattle.clap.specs.declared.builder.value_parser.ValueParser.TheVariants.{Uns
 abbrev pub argument : Text → Rule
 argument id = record (new_rule id) { required = true }
 
+-- an argument that is given once or more often
+abbrev pub repeated_argument : Text → Rule
+repeated_argument id = record (argument id) { action = Some Append }
+
 -- a required number from `least` to `most`
 abbrev pub number_arg : Text → ℕ → ℕ → Rule
 number_arg id least most = record (argument id) { parser = Some (Unsigned least most) }
@@ -172,7 +176,7 @@ check_command = order_command (codes "check") (file_arg ∷ [])
 
 abbrev pub convert_command : Shape
 convert_command = order_command (codes "convert")
-    (file_arg ∷ free_option (codes "DIR") (codes "to")
+    (repeated_argument (codes "FILE") ∷ free_option (codes "DIR") (codes "to")
     ∷ free_number_option (codes "ROWS") (codes "rows") 1 10000
     ∷ free_number_option (codes "OCTETS") (codes "octets") 1 8388608
     ∷ switch (codes "day-first") (codes "day-first")

@@ -3,18 +3,19 @@ ghost use Rattle.std.specs.Prelude.{IfOk, codes};
 ghost use Rattle.cli_args.specs.Subcommands as lines;
 ghost use Rattle.cli_args.specs.Subcommands.{IsArgument, IsOrderCommand};
 
-use crate::arguments::{argument, free_number_option, free_option, switch};
+use crate::arguments::{free_number_option, free_option, repeated_argument, switch};
 use crate::subcommands::order_command;
 use clap::{Arg, Command};
 use std::alloc::{AllocError, Global};
 
 fn source_arg<'a>(alloc: Global) -> Arg<'a>
-    ensures { IsArgument lines.file_arg result }
+    ensures { IsArgument (lines.repeated_argument (codes "FILE")) result }
 {
-    argument(
+    repeated_argument(
         alloc,
         "FILE",
-        "vCards of version 2.1, 3.0 or 4.0, a spreadsheet of contacts as CSV, or rows of `export`",
+        "vCards of version 2.1, 3.0 or 4.0, a spreadsheet of contacts as CSV, or rows of `export`; \
+         several files become one output",
     )
 }
 
@@ -113,7 +114,7 @@ fn report_option<'a>(alloc: Global) -> Arg<'a>
         alloc,
         "REPORT",
         "report",
-        "New file for the report, which is also on standard error",
+        "New file for all lines of the report, one for each line of a card that was changed",
     )
 }
 
@@ -125,10 +126,12 @@ pub(crate) fn convert_command<'a>(alloc: Global) -> Result<Command<'a>, AllocErr
         "convert",
         "Convert cards and contacts of other programs to vCard 4.0, as CSV for `import`",
         "Example:\n  contacts convert phone.vcf > people.csv\n\nNeeds no store file. Standard \
-         error gets a line for each line of a card that was changed, a line for each card that \
-         can't be carried over, and their numbers. The status is 1 if a card wasn't carried over. \
-         With --rows or --octets the files are named after FILE, `phone-1.csv`, `phone-2.csv` and so \
-         on, beside FILE or in the folder. No file is overwritten.",
+         error gets a line for each card whose content changed or that can't be carried over, how \
+         often each other change came, and the numbers of cards. The status is 1 if a card wasn't \
+         carried over. With --rows or --octets the files are named after the first FILE, \
+         `phone-1.csv`, `phone-2.csv` and so on, beside it or in the folder. No file is \
+         overwritten, and nothing is written before each FILE is known to be one that is \
+         converted.",
         Vec::from_array(
             alloc,
             [

@@ -7,8 +7,8 @@ use crate::backup_orders::{copy_order, restore_order, resync_order};
 use crate::fault::LineFault;
 use crate::order::Order;
 use crate::values::{
-    form_arg, given_text, given_texts, given_u64, is_given, is_given_empty, port_arg, refuse,
-    refuse_both_orders, refuse_socket_and_port, text_arg, u64_arg,
+    form_arg, given_text, given_texts, given_u64, is_given, is_given_empty, later_texts, port_arg,
+    refuse, refuse_both_orders, refuse_socket_and_port, text_arg, u64_arg,
 };
 use clap::ArgMatches;
 use std::alloc::Global;
@@ -166,6 +166,7 @@ fn convert_order_of(alloc: Global, matches: &ArgMatches<'_>) -> Result<Order, Li
     ensures { ParsesTo (parsed.convert_order_of (rows_of (found_of matches.now))) result }
 {
     let file = text_arg(alloc, matches, "FILE")?;
+    let more = later_texts(alloc, matches, "FILE")?;
     let folder = given_text(alloc, matches, "DIR")?;
     let rows = given_u64(matches, "ROWS");
     let octets = given_u64(matches, "OCTETS");
@@ -174,6 +175,7 @@ fn convert_order_of(alloc: Global, matches: &ArgMatches<'_>) -> Result<Order, Li
     let report = given_text(alloc, matches, "REPORT")?;
     Ok(Order::Convert {
         file,
+        more,
         folder,
         rows,
         octets,

@@ -145,10 +145,12 @@ pub enum Order {
         /// The path of a file with rows, or with one card if its name ends in `.vcf`.
         file: Text,
     },
-    /// Convert a file of cards to rows or to files, without a store.
+    /// Convert files of cards to rows or to files, without a store.
     Convert {
-        /// The path of the file.
+        /// The path of the first file.
         file: Text,
+        /// The paths of the files after it.
+        more: Items<Text>,
         /// The folder for the files that are written, if it was given.
         folder: Option<Text>,
         /// The maximum number of rows of a file, 1 to 10,000, if it was given.

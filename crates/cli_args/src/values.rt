@@ -42,7 +42,7 @@ pub(crate) fn refuse_socket_and_port<T>(alloc: Global) -> Result<T, LineFault>
 /// The message for two options of `convert` that exclude each other, in the form of `clap`'s own
 /// messages.
 const BOTH_ORDERS: &str = "error: the argument '--day-first' cannot be used with \
-     '--month-first'\n\nUsage: contacts convert [OPTIONS] <FILE>\n\nFor more information, try \
+     '--month-first'\n\nUsage: contacts convert [OPTIONS] <FILE>...\n\nFor more information, try \
      '--help'.\n";
 
 /// The fault for both orders of dates.
@@ -125,6 +125,20 @@ pub(crate) fn given_texts(
 {
     match matches.get_strs(id) {
         Some(texts) => Ok(copies_of(alloc, texts)?),
+        None => Ok(Items::new(alloc)),
+    }
+}
+
+/// The texts of an argument after the first one.
+pub(crate) fn later_texts(
+    alloc: Global,
+    matches: &ArgMatches<'_>,
+    id: &str,
+) -> Result<Items<Text>, LineFault>
+    ensures { ParsesTo (Some (parsed.later_texts id.now (rows_of (found_of matches.now)))) result }
+{
+    match matches.get_strs(id) {
+        Some(texts) => Ok(copies_of(alloc, texts.get(1..).unwrap_or(&[]))?),
         None => Ok(Items::new(alloc)),
     }
 }

@@ -19,6 +19,12 @@ pub(crate) enum ConvertStop {
     Report,
 }
 
+impl From<std::alloc::AllocError> for ConvertStop {
+    fn from(_error: std::alloc::AllocError) -> ConvertStop {
+        ConvertStop::Memory
+    }
+}
+
 impl From<NoMemory> for ConvertStop {
     fn from(_error: NoMemory) -> ConvertStop {
         ConvertStop::Memory
@@ -86,6 +92,14 @@ pub(crate) fn foreign_file(alloc: Global, file: &str, words: &str) -> ConvertSto
 /// The stop for a file that should be new, and is there.
 pub(crate) fn existing_file(alloc: Global, path: &str) -> ConvertStop {
     match format!(in alloc; "{path} exists") {
+        Ok(words) => ConvertStop::Device(Text::new(words)),
+        Err(_) => ConvertStop::Memory,
+    }
+}
+
+/// The stop for a file after the first one that isn't a file, as a pipe.
+pub(crate) fn no_second_reading(alloc: Global, file: &str) -> ConvertStop {
+    match format!(in alloc; "{file} can't be read twice; convert it alone, or first") {
         Ok(words) => ConvertStop::Device(Text::new(words)),
         Err(_) => ConvertStop::Memory,
     }

@@ -8,9 +8,9 @@ mod create;
 mod exit;
 mod names;
 mod opening;
-mod report;
 mod row_files;
 mod run;
+mod several;
 mod sources;
 mod wanted;
 

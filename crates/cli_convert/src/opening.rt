@@ -122,7 +122,7 @@ pub(crate) fn read_content<'a, R: Read>(
 }
 
 /// Whether there is a file at the path, which can be read twice.
-fn is_file<F: Files>(files: &F, path: &str) -> bool {
+pub(crate) fn is_file<F: Files>(files: &F, path: &str) -> bool {
     match fs::metadata(files, path) {
         Ok(found) => found.is_file(),
         Err(_) => false,

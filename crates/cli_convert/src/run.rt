@@ -1,5 +1,5 @@
 //! Runs the order.
-ghost use Rattle.std.specs.Prelude.{◌≡◌, ◌⊎◌, ◌<◌, IfOk, IsTrue};
+ghost use Rattle.std.specs.Prelude.{◌≡◌, ◌⊎◌, ◌+◌, ◌<◌, IfOk, IsTrue, length};
 ghost use Rattle.cli_convert.specs.Endings.{Ends, Prints, prints_rows};
 
 use crate::card_files::CardFiles;
@@ -8,12 +8,12 @@ use crate::create::{Created, create_new};
 use crate::exit::{ConvertStop, end, existing_file, stop_of};
 use crate::names::rows_front;
 use crate::opening::{open_file, read_content, text_after, wanted_encoding, with_dates};
-use crate::report::Report;
 use crate::row_files::RowFiles;
-use crate::sources::{convert_to, convert_to_writer};
+use crate::several::{check_more, content_text, convert_all};
 use crate::wanted::Wanted;
 use base_types::Text;
-use card_conversion::{ConversionFault, LineEnds, RowsOutlet, Summary, ends_with_returns};
+use card_conversion::laws::{written_cards_differ, written_rows_are_read};
+use card_conversion::{ConversionFault, Report, RowsOutlet, Summary};
 use contact_columns::left_out_columns;
 use std::alloc::Global;
 use std::fs;
@@ -51,61 +51,6 @@ fn check_folder<F: Files>(
     }
 }
 
-/// Converts a file that was opened.
-fn convert_opened<F: Files, R: Read + Drop, W: Write, E: Write>(
-    alloc: Global,
-    files: &F,
-    wanted: Wanted<'_>,
-    content: Content<'_>,
-    reader: R,
-    rows: &mut RowsOutlet<W>,
-    errors: &mut E,
-) -> Result<Summary, ConversionFault>
-    ensures { IfOk result (λ summary. IsTrue (prints_rows wanted.entry)
-        → Prints (W.contents rows.old.writer) (W.contents rows.new.writer) summary) }
-{
-    if wanted.has_bounds() {
-        let front = rows_front(alloc, wanted.file, wanted.folder)?;
-        let rows_max = wanted.rows.unwrap_or(ROWS_MAX);
-        let octets_max = wanted.octets.unwrap_or(OCTETS_MAX);
-        let mut outlet = RowFiles::new(files, front, rows_max, octets_max);
-        return convert_to(alloc, content, reader, &mut outlet, errors);
-    }
-    match wanted.folder {
-        Some(folder) => {
-            let mut outlet = CardFiles { files, folder };
-            convert_to(alloc, content, reader, &mut outlet, errors)
-        }
-        None => convert_to_writer(alloc, content, reader, rows, errors),
-    }
-}
-
-/// The number of octets before what is converted.
-fn start_of(content: Content<'_>) -> usize {
-    match content {
-        Content::Contacts(header) => header.start,
-        _ => 0,
-    }
-}
-
-/// Tells once which columns are left out.
-fn tell_left_out<E: Write>(
-    alloc: Global,
-    columns: &str,
-    errors: &mut E,
-) -> Result<(), ConversionFault> {
-    let names = left_out_columns(alloc, columns)?;
-    let names = names.as_str();
-    if names.is_empty() {
-        return Ok(());
-    }
-    let line = format!(in alloc; "columns left out: {names}\n")?;
-    match errors.write_all(line.as_bytes()) {
-        Ok(()) => Ok(()),
-        Err(_) => Err(ConversionFault::Report),
-    }
-}
-
 /// Creates the file for the report, if one is wanted.
 fn wanted_report<F: Files>(
     alloc: Global,
@@ -122,29 +67,124 @@ fn wanted_report<F: Files>(
     }
 }
 
-/// Converts a file that was opened, and tells first which columns are left out.
-fn convert_told<F: Files, R: Read + Drop, W: Write, E: Write>(
+/// Tells once which columns are left out.
+fn tell_left_out<E: Write, T: Write>(
+    alloc: Global,
+    wanted: Wanted<'_>,
+    report: &mut Report<E, T>,
+) -> Result<(), ConvertStop> {
+    let names = left_out_columns(alloc, wanted.columns)?;
+    let names = names.as_str();
+    if names.is_empty() {
+        return Ok(());
+    }
+    let line = format!(in alloc; "columns left out: {names}\n")?;
+    match report.say(line.as_str()) {
+        Ok(()) => Ok(()),
+        Err(_) => Err(ConvertStop::Report),
+    }
+}
+
+/// Writes the end of the report. `files` is the number of files that were made, if the cards went
+/// to files.
+fn tell_end<E: Write, T: Write>(
+    alloc: Global,
+    wanted: Wanted<'_>,
+    summary: Summary,
+    files: Option<u64>,
+    report: &mut Report<E, T>,
+) -> Result<(), ConvertStop> {
+    match report.finish(alloc, summary, files) {
+        Ok(()) => Ok(()),
+        Err(fault) => Err(stop_of(alloc, fault, wanted.file)),
+    }
+}
+
+/// Converts the first file, whose text this is, and those after it to files of rows.
+fn convert_to_row_files<F: Files, R: Read + Drop, E: Write>(
     alloc: Global,
     files: &F,
     wanted: Wanted<'_>,
     content: Content<'_>,
-    reader: R,
+    text: R,
+    report: &mut Report<E, F::File>,
+) -> Result<Summary, ConvertStop> {
+    let front = rows_front(alloc, wanted.file, wanted.folder)?;
+    let rows_max = wanted.rows.unwrap_or(ROWS_MAX);
+    let octets_max = wanted.octets.unwrap_or(OCTETS_MAX);
+    let mut outlet = RowFiles::new(files, front, rows_max, octets_max);
+    let summary = convert_all(alloc, files, wanted, content, text, &mut outlet, report)?;
+    tell_end(alloc, wanted, summary, Some(outlet.count), report)?;
+    Ok(summary)
+}
+
+/// The same to a file for each card.
+fn convert_to_card_files<F: Files, R: Read + Drop, E: Write>(
+    alloc: Global,
+    files: &F,
+    wanted: Wanted<'_>,
+    folder: &str,
+    content: Content<'_>,
+    text: R,
+    report: &mut Report<E, F::File>,
+) -> Result<Summary, ConvertStop> {
+    let mut outlet = CardFiles { files, folder };
+    let summary = convert_all(alloc, files, wanted, content, text, &mut outlet, report)?;
+    tell_end(alloc, wanted, summary, Some(summary.written), report)?;
+    Ok(summary)
+}
+
+/// The same to rows on a writer.
+fn convert_to_writer<F: Files, R: Read + Drop, W: Write, E: Write>(
+    alloc: Global,
+    files: &F,
+    wanted: Wanted<'_>,
+    content: Content<'_>,
+    text: R,
     rows: &mut RowsOutlet<W>,
-    errors: &mut E,
-) -> Result<Summary, ConversionFault>
-    ensures { IfOk result (λ summary. IsTrue (prints_rows wanted.entry)
-        → Prints (W.contents rows.old.writer) (W.contents rows.new.writer) summary) }
+    report: &mut Report<E, F::File>,
+) -> Result<Summary, ConvertStop>
+    ensures { IfOk result (λ summary. Prints (length wanted.entry.more.now + 1)
+        (W.contents rows.old.writer) (W.contents rows.new.writer) summary) }
 {
-    tell_left_out(alloc, wanted.columns, errors)?;
-    convert_opened(alloc, files, wanted, content, reader, rows, errors)
+    // Laws: the cards of files have different UIDs, and rows of such cards are read back.
+    written_rows_are_read();
+    written_cards_differ();
+
+    if let Err(fault) = rows.start(alloc) {
+        return Err(stop_of(alloc, ConversionFault::from(fault), wanted.file));
+    }
+    let summary = convert_all(alloc, files, wanted, content, text, rows, report)?;
+    tell_end(alloc, wanted, summary, None, report)?;
+    Ok(summary)
 }
 
-/// Whether the file has cards, or what is no card.
-fn is_of_cards(content: Content<'_>) -> bool {
-    matches!(content, Content::Cards)
+/// Converts the first file, whose text this is, and those after it to what is wanted.
+fn convert_opened<F: Files, R: Read + Drop, W: Write, E: Write>(
+    alloc: Global,
+    files: &F,
+    wanted: Wanted<'_>,
+    content: Content<'_>,
+    text: R,
+    rows: &mut RowsOutlet<W>,
+    report: &mut Report<E, F::File>,
+) -> Result<Summary, ConvertStop>
+    ensures { IfOk result (λ summary. IsTrue (prints_rows wanted.entry)
+        → Prints (length wanted.entry.more.now + 1) (W.contents rows.old.writer)
+        (W.contents rows.new.writer) summary) }
+{
+    if wanted.has_bounds() {
+        return convert_to_row_files(alloc, files, wanted, content, text, report);
+    }
+    match wanted.folder {
+        Some(folder) => {
+            convert_to_card_files(alloc, files, wanted, folder, content, text, report)
+        }
+        None => convert_to_writer(alloc, files, wanted, content, text, rows, report),
+    }
 }
 
-/// Converts the text of a file that was opened.
+/// Converts the text of the first file, and the files after it, once all of them are known.
 fn convert_text<F: Files, R: Read + Drop, W: Write, E: Write>(
     alloc: Global,
     files: &F,
@@ -154,25 +194,20 @@ fn convert_text<F: Files, R: Read + Drop, W: Write, E: Write>(
     report: &mut Report<E, F::File>,
 ) -> Result<Summary, ConvertStop>
     ensures { IfOk result (λ summary. IsTrue (prints_rows wanted.entry)
-        → Prints (W.contents rows.old.writer) (W.contents rows.new.writer) summary) }
+        → Prints (length wanted.entry.more.now + 1) (W.contents rows.old.writer)
+        (W.contents rows.new.writer) summary) }
 {
     let mut reader = text;
     let (head, content) = read_content(alloc, wanted, &mut reader)?;
     let content = with_dates(alloc, files, wanted, content)?;
-    let are_returns = is_of_cards(content) && ends_with_returns(head.as_slice());
-    let reader = head.get(start_of(content)..).unwrap_or(&[]).chain(reader);
-    let text = LineEnds {
-        reader,
-        are_returns,
-    };
-    report.file = wanted_report(alloc, files, wanted)?;
-    match convert_told(alloc, files, wanted, content, text, rows, report) {
-        Ok(summary) => Ok(summary),
-        Err(fault) => Err(stop_of(alloc, fault, wanted.file)),
-    }
+    check_more(alloc, files, wanted)?;
+    report.set_file(wanted_report(alloc, files, wanted)?);
+    tell_left_out(alloc, wanted, report)?;
+    let text = content_text(head.as_slice(), content, reader);
+    convert_opened(alloc, files, wanted, content, text, rows, report)
 }
 
-/// Opens the file and converts it.
+/// Opens the first file, and converts it and those after it.
 fn convert<F: Files, W: Write, E: Write>(
     alloc: Global,
     files: &F,
@@ -181,7 +216,8 @@ fn convert<F: Files, W: Write, E: Write>(
     report: &mut Report<E, F::File>,
 ) -> Result<Summary, ConvertStop>
     ensures { IfOk result (λ summary. IsTrue (prints_rows wanted.entry)
-        → Prints (W.contents rows.old.writer) (W.contents rows.new.writer) summary) }
+        → Prints (length wanted.entry.more.now + 1) (W.contents rows.old.writer)
+        (W.contents rows.new.writer) summary) }
 {
     let encoding = wanted_encoding(alloc, wanted)?;
     let (front, file) = open_file(alloc, files, wanted.file)?;
@@ -190,9 +226,10 @@ fn convert<F: Files, W: Write, E: Write>(
     convert_text(alloc, files, wanted, text, rows, report)
 }
 
-/// Converts the cards or the contacts of a file. Writes their cards as rows to standard output, as
-/// rows to files, or as one file for each card; and the report to `errors`, and to a new file if one
-/// is wanted.
+/// Converts the cards or the contacts of files, in order. Writes their cards as rows to standard
+/// output, as rows to files, or as one file for each card; and the report to `errors`, and to a new
+/// file if one is wanted. Nothing is written before each file was opened, and it is known what it
+/// has.
 ///
 /// Returns the exit status of the program: 0 if all was carried, 1 if something wasn't, and 3 if
 /// the conversion stopped: a file, a folder, standard output or standard error can't be used, or
@@ -206,13 +243,15 @@ pub fn run_convert<F: Files, W: Write, E: Write + Drop>(
 ) -> u8
     ensures status { (result ≡ 0) ⊎ ((result ≡ 1) ⊎ (result ≡ 3)) }
 
-    // A conversion to standard output that didn't stop wrote the header, and a row for each card
-    // that was carried. They are read back as these cards. The status is that of the summary, which
-    // counts what was carried and what wasn't.
+    // A conversion to standard output that didn't stop wrote one header, and a row for each card
+    // that was carried, of as many files as are given. They are read back as these cards, of which
+    // no two have one UID. The status is that of the summary, which counts what was carried and
+    // what wasn't.
     ensures printed { result < 3 → IsTrue (prints_rows wanted.entry)
-        → Ends (W.contents rows.old.writer) (W.contents rows.new.writer) result }
+        → Ends (length wanted.entry.more.now + 1) (W.contents rows.old.writer)
+        (W.contents rows.new.writer) result }
 {
-    let mut report = Report { errors, file: None };
+    let mut report: Report<E, F::File> = Report::new(alloc, errors);
     let done = convert(alloc, files, wanted, rows, &mut report);
     end(alloc, done, &mut report)
 }

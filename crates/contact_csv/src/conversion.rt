@@ -9,6 +9,7 @@ ghost use Rattle.contact_csv.specs.Contacts.{IsContact, IsRefused};
 ghost use Rattle.contact_csv.specs.RowUids.{row_uid};
 
 use crate::entries::push_lines;
+use crate::exchange::push_shown_addresses;
 use crate::keeping::{Kept, extra_column, keep_cells};
 use crate::names::push_missing_name;
 use crate::row_fault::are_void;
@@ -45,6 +46,7 @@ fn draft_lines(
     for slot in &columns.slots {
         push_lines(alloc, &mut made, slot, cells)?;
     }
+    push_shown_addresses(alloc, &mut made, columns.columns.as_slice(), cells)?;
     push_missing_name(alloc, &mut made)?;
     Ok(made)
 }

@@ -147,8 +147,11 @@ fn push_part(alloc: Global, made: &mut RowLines, model: &Line, part: &str) -> Re
     if is_void(part) {
         return Ok(());
     }
-    let mut line = model.try_copy()?;
     let text = part.strip_prefix("* ").unwrap_or(part);
+    if !takes_text(model.name.as_str(), text) {
+        return Ok(());
+    }
+    let mut line = model.try_copy()?;
     set_value(alloc, &mut line, text, made.dates)?;
     made.push(alloc, line)
 }

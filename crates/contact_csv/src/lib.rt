@@ -5,6 +5,7 @@
 mod carried;
 mod conversion;
 mod entries;
+mod exchange;
 mod fault;
 mod keeping;
 mod labels;

@@ -1,5 +1,6 @@
 //! Values of properties that take only some texts (RFC 6350, section 6).
 
+use crate::exchange::is_exchange_address;
 use std::alloc::Global;
 use vcard_text::{NoMemory, escape};
 
@@ -71,6 +72,7 @@ pub(crate) fn takes_text(property: &str, text: &str) -> bool {
     match property {
         "LANG" => is_language_tag(text),
         "IMPP" => is_uri(text),
+        "EMAIL" => !is_exchange_address(text),
         _ => true,
     }
 }

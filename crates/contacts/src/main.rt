@@ -42,6 +42,7 @@ fn conversion_of(order: &Result<Order, LineFault>) -> Option<Wanted<'_>> {
         Ok(
             Order::Convert {
                 file,
+                more,
                 folder,
                 rows,
                 octets,
@@ -53,6 +54,7 @@ fn conversion_of(order: &Result<Order, LineFault>) -> Option<Wanted<'_>> {
             },
         ) => Some(Wanted {
             file: file.as_str(),
+            more: more.as_slice(),
             folder: given(folder),
             rows: *rows,
             octets: *octets,

@@ -12,7 +12,7 @@ use Rattle.card_conversion.specs.declared.outlet.Delivery.TheVariants as outlet
 use Rattle.card_conversion.specs.declared.fate.Fate.{Fate}
 use Rattle.card_conversion.specs.Fates.{Entry, HaveFates, IsFate, cards_of, cards_of_fate}
 use Rattle.card_conversion.specs.Fates.{octets_of, uids_of, uids_of_fate}
-use Rattle.card_conversion.specs.Counts.{summary_of}
+use Rattle.card_conversion.specs.Counts.{summary_after}
 use Rattle.card_conversion.specs.declared.ledger.Summary.{Summary}
 use Rattle.card_conversion.specs.Deliveries.{HasUids, WritesInTurn}
 use Rattle.card_conversion.specs.internal.PieceReaders.{HasEnded, left_of}
@@ -46,15 +46,17 @@ Takes writes octets map_before map_after before after fate =
     (uids : List (List ℕ)) → HasUids map_before uids
     → TakesAfter writes octets uids map_after before after fate
 
--- Pieces are passed; each has its fate, and the cards among them are written in order.
+-- Pieces are passed, after cards with these UIDs and these numbers. Each has its fate, and the cards
+-- among them are written in order.
 pub record Progress {A R : Type 0} (writes : List Line → A → A → Type 0)
-    (remaining : R → Option (List ℕ)) (input : Option (List ℕ)) (before now : A)
-    (pieces : PieceReader R) (map : finite.FinMap text_cmp (Unit {0})) (summary : Summary) : Type 0
+    (remaining : R → Option (List ℕ)) (input : Option (List ℕ)) (uids : List (List ℕ))
+    (start : Summary) (before now : A) (pieces : PieceReader R)
+    (map : finite.FinMap text_cmp (Unit {0})) (summary : Summary) : Type 0
   where
     pub entries : List Entry
     pub passed : Consumes input (left_of remaining pieces) (octets_of entries)
     pub ended : HasEnded remaining pieces
-    pub fates : HaveFates [] entries
-    pub known : HasUids map (uids_of entries)
+    pub fates : HaveFates uids entries
+    pub known : HasUids map (uids ++ uids_of entries)
     pub written : WritesInTurn writes (cards_of entries) before now
-    pub counts : summary ≡ summary_of entries
+    pub counts : summary ≡ summary_after start entries

@@ -12,7 +12,7 @@ returns-clause-files c = (refl, refl, refl, refl, refl)
 
 pub returns-clause-conversions : goal.returns-clause-conversions
 unfolding clap_on_literals
-returns-clause-conversions c = (refl, refl, refl, refl, refl, refl, refl, refl, refl)
+returns-clause-conversions c = (refl, refl, refl, refl, refl, refl, refl, refl, refl, refl)
 
 pub returns-clause-versions : goal.returns-clause-versions
 unfolding clap_on_literals
