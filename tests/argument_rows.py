@@ -352,6 +352,22 @@ NO_FORMS = [
     ("export a.db staff --form=CARDS", no_form("CARDS")),
 ]
 
+# vCards of a version that there isn't, with a form, or a version without them.
+NO_VERSIONS = [
+    *((f"export a.db staff --vcf --as {version}",
+       error(f"invalid value '{version}' for '--as <V>'\n  [possible values: 4.0, 3.0]"))
+      for version in ["2.1", "3", "4"]),
+    ("export a.db staff --vcf --form cards",
+     error("the argument '--vcf' cannot be used with '--form <F>'", EXPORT)),
+    ("export --form=columns a.db staff --as 3.0 --vcf",
+     error("the argument '--vcf' cannot be used with '--form <F>'", EXPORT)),
+    ("export a.db staff --as 3.0", error("the argument '--as <V>' needs '--vcf'", EXPORT)),
+    ("export a.db staff --as=4.0 --form cards",
+     error("the argument '--as <V>' needs '--vcf'", EXPORT)),
+    ("export a.db staff --vcf --vcf", twice("--vcf", EXPORT)),
+    ("export a.db staff --vcf --as 3.0 --as 3.0", twice("--as <V>", EXPORT)),
+]
+
 # Arguments that ask for an order on a.db, whatever the values of its options.
 GOOD = [
     "book a.db staff",
@@ -384,6 +400,9 @@ GOOD = [
     "export a.db staff",
     "export a.db staff --form columns",
     "export --form=cards a.db staff",
+    "export a.db staff --vcf",
+    "export --as 3.0 --vcf a.db staff",
+    "export a.db staff --vcf --as=4.0",
     "tally a.db staff",
     "tally -- a.db staff",
     "tally a.db -- staff",
@@ -415,4 +434,4 @@ GOOD = [
 ]
 
 BAD = [*MISSING, *TOO_MANY, *UNKNOWN_ORDERS, *UNKNOWN_OPTIONS, *DOUBLED, *NO_VALUES, *NO_NUMBERS,
-       *SOCKET_AND_PORT, *BOTH_ORDERS, *NO_FORMS]
+       *SOCKET_AND_PORT, *BOTH_ORDERS, *NO_FORMS, *NO_VERSIONS]

@@ -20,7 +20,7 @@ book's initial report
   run      Serve the books over HTTP on 127.0.0.1, or at a Unix socket, until it is stopped
   serve    Serve one connection after another over HTTP on 127.0.0.1
   import   Import cards from a CSV file into a book
-  export   Write the cards of a book to standard output as CSV
+  export   Write the cards of a book to standard output as CSV or as vCards
   tally    Print how many cards a book has, and counts of its changes by kind
   forget   Forget the removals recorded in a book up to a change number
   mirror   Sync a book to a new device page by page, and print the device's copy
@@ -185,7 +185,7 @@ imported or none. A card may have up to 262,144 bytes, and a book up to 10,000 c
 """
 
 HELP["export"] = """\
-Write the cards of a book to standard output as CSV
+Write the cards of a book to standard output as CSV or as vCards
 
 Usage: contacts export [OPTIONS] <FILE> <BOOK>
 
@@ -196,10 +196,14 @@ Arguments:
 Options:
       --form <F>  CSV format: `cards` for a UID and a vCard per row, `columns` for one property \
 per column [default: cards]
+      --vcf       Write one file of vCards in place of CSV
+      --as <V>    With --vcf, the version of the vCards: `4.0`, or `3.0` for phones and Outlook \
+[default: 4.0]
   -h, --help      Print help
 
-Example:
+Examples:
   contacts export office.db staff --form columns > people.csv
+  contacts export office.db staff --vcf --as 3.0 > people.vcf
 """
 
 HELP["tally"] = """\

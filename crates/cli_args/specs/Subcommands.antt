@@ -132,7 +132,8 @@ import_command =
 
 abbrev pub export_command : Shape
 export_command = order_command (codes "export")
-    (file_arg ∷ book_arg ∷ option_arg (codes "F") (codes "form") (codes "cards") ∷ [])
+    (file_arg ∷ book_arg ∷ option_arg (codes "F") (codes "form") (codes "cards")
+    ∷ switch (codes "vcf") (codes "vcf") ∷ option_arg (codes "V") (codes "as") (codes "4.0") ∷ [])
 
 abbrev pub tally_command : Shape
 tally_command = order_command (codes "tally") (file_arg ∷ book_arg ∷ [])

@@ -159,6 +159,18 @@ WorkedForms =
     ≡ Some (order.Export db staff Columns))
     × (order_from (over_book (codes "export") (codes "--form=rows" ∷ [])) ≡ None)
 
+abbrev pub WorkedCards : Type 0
+WorkedCards =
+    (order_from (over_book (codes "export") (codes "--vcf" ∷ []))
+    ≡ Some (order.ExportCards db staff false))
+    × (order_from (over_book (codes "export") (codes "--vcf" ∷ codes "--as=3.0" ∷ []))
+    ≡ Some (order.ExportCards db staff true))
+    × (order_from (over_book (codes "export") (codes "--as" ∷ codes "4.0" ∷ codes "--vcf" ∷ []))
+    ≡ Some (order.ExportCards db staff false))
+    × (order_from (over_book (codes "export") (codes "--vcf" ∷ codes "--as=2.1" ∷ [])) ≡ None)
+    × (order_from (over_book (codes "export") (codes "--as=3.0" ∷ [])) ≡ None)
+    × (order_from (over_book (codes "export") (codes "--vcf" ∷ codes "--form=cards" ∷ [])) ≡ None)
+
 abbrev pub WorkedNumbers : Type 0
 WorkedNumbers =
     (order_from (over_book (codes "forget") (codes "999999999999999" ∷ []))

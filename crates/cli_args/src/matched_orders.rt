@@ -4,11 +4,12 @@ ghost use Rattle.cli_args.specs.ParsedOrders as parsed;
 ghost use Rattle.cli_args.specs.ParsedOrders.{ParsesTo};
 
 use crate::backup_orders::{copy_order, restore_order, resync_order};
+use crate::export_command::export_order;
 use crate::fault::LineFault;
 use crate::order::Order;
 use crate::values::{
-    form_arg, given_text, given_texts, given_u64, is_given, is_given_empty, later_texts, port_arg,
-    refuse, refuse_both_orders, refuse_socket_and_port, text_arg, u64_arg,
+    given_text, given_texts, given_u64, is_given, is_given_empty, later_texts, port_arg, refuse,
+    refuse_both_orders, refuse_socket_and_port, text_arg, u64_arg,
 };
 use clap::ArgMatches;
 use std::alloc::Global;
@@ -96,15 +97,6 @@ fn import_order(alloc: Global, matches: &ArgMatches<'_>) -> Result<Order, LineFa
         key,
         csv,
     })
-}
-
-fn export_order(alloc: Global, matches: &ArgMatches<'_>) -> Result<Order, LineFault>
-    ensures { ParsesTo (parsed.export_order (rows_of (found_of matches.now))) result }
-{
-    let file = text_arg(alloc, matches, "FILE")?;
-    let book = text_arg(alloc, matches, "BOOK")?;
-    let form = form_arg(alloc, matches)?;
-    Ok(Order::Export { file, book, form })
 }
 
 fn tally_order(alloc: Global, matches: &ArgMatches<'_>) -> Result<Order, LineFault>

@@ -74,6 +74,15 @@ pub enum Order {
         /// The form of the rows.
         form: Form,
     },
+    /// Print the book's cards as vCards.
+    ExportCards {
+        /// The path of a store file.
+        file: Text,
+        /// The book's name.
+        book: Text,
+        /// Whether they are written as vCard 3.0, and not 4.0.
+        is_older: bool,
+    },
     /// Print the book's statistics.
     Tally {
         /// The path of a store file.

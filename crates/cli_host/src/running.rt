@@ -23,6 +23,7 @@ use book_http::{Connection, Listener};
 use book_service::Command;
 use book_store::FileBooks;
 use cli_args::Order;
+use cli_export::run_card_export;
 use cli_orders::{
     Stop, kind_of_file, line_feed_count, made_text, migrate_text, run_check, run_command,
     run_mirror, version_text, write_out,
@@ -131,6 +132,9 @@ fn do_store_work<S: AdminStore, P, L, M: Host<S, P, L>, W: Write>(
         }
         StoreWork::MirrorBook { book, limit, pages } => {
             run_mirror(alloc, store, book.as_str(), limit, pages, writer)
+        }
+        StoreWork::ExportCards { book, is_older } => {
+            run_card_export(alloc, store, book.as_str(), is_older, writer)
         }
         StoreWork::ListBooks(what) => run_listing(alloc, store, what, writer),
         StoreWork::Resync { pairs } => run_resync(alloc, store, pairs, writer),

@@ -58,6 +58,10 @@ pub returns-clause-forms : goal.returns-clause-forms
 unfolding clap_on_literals
 returns-clause-forms c = (refl, refl)
 
+pub returns-clause-cards : goal.returns-clause-cards
+unfolding clap_on_literals
+returns-clause-cards c = (refl, refl, refl, refl, refl, refl)
+
 pub returns-clause-numbers : goal.returns-clause-numbers
 unfolding clap_on_literals
 returns-clause-numbers c = (refl, refl)
