@@ -2,6 +2,7 @@
 //! and implements the calls of `BookStore`.
 #![tactic(auto)]
 
+mod administration;
 mod calls;
 mod closing;
 mod copy_fault;

@@ -10,6 +10,7 @@ use book_http::Listener;
 use cli_args::{LineFault, Order};
 use cli_convert::{DateOrder, RowsOutlet, Wanted, run_convert};
 use cli_host::{AdminStore, Host, note_waiting, order_of_args, run_and_report};
+use file_host::FileHost;
 use hub_server::Endpoint;
 use std::alloc::Global;
 use std::env;
@@ -99,7 +100,7 @@ fn main(rt: HostRuntime) -> ExitCode {
     }
     // Nothing depends on this line, so a standard error that fails changes nothing.
     let _noted = note_waiting(rt.stdin().is_terminal(), &order, &mut rt.stderr());
-    let mut host = rt;
+    let mut host = FileHost::new(rt);
     let status = run_on(
         rt.alloc(),
         &mut host,
