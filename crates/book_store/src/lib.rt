@@ -13,6 +13,7 @@ mod keeps;
 pub mod laws;
 mod leaving_out;
 mod opening;
+mod real_files;
 mod restarting;
 mod resyncing;
 mod schema_creation;
