@@ -10,9 +10,9 @@ ghost use Rattle.store_tables.specs.SchemaCreation.{empty_schema};
 ghost use Rattle.sync_core.specs.StoreModels.{KeepsBooks, KeepsTerms};
 ghost use Rattle.std.specs.Prelude.{◌≡◌, ◌≤◌, IfOk, OnOk, false};
 
-use crate::closing::{check_both_free, forget_log, log_of, open_new, remove_new};
+use crate::closing::{check_both_free, forget_log, log_of, remove_new};
 use crate::copy_fault::{CopyFault, fault_of};
-use crate::files::open_standard;
+use crate::real_files::{OpensFiles, RealFiles};
 use crate::sql_store::SqlStore;
 use base_types::Text;
 use book_model::Refusal;
@@ -122,15 +122,16 @@ fn fill_opened<S: Alter, D: Disk + Drop>(
 
 /// Copies the books but those with these names into a new file at `making`, with the mode of the
 /// file at the path, and returns their number. An error may leave that file.
-fn fill_new<S: Alter>(
+fn fill_new<S: Alter, D: Disk + Drop, F: OpensFiles<D>>(
     rt: &HostRuntime,
+    files: &F,
     books: &mut SqlStore<S>,
     names: &[Text],
     path: &str,
     making: &str,
     log: &str,
 ) -> Result<u64, CopyFault> {
-    let connection = open_new(rt, path, making, log)?;
+    let connection = files.open_new(rt, path, making, log)?;
     fill_opened(books, names, connection)
 }
 
@@ -148,8 +149,9 @@ fn name_new(rt: &HostRuntime, making: &str, log: &str, target: &str) -> Result<(
 
 /// Makes the file at `making`, and then gives it the name `target`. After an error nothing is at
 /// either name.
-fn make_file<S: Alter>(
+fn make_file<S: Alter, D: Disk + Drop, F: OpensFiles<D>>(
     rt: &HostRuntime,
+    files: &F,
     books: &mut SqlStore<S>,
     names: &[Text],
     path: &str,
@@ -159,7 +161,7 @@ fn make_file<S: Alter>(
     let log = log_of(rt, making)?;
     // What a copy left that was stopped.
     remove_new(rt, making, log.as_str());
-    match fill_new(rt, books, names, path, making, log.as_str()) {
+    match fill_new(rt, files, books, names, path, making, log.as_str()) {
         Ok(count) => {
             name_new(rt, making, log.as_str(), target)?;
             Ok(count)
@@ -173,8 +175,9 @@ fn make_file<S: Alter>(
 }
 
 /// Tests the names, and makes the file.
-fn copy_rest<S: Alter>(
+fn copy_rest<S: Alter, D: Disk + Drop, F: OpensFiles<D>>(
     rt: &HostRuntime,
+    files: &F,
     books: &mut SqlStore<S>,
     names: &[Text],
     path: &str,
@@ -182,12 +185,13 @@ fn copy_rest<S: Alter>(
     target: &str,
 ) -> Result<u64, CopyFault> {
     check_names(books, names)?;
-    make_file(rt, books, names, path, making, target)
+    make_file(rt, files, books, names, path, making, target)
 }
 
 /// Makes the new file. Leaves no log that the opening of the old one made.
-fn copy_held<S: Alter + Drop>(
+fn copy_held<S: Alter + Drop, D: Disk + Drop, F: OpensFiles<D>>(
     rt: &HostRuntime,
+    files: &F,
     books: SqlStore<S>,
     path: &str,
     had_log: bool,
@@ -197,14 +201,15 @@ fn copy_held<S: Alter + Drop>(
     target: &str,
 ) -> Result<u64, CopyFault> {
     let mut books = books;
-    let copied = copy_rest(rt, &mut books, names, path, making, target);
+    let copied = copy_rest(rt, files, &mut books, names, path, making, target);
     forget_log(rt, had_log, old_log);
     copied
 }
 
 /// Opens the file at the path, and makes the new one.
-fn copy_opened(
+fn copy_opened<D: Disk + Drop, F: OpensFiles<D>>(
     rt: &HostRuntime,
+    files: &F,
     path: &str,
     old_log: &str,
     names: &[Text],
@@ -212,8 +217,10 @@ fn copy_opened(
     target: &str,
 ) -> Result<u64, CopyFault> {
     let had_log = fs::exists(rt, old_log).unwrap_or(true);
-    let books = open_standard(rt, path)?;
-    copy_held(rt, books, path, had_log, old_log, names, making, target)
+    let books = files.open_standard(rt, path)?;
+    copy_held(
+        rt, files, books, path, had_log, old_log, names, making, target,
+    )
 }
 
 /// Makes the new file by way of `making`, which must not be the old one.
@@ -228,7 +235,15 @@ fn copy_by(
         return Err(CopyFault::Open(OpenFault::NotEmpty));
     }
     let old_log = log_of(rt, path)?;
-    copy_opened(rt, path, old_log.as_str(), names, making, target)
+    copy_opened(
+        rt,
+        &RealFiles,
+        path,
+        old_log.as_str(),
+        names,
+        making,
+        target,
+    )
 }
 
 /// The name of the new file until it is finished.

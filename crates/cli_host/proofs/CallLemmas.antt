@@ -17,7 +17,7 @@ use Rattle.cli_orders.specs.declared.address.Address.{Address}
 use Rattle.cli_orders.specs.declared.stop.Stop.{Stop}
 use Rattle.cli_orders.specs.declared.stop.Stop.TheVariants.{Open, Device}
 use Rattle.cli_orders.proofs.StopLemmas.{kept_same}
-use Rattle.cli_host.specs.Hosts.{HostCall, Copies, Creates, Looks, Opens, FindsFault, Migrates, ReadsRows, Restores, Binds, Finishes, HasLog, IsBoundAs, LogsCalls, MakesCalls}
+use Rattle.cli_host.specs.Hosts.{HostCall, Copies, Creates, Looks, Opens, FindsFault, Migrates, ReadsRows, Restores, Binds, Finishes, IsBoundAs, LogsCalls, MakesCalls}
 use Rattle.cli_host.specs.OrdersOnHost.{ChecksFile, CopiesFile, DoesInFile, DoesStoreWork, GetsStore, ImportsRows, MakesStore, MigratesFile, RestoresFile, ServesAt, ServesStore, StopsAt, StopsChecking, StopsCopying, StopsInFile, StopsMaking, StopsMigrating, StopsOnImport, StopsReadingRows, StopsRestoring, StopsStore, StopsStoreWork, StopsUnbound, StopsUnopened, StopsVerifying, VerifiesFile}
 use Rattle.cli_export.specs.CardFiles.{StopsCards}
 use Rattle.cli_host.specs.Resyncs.{StopsResync}
@@ -42,9 +42,6 @@ unbound stop w (inr is) = inr (record { stop_is = is; unwritten = kept_same w })
 module _ {S P L H : Type 0} (calls : HostCall S P L → H → H → Type 0) where
   one_call : (old new : H) (call : HostCall S P L) (Holds : List (HostCall S P L) → Type 0) → calls call old new → Holds (call ∷ []) → LogsCalls calls old new Holds
   one_call old new call Holds made holds = record { log = call ∷ []; made = (new, made, refl); holds = holds }
-
-  pub log_of : (old new : H) (Holds : List (HostCall S P L) → Type 0) → LogsCalls calls old new Holds → HasLog Holds
-  log_of old new Holds calls_made = record { log = calls_made.log; holds = calls_made.holds }
 
   -- ---- a new store
 

@@ -7,10 +7,10 @@ ghost use Rattle.cli_orders.specs.CommandRuns.{PrintsCommand, StopsCommand};
 use crate::host::Host;
 use base_types::NoMemory;
 use book_service::Command;
-use book_store::OpenFault;
 use cli_orders::{Stop, run_command};
 use std::alloc::Global;
 use std::io::Write;
+use store_schema::OpenFault;
 use sync_core::BookStore;
 
 /// The most lines of a file of rows that is imported without a word.

@@ -10,6 +10,7 @@ use book_http::Listener;
 use cli_args::{LineFault, Order};
 use cli_convert::{DateOrder, RowsOutlet, Wanted, run_convert};
 use cli_host::{AdminStore, Host, note_waiting, order_of_args, run_and_report};
+use file_host::FileHost;
 use hub_server::Endpoint;
 use std::alloc::Global;
 use std::env;
@@ -67,7 +68,7 @@ fn conversion_of(order: &Result<Order, LineFault>) -> Option<Wanted<'_>> {
     }
 }
 
-/// Runs the order on the host, reports a stop, and returns the exit status. (In `main` the prover
+/// Runs the order on the host, reports a stop, and returns the exit status. (In `run` the prover
 /// would spell out the whole contract of `run_and_report` over files and sockets.)
 fn run_on<
     S: AdminStore + Drop,
@@ -88,27 +89,35 @@ fn run_on<
     run_and_report(alloc, host, order, reader, writer, errors).status
 }
 
-fn main(rt: HostRuntime) -> ExitCode {
-    // Before anything is opened, so that no file or socket gets the number of a stream.
-    hold_streams(&rt);
-    let order = order_of_args(rt.alloc(), env::args(&rt));
-    if let Some(wanted) = conversion_of(&order) {
-        let mut rows = RowsOutlet {
-            writer: rt.stdout(),
-        };
-        let status = run_convert(rt.alloc(), &rt, wanted, &mut rows, rt.stderr());
-        return ExitCode::from(status);
-    }
-    // Nothing depends on this line, so a standard error that fails changes nothing.
-    let _noted = note_waiting(rt.stdin().is_terminal(), &order, &mut rt.stderr());
-    let mut host = rt;
-    let status = run_on(
+/// Converts, and returns the exit status.
+fn convert(rt: &HostRuntime, wanted: Wanted<'_>) -> u8 {
+    let mut rows = RowsOutlet {
+        writer: rt.stdout(),
+    };
+    run_convert(rt.alloc(), rt, wanted, &mut rows, rt.stderr())
+}
+
+/// Runs another order on the files and ports of the system, and returns the exit status.
+fn run(rt: &HostRuntime, order: Result<Order, LineFault>) -> u8 {
+    let mut host = FileHost::new(*rt);
+    run_on(
         rt.alloc(),
         &mut host,
         order,
         &mut rt.stdin(),
         &mut rt.stdout(),
         &mut rt.stderr(),
-    );
-    ExitCode::from(status)
+    )
+}
+
+fn main(rt: HostRuntime) -> ExitCode {
+    // Before anything is opened, so that no file or socket gets the number of a stream.
+    hold_streams(&rt);
+    let order = order_of_args(rt.alloc(), env::args(&rt));
+    if let Some(wanted) = conversion_of(&order) {
+        return ExitCode::from(convert(&rt, wanted));
+    }
+    // Nothing depends on this line, so a standard error that fails changes nothing.
+    let _noted = note_waiting(rt.stdin().is_terminal(), &order, &mut rt.stderr());
+    ExitCode::from(run(&rt, order))
 }

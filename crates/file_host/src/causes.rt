@@ -4,7 +4,7 @@
 //! contract says what a file or a port is, so nothing is proved of it but that it returns.
 
 use crate::file_care::{log_of, remove_if_vacant};
-use crate::host::loopback;
+use crate::ports::loopback;
 use cli_orders::FoundCause;
 use sqlite_std_file::{OpenError, Unknown};
 use std::fs::File;

@@ -1,10 +1,9 @@
 //! Stores that have the calls of administrators.
+ghost use Rattle.admin_store.specs.Keeps.{keep_step};
+ghost use Rattle.admin_store.specs.Resyncs.{Resyncs};
 ghost use Rattle.book_model.specs.CallOutcomes.{IfFault};
-ghost use Rattle.cli_host.specs.Keeps.{keep_step};
-ghost use Rattle.cli_host.specs.Resyncs.{Resyncs};
 ghost use Rattle.sync_core.specs.StoreModels.{AnswersExactly, KeepsTerms};
 
-use book_store::FileBooks;
 use sync_core::{BookStore, Denied};
 
 /// A store that also has the calls that only administrators need.
@@ -23,18 +22,4 @@ pub trait AdminStore: BookStore {
     fn resync_books(&mut self, pairs: u64) -> Result<u64, Denied>
         ensures fault { IfFault result Self.model.may_fault }
         ensures resyncs { Resyncs Self.model self.old pairs result self.new };
-}
-
-impl AdminStore for FileBooks {
-    fn keep(&mut self, book: &str) -> Result<u64, Denied> {
-        self.keep_of(book)
-    }
-
-    fn resync_books(&mut self, pairs: u64) -> Result<u64, Denied> {
-        if pairs == 0 {
-            self.resync(1)
-        } else {
-            self.resync(pairs)
-        }
-    }
 }
