@@ -16,10 +16,7 @@ use vcard_export::write_older_card;
 use vcard_text::{Card, write_card};
 
 /// The cards, borrowed, in byte order of their UIDs.
-fn cards_in_order(
-    alloc: Global,
-    cards: &BTreeMap<String, Stored>,
-) -> Result<Vec<&Card>, NoMemory>
+fn cards_in_order(alloc: Global, cards: &BTreeMap<String, Stored>) -> Result<Vec<&Card>, NoMemory>
     ensures { IfOk result (λ list. map (λ card. card.now) list.items
         ≡ finite.values (lines_by_uid (octet_map cards.now))) }
 {

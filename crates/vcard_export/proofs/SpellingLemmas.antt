@@ -20,8 +20,8 @@ spells_after spelling (c ∷ cs) text false =
     elim (c == mark_of spelling) as (λ b. finished spelling (fold (spell_char spelling) (cond b (spelling_state text true) (spelling_state (text ++ encode_utf8_all (plain_char spelling c)) false)) cs) ≡ text ++ encode_utf8_all (cond b (spelled_from spelling true cs) (plain_char spelling c ++ spelled_from spelling false cs))) [
       | true ↦ spells_after spelling cs text true
       | false ↦ spells_after spelling cs (text ++ encode_utf8_all (plain_char spelling c)) false
-        ∙ append_assoc text (encode_utf8_all (plain_char spelling c)) (encode_utf8_all (spelled_from spelling false cs))
-        ∙ ap (λ t. text ++ t) (sym (encodes-append (plain_char spelling c) (spelled_from spelling false cs)))
+          ∙ append_assoc text (encode_utf8_all (plain_char spelling c)) (encode_utf8_all (spelled_from spelling false cs))
+          ∙ ap (λ t. text ++ t) (sym (encodes-append (plain_char spelling c) (spelled_from spelling false cs)))
     ]
 
 pub spells_all : (spelling : Spelling) (text value : List ℕ) → finished spelling (fold (spell_char spelling) (spelling_state text false) (chars value)) ≡ text ++ spelled spelling value

@@ -92,7 +92,7 @@ text_form line =
 abbrev pub form_of : Line → Form
 form_of line =
     if line_is_named (codes "TEL") line && says_uri line
-        && starts_with nat_eq line.value (codes "tel:") then Number
+    && starts_with nat_eq line.value (codes "tel:") then Number
     else (if is_date_name line && is_day line.value then Day
     else (if is_date_name line && is_yearless line.value then Yearless
     else (if line_is_named (codes "GEO") line && is_place line.value then Place

@@ -122,11 +122,7 @@ fn first_name(lines: &[Line]) -> &str
 }
 
 /// Appends a name if the lines have none, which vCard 3.0 requires.
-fn push_missing_name(
-    out: &mut String,
-    text: &mut String,
-    lines: &[Line],
-) -> Result<(), NoMemory>
+fn push_missing_name(out: &mut String, text: &mut String, lines: &[Line]) -> Result<(), NoMemory>
     ensures { OnOk result (string_bytes out.new ≡ string_bytes out.old
         ++ flat_map folded_text (missing_name lines.now)) }
 {

@@ -75,7 +75,10 @@ fn is_uri_param(param: &Param) -> bool
 fn says_uri(line: &Line) -> bool
     ensures { result ≡ says_uri line.now }
 {
-    line.params.as_slice().iter().any(|param| is_uri_param(param))
+    line.params
+        .as_slice()
+        .iter()
+        .any(|param| is_uri_param(param))
 }
 
 /// Whether a parameter says what the value is.

@@ -41,8 +41,7 @@ fn is_pref(param: &Param) -> bool
 fn is_left_out(param: &Param, rules: ParamRules) -> bool
     ensures { result ≡ is_left_out rules param.now }
 {
-    (rules.drops_value_type && is_param(param, "VALUE"))
-        || (rules.drops_label && is_label(param))
+    (rules.drops_value_type && is_param(param, "VALUE")) || (rules.drops_label && is_label(param))
 }
 
 /// Whether the text must be in double quotes, also as a type.
@@ -77,11 +76,7 @@ fn push_param_value(out: &mut String, value: &ParamValue, is_type: bool) -> Resu
 }
 
 /// Appends values separated by commas.
-fn push_param_values(
-    out: &mut String,
-    values: &[ParamValue],
-    is_type: bool,
-) -> Result<(), NoMemory>
+fn push_param_values(out: &mut String, values: &[ParamValue], is_type: bool) -> Result<(), NoMemory>
     ensures { OnOk result (string_bytes out.new
         ≡ string_bytes out.old ++ older_param_values is_type values.now) }
 {

@@ -183,11 +183,7 @@ fn push_end(out: &mut String, is_marked: bool, spelling: Spelling) -> Result<(),
 }
 
 /// Appends the text as vCard 3.0 writes it.
-pub(crate) fn push_spelled(
-    out: &mut String,
-    text: &str,
-    spelling: Spelling,
-) -> Result<(), NoMemory>
+pub(crate) fn push_spelled(out: &mut String, text: &str, spelling: Spelling) -> Result<(), NoMemory>
     ensures { OnOk result (string_bytes out.new
         ≡ string_bytes out.old ++ spelled spelling text.now) }
 {

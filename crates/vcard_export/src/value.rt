@@ -109,11 +109,7 @@ fn push_encoding(out: &mut String, picture: Picture) -> Result<(), NoMemory>
 }
 
 /// Appends the parameters that vCard 3.0 needs for the form of the value.
-pub(crate) fn push_added_params(
-    out: &mut String,
-    form: Form,
-    line: &Line,
-) -> Result<(), NoMemory>
+pub(crate) fn push_added_params(out: &mut String, form: Form, line: &Line) -> Result<(), NoMemory>
     ensures { OnOk result (string_bytes out.new
         ≡ string_bytes out.old ++ added_params form line.now) }
 {
