@@ -1,7 +1,7 @@
 -- What becomes of the pieces of a file that is converted. This project's own.
 use Rattle.std.specs.Prelude.{ℕ, ◌≡◌, ◌≤◌, ◌⊎◌, ◌||◌, ◌&&◌, ◌==◌}
 use Rattle.std.specs.Prelude.{Bool, true, false, List, [], ◌∷◌, ◌++◌}
-use Rattle.std.specs.Prelude.{length, filter, flat_map, codes, drop, nat_lt, not, take_while}
+use Rattle.std.specs.Prelude.{count_by, length, flat_map, codes, drop, nat_lt, not, take_while}
 use Rattle.std.specs.List.{Contains, list_all}
 use Rattle.import_text.specs.RawLines.{begins_with_word}
 use Rattle.base_types.specs.Octets.{carriage_return, line_feed, semicolon, space, tab}
@@ -36,9 +36,12 @@ begins_card line = begins_with_word (codes "BEGIN:VCARD") line && list_all is_wh
 abbrev pub is_card : List ℕ → Bool
 is_card octets = begins_card (first_line (without_bom octets))
 
+abbrev pub is_semicolon : ℕ → Bool
+is_semicolon octet = octet == semicolon
+
 -- more than 65,536 semicolons, each of which may begin a parameter
 abbrev pub is_overfull : List ℕ → Bool
-is_overfull octets = nat_lt 65536 (length (filter (λ octet. octet == semicolon) octets))
+is_overfull octets = nat_lt 65536 (count_by is_semicolon octets)
 
 -- A card: the one that the octets spell, with no change; or one that is converted from them. A line
 -- is left out only if the card would be too long with it.

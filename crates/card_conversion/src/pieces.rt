@@ -1,5 +1,5 @@
 //! What a piece of a file is, and what becomes of it.
-ghost use Rattle.std.specs.Prelude.{◌≡◌, IfOk, MatchResult, ℕ, List, length, string_bytes};
+ghost use Rattle.std.specs.Prelude.{◌≡◌, IfOk, MatchResult, ℕ, List, count_by, length, string_bytes};
 ghost use Rattle.std.specs.List.{Contains};
 ghost use Rattle.vcard_text.specs.Cards.{uid_of};
 ghost use Rattle.card_conversion.specs.Deliveries.{HasUids};
@@ -7,7 +7,7 @@ ghost use Rattle.card_conversion.specs.Moved.{own_uid};
 ghost use Rattle.vcard_import.specs.Conversions.{IsRefused};
 ghost use Rattle.std.specs.List.{list_all};
 ghost use Rattle.card_conversion.specs.Fates.{IsApart, IsConversion, first_line, is_blank};
-ghost use Rattle.card_conversion.specs.Fates.{is_card, is_overfull, is_white};
+ghost use Rattle.card_conversion.specs.Fates.{is_card, is_overfull, is_semicolon, is_white};
 ghost use Rattle.card_conversion.specs.internal.States.{DeliversNew, Takes, TakesAfter};
 ghost use Rattle.vcard_text.specs.Spelling.{without_bom};
 
@@ -66,11 +66,23 @@ fn is_card(piece: &[u8]) -> bool
 /// The most semicolons of a card. Each may begin a parameter, which takes some 400 octets of memory.
 const SEMICOLONS_MAX: usize = 65_536;
 
+fn is_semicolon(octet: &u8) -> bool
+    ensures { result ≡ is_semicolon octet.now }
+{
+    *octet == b';'
+}
+
+fn count_semicolons(piece: &[u8]) -> usize
+    ensures { result ≡ count_by is_semicolon piece.now }
+{
+    piece.iter().filter(|octet| is_semicolon(*octet)).count()
+}
+
 /// Whether there are more semicolons than a card may have.
 fn is_overfull(piece: &[u8]) -> bool
     ensures { result ≡ is_overfull piece.now }
 {
-    piece.iter().filter(|octet| **octet == b';').count() > SEMICOLONS_MAX
+    count_semicolons(piece) > SEMICOLONS_MAX
 }
 
 /// Writes a card, and remembers its UID. Of one that was written it remembers the UID of its own,
