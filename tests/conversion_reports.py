@@ -23,8 +23,8 @@ PARTS_MAX = 8
 def numbers(written, changed, aside, refused, files=None):
     """The last line."""
     made = "" if files is None else f", {files} files made"
-    return (f"{written} cards written, {changed} changed, {aside} with parts kept aside, "
-            f"{refused} not carried{made}\n")
+    return (f"{written} cards written, {int(changed)} changed, {aside} with parts kept aside, "
+            f"{int(refused)} not carried{made}\n")
 
 
 def form_of(words):

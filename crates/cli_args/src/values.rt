@@ -1,5 +1,5 @@
 //! The values of matched arguments and options.
-ghost use Rattle.std.specs.Prelude.{◌≡◌, [], IfOk, None, Some, bytes_eq, map};
+ghost use Rattle.std.specs.Prelude.{◌≡◌, [], IfOk, None, Some, bytes_eq, drop, map};
 ghost use Rattle.clap.specs.Words.{found_of, rows_of};
 ghost use Rattle.cli_args.specs.ParsedOrders as parsed;
 ghost use Rattle.cli_args.specs.ParsedOrders.{ParsesTo};
@@ -129,6 +129,16 @@ pub(crate) fn given_texts(
     }
 }
 
+/// Copies of these texts after the first one.
+fn later_copies(alloc: Global, texts: &[&str]) -> Result<Items<Text>, NoMemory>
+    ensures { IfOk result (λ copies. copies ≡ drop 1 (map (λ text. text.now) texts.now)) }
+{
+    match texts.split_first() {
+        Some((_, later)) => copies_of(alloc, later),
+        None => Ok(Items::new(alloc)),
+    }
+}
+
 /// The texts of an argument after the first one.
 pub(crate) fn later_texts(
     alloc: Global,
@@ -138,7 +148,7 @@ pub(crate) fn later_texts(
     ensures { ParsesTo (Some (parsed.later_texts id.now (rows_of (found_of matches.now)))) result }
 {
     match matches.get_strs(id) {
-        Some(texts) => Ok(copies_of(alloc, texts.get(1..).unwrap_or(&[]))?),
+        Some(texts) => Ok(later_copies(alloc, texts)?),
         None => Ok(Items::new(alloc)),
     }
 }

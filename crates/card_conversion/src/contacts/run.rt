@@ -15,15 +15,14 @@ use contact_csv::ContactReader;
 use std::alloc::Global;
 use std::io::{Read, Write};
 
-/// Tells of the broken row that wasn't told yet, at the end of a file whose last row begins at the
-/// line.
+/// Tells of the broken row that wasn't told yet, at the end of a file, which is at the line.
 fn end_rows<E: Write, T: Write>(
     alloc: Global,
     line: u64,
     broken: &mut BrokenLines,
     report: &mut Report<E, T>,
 ) -> Result<(), ConversionFault> {
-    broken.reach(line.saturating_add(1));
+    broken.reach(line);
     report_broken(alloc, broken, report)
 }
 
