@@ -46,7 +46,8 @@ pub fn convert_more_contacts<R: Read + Drop, O: Outlet, E: Write, T: Write>(
     let mut broken = BrokenLines::new();
     for row_number in 1..u64::MAX {
         let Some(row) = next_row(alloc, &mut contacts)? else {
-            return end_rows(alloc, contacts.line(), &mut broken, report);
+            end_rows(alloc, contacts.line(), &mut broken, report)?;
+            return Ok(());
         };
         let number = course.ledger.next_number();
         let fate = take_row(

@@ -24,4 +24,4 @@ loop-row_number-preserved g c ready uids known =
     one_row g.O.Outlet.writes g.R.Read.remaining c.args.reader uids (counts_of c.args.course.now) c.args.outlet.now c.loop-row_number.outlet c.take_row.new.outlet
     c.loop-row_number.contacts c.next_row.new.contacts c.loop-row_number.course.uids c.take_row.new.uids c.in-Some.row c.in_ok-fate.fate (counts_of c.loop-row_number.course) c.count_row.new.summary p
     (subst (λ row. ReadsRow g.R.Read.remaining c.loop-row_number.contacts c.next_row.new.contacts row) some (c.in_ok-row.ensures.row p.ready))
-    c.next_row.ensures.columns (c.in_ok-row.ensures.ready p.ready) c.in_ok-fate.ensures (c.count_row.ensures ∙ ap (λ numbers. counted numbers c.in_ok-fate.fate) c.next_number.ensures)
+    c.next_row.ensures.columns (c.in_ok-row.ensures.ready p.ready) c.in_ok-fate.ensures (c.count_row.ensures ∙ ap (λ numbers. counted numbers c.in_ok-fate.fate) c.next_number-number.ensures)
