@@ -9,4 +9,4 @@ returns-in-Resync-clause-stopped g c =
 pub returns-in-ExportCards-clause-stopped : goal.returns-in-ExportCards-clause-stopped
 returns-in-ExportCards-clause-stopped g c =
     rw c.in-ExportCards.is
-    (export_stopped g.S.BookStore.model g.M.Host.calls c.run_card_export.result c.args.host.now c.args.store.now c.run_card_export.new.store c.in-ExportCards.book c.in-ExportCards.is_older (g.W.Write.contents c.args.writer.now) (g.W.Write.contents c.run_card_export.new.writer) (rw c.as_str.ensures at c.run_card_export.ensures.stopped))
+    (export_stopped g.S.BookStore.model g.M.Host.calls c.run_card_export.result c.args.host.now c.args.store.now c.run_card_export.new.store c.in-ExportCards.book c.in-ExportCards.is_older (g.W.Write.contents c.args.writer.now) (g.W.Write.contents c.run_card_export.new.writer) (rw c.as_str-in-ExportCards.ensures at c.run_card_export.ensures.stopped))
