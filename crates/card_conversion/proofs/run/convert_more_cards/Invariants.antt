@@ -1,4 +1,4 @@
-use Rattle.std.proofs.Common.{◌×◌, ℕ, List}
+use Rattle.std.proofs.Common.{ℕ, List}
 use Rattle.card_conversion.specs.Courses.{Knows, counts_of}
 use Rattle.card_conversion.specs.internal.PieceReaders.{HasEnded}
 use Rattle.card_conversion.specs.internal.States.{Progress}
