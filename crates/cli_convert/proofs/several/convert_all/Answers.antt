@@ -1,4 +1,4 @@
-use Rattle.std.proofs.Common.{◌∷◌, ◌++◌, ◌∙◌, [], refl, ap, suc, subst, sym}
+use Rattle.std.proofs.Common.{◌≡◌, ◌+◌, ◌∷◌, ◌++◌, ◌∙◌, [], ℕ, ap, arith, length, refl, rules, subst, sym}
 use Rattle.std.proofs.lemmas.List.{length-append}
 use Rattle.card_conversion.specs.Courses.{uids_of_all}
 use Rattle.cli_convert.proofs.EndLemmas.{all_done, begun, one_more}
@@ -23,4 +23,7 @@ loop-file-preserved g c =
 pub returns : goal.returns
 returns g c =
     let sofar = c.loop-file.invariant in
-    subst (Converts g.O.Outlet.writes _ c.args.outlet.now c.loop-file.outlet) (sym c.summary.ensures) (all_done g.O.Outlet.writes sofar.0 _ c.loop-file.course c.args.outlet.now c.loop-file.outlet sofar.1 sofar.2)
+    let whole : c.loop-file.file-index ≡ length c.args.wanted.more.now = search rules in
+    let many : length sofar.0 ≡ length c.args.wanted.more.now + 1 = sofar.1 ∙ ap (λ (n : ℕ). n + 1) whole in
+    subst (Converts g.O.Outlet.writes (length c.args.wanted.more.now + 1) c.args.outlet.now c.loop-file.outlet) (sym c.summary.ensures)
+    (all_done g.O.Outlet.writes sofar.0 (length c.args.wanted.more.now + 1) c.loop-file.course c.args.outlet.now c.loop-file.outlet many sofar.2)
