@@ -2,6 +2,7 @@ pub mod Accounts
 pub mod Counts
 pub mod Deliveries
 pub mod Fates
+pub mod LineEnds
 pub mod Moved
 pub mod RowTexts
 pub mod ContactAccounts

@@ -6,8 +6,6 @@ mod charset_reader;
 mod content;
 mod create;
 mod exit;
-mod foreign;
-mod line_ends;
 mod names;
 mod opening;
 mod report;

@@ -6,8 +6,8 @@ use crate::exit::{
     ConvertStop, foreign_file, open_dates, unknown_charset, unknown_header, unreadable,
     wrong_columns,
 };
-use crate::foreign::foreign_format;
 use crate::wanted::Wanted;
+use card_conversion::foreign_format;
 use contact_columns::{DateOrder, Header, RowText, read_date_order, wish_fault};
 use import_text::TextReader;
 use std::alloc::Global;

@@ -30,6 +30,7 @@ pub use dates::{DateOrder, basic_date};
 pub use fields::row_field;
 pub use header::{Header, find_header, unknown_columns};
 pub use meaning::{Part, component_count};
+pub use row_scan::{RowEnd, row_end};
 pub use row_text::{BROKEN_ROW, RowText};
 pub use slots::{Slot, SlotColumn};
 pub use suggestion::suggested_columns;

@@ -33,7 +33,7 @@ struct RowScan {
 
 /// Where the row at the front of some octets ends.
 #[derive(Clone, Copy, PartialEq, Eq)]
-pub(crate) enum RowEnd {
+pub enum RowEnd {
     /// After this many octets.
     At(usize),
     /// A quote isn't closed, or not before text; the line in which it stands has this many octets.
@@ -140,8 +140,9 @@ impl RowScan {
     }
 }
 
-/// Where the row at the front of the octets ends. `width` is the number of cells of the header.
-pub(crate) fn row_end(delimiter: u8, width: usize, octets: &[u8]) -> RowEnd {
+/// Where the row at the front of the octets ends, as `RowText` cuts rows. `width` is the number of
+/// cells of the header.
+pub fn row_end(delimiter: u8, width: usize, octets: &[u8]) -> RowEnd {
     let mut scan = RowScan::new();
     let mut after: usize = 0;
     for octet in octets {

@@ -1,12 +1,12 @@
 //! Reads files whose lines end with a carriage return alone, as programs of Mac OS 9 wrote them.
 ghost use Rattle.std.specs.Prelude.{◌≡◌, map};
-ghost use Rattle.cli_convert.specs.LineEnds.{line_end};
+ghost use Rattle.card_conversion.specs.LineEnds.{line_end};
 
 use std::io;
 use std::io::Read;
 
 /// Whether the first line of a text ends with a carriage return that no line feed follows.
-pub(crate) fn ends_with_returns(head: &[u8]) -> bool {
+pub fn ends_with_returns(head: &[u8]) -> bool {
     let place = head
         .iter()
         .position(|octet| *octet == b'\r' || *octet == b'\n')
@@ -34,15 +34,16 @@ fn end_lines(octets: &mut [u8])
 /// A reader of a text whose lines end with line feeds, also where those of the file end with a
 /// carriage return alone.
 #[derive(Drop)]
-pub(crate) struct LineEnds<R> {
-    pub(crate) reader: R,
+pub struct LineEnds<R> {
+    /// The reader of the file.
+    pub reader: R,
     /// Whether each line of the file ends with a carriage return alone.
-    pub(crate) are_returns: bool,
+    pub are_returns: bool,
 }
 
 impl<R: Read> Read for LineEnds<R> {
     ghost use Rattle.std.specs.Prelude.{option_map};
-    ghost use Rattle.cli_convert.specs.LineEnds.{with_line_feeds};
+    ghost use Rattle.card_conversion.specs.LineEnds.{with_line_feeds};
 
     ghost remaining = { λ text. option_map (with_line_feeds text.are_returns)
         (R.remaining text.reader) };

@@ -1,6 +1,6 @@
 use Rattle.std.proofs.Common.{◌≡◌, ◌++◌, map, take, drop}
-use Rattle.cli_convert.specs.LineEnds.{line_end}
-use Rattle.cli_convert.proofs.line_ends.end_lines.Given as goal
+use Rattle.card_conversion.specs.LineEnds.{line_end}
+use Rattle.card_conversion.proofs.line_ends.end_lines.Given as goal
 
 -- the octets so far were changed, and the others weren't
 abbrev pub invariant-loop-octet : goal.invariant-loop-octet

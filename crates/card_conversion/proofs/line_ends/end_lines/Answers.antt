@@ -1,8 +1,8 @@
 use Rattle.std.proofs.Common.{get_or, arith}
 use Rattle.std.proofs.lemmas.List.{get_or_default}
 use Rattle.std.proofs.lemmas.List.Edits.{map_over_more}
-use Rattle.cli_convert.specs.LineEnds.{line_end}
-use Rattle.cli_convert.proofs.line_ends.end_lines.Goals as goal
+use Rattle.card_conversion.specs.LineEnds.{line_end}
+use Rattle.card_conversion.proofs.line_ends.end_lines.Goals as goal
 
 pub loop-octet-preserved : goal.loop-octet-preserved
 loop-octet-preserved c =

@@ -30,7 +30,7 @@ fn is_ldif(text: &[u8]) -> bool {
 
 /// What a file is, and what to do with it, if it begins with these octets and has a format that
 /// isn't converted.
-pub(crate) fn foreign_format(head: &[u8]) -> Option<&'static str> {
+pub fn foreign_format(head: &[u8]) -> Option<&'static str> {
     let text = head.strip_prefix(b"\xEF\xBB\xBF").unwrap_or(head);
     if head.starts_with(b"PK\x03\x04") {
         Some(archive_words(head))
