@@ -375,5 +375,17 @@ class ConvertOptions(OrderTest):
         self.assertEqual(Ended(3, b"", b"fault device 1: no/r.txt can't be written\n"), ended)
 
 
+class Borders(OrderTest):
+    def test_cells_of_several_lines_are_carried_over_borders(self):
+        """The program reads 65,536 octets at once; the cell has a line feed before the border."""
+        header, front = "Name,E-mail 1 - Value,Notes\n", 'Ann,a@x.test,"'
+        for after in (1, 2, 30):
+            lines = "x" * (65_536 - len(header) - len(front) - after) + "\n" + "y" * 40 + "\nz"
+            (self.folder / "a.csv").write_text(f'{header}{front}{lines}"\nBob,b@x.test,n\n')
+            ended = run("convert", "a.csv", cwd=self.folder)
+            self.assertEqual((0, b"2 cards written, 0 changed, 0 not carried\n"),
+                             (ended.status, ended.err))
+
+
 if __name__ == "__main__":
     unittest.main()

@@ -62,7 +62,7 @@ fn is_written(name: &str) -> bool {
 }
 
 /// Appends what the column becomes.
-fn push_entry(
+pub(crate) fn push_entry(
     alloc: Global,
     text: &mut String,
     place: usize,
