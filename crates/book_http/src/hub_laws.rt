@@ -1,5 +1,7 @@
 //! Laws of any number of connections to the service. Each law is a function that does nothing.
 ghost use Rattle.book_http.specs.OctetPromise.{ServiceStep};
+ghost use Rattle.book_http.specs.ServedConversions.{ConverterStep, ConvertersAreOneRun};
+ghost use Rattle.book_http.specs.ServedConversions.{SiteConverterStep, SiteConvertersAreOneRun};
 ghost use Rattle.book_http.specs.ServedHubs.{HubsAreOneRun, behind_guard};
 ghost use Rattle.book_http.specs.ServedSites.{ServedSitesAreOneRun, ServerStep};
 ghost use Rattle.http_requests.specs.GuardedHandlers.{guarded};
@@ -29,9 +31,25 @@ pub fn served_sites_are_one_run<S: BookStore>()
     ensures { ServedSitesAreOneRun S.model }
 {}
 
-/// No step of the service behind a guard changes which heads are refused, with the files of a site
-/// beside it or without. That is the premise of the laws on the runs of hubs and servers.
+/// The same of a service with conversions before it, behind a guard. A request for `/convert` gets a
+/// reply of a conversion: it is no part of the run, so it changes no book
+/// (`specs/ServedConversions.antt`).
+pub fn converters_are_one_run<S: BookStore>()
+    ensures { ConvertersAreOneRun S.model }
+{}
+
+/// The same with the files of a site, too. The run has the requests that are neither for a
+/// conversion nor for a file.
+pub fn site_converters_are_one_run<S: BookStore>()
+    ensures { SiteConvertersAreOneRun S.model }
+{}
+
+/// No step of the service behind a guard changes which heads are refused, with conversions before it
+/// and the files of a site beside it, or without. That is the premise of the laws on the runs of hubs
+/// and servers.
 pub fn servers_keep_screens<S: BookStore>()
     ensures guarded { KeepsScreens (guarded (ServiceStep S.model)) }
     ensures beside_site { KeepsScreens (ServerStep S.model) }
+    ensures converting { KeepsScreens (ConverterStep S.model) }
+    ensures converting_beside_site { KeepsScreens (SiteConverterStep S.model) }
 {}

@@ -3,6 +3,7 @@ use Rattle.std.proofs.Common.{◌≡◌, ◌⊎◌, ℕ, Bool, List, Option, Som
 use Rattle.book_http.specs.ConnectionModels.{ConnectionModel}
 use Rattle.book_http.specs.OctetPromise.{ServiceStep}
 use Rattle.http_replies.specs.Replies.{head_fault_octets}
+use Rattle.convert_posts.specs.ConvertHandlers.{with_converter}
 use Rattle.http_requests.specs.GuardedHandlers.{guarded}
 use Rattle.http_requests.specs.HandlerRuns.{HandlerRelation}
 use Rattle.hub_server.specs.EndpointRuns.{EndpointRelation}
@@ -117,11 +118,11 @@ module _ {S P L : Type 0} (model : StoreModel S) (effects : EndpointRelation P) 
   folder_leaves dir file creates names requested limits stop before after log (inl (unread, inl s)) = inl (keeps_leaves stop before after s.unwritten)
   folder_leaves dir file creates names requested limits stop before after log (inl (unread, inr s)) = inl (keeps_leaves stop before after s.unwritten)
   folder_leaves dir file creates names requested limits stop before after log (inr s) =
-      serve_leaves (guarded (with_site (ServiceStep model))) effects (λ store. (names, (s.files, store))) file creates requested limits stop before after s.later s.stops
+      serve_leaves (guarded (with_converter (with_site (ServiceStep model)))) effects (λ store. (names, (s.files, store))) file creates requested limits stop before after s.later s.stops
 
   run_leaves : (file : List ℕ) (creates : Bool) (names : List (List ℕ)) (requested : Address) (limits : ServeLimits) (site : Option (List ℕ)) (stop : Stop) (before after : Option (List ℕ)) (log : List (HostCall S P L))
       → StopsRun model effects file creates names requested limits site stop before after log → KeepsOutput stop before after ⊎ ((stop ≡ out_of_memory) × WritesListeningLine before after)
-  run_leaves file creates names requested limits None stop before after log s = serve_leaves (guarded (ServiceStep model)) effects (λ store. (names, store)) file creates requested limits stop before after log s
+  run_leaves file creates names requested limits None stop before after log s = serve_leaves (guarded (with_converter (ServiceStep model))) effects (λ store. (names, store)) file creates requested limits stop before after log s
   run_leaves file creates names requested limits (Some dir) stop before after log s = folder_leaves dir file creates names requested limits stop before after log s
 
 module _ {S P L Connection : Type 0} (model : StoreModel S) (effects : EndpointRelation P) (stream : ConnectionModel Connection) (coming : L → Option (List (Option Connection))) where

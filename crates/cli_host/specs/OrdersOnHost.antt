@@ -8,6 +8,7 @@ use Rattle.book_http.specs.ConnectionModels.{ConnectionModel}
 use Rattle.book_http.specs.OctetPromise.{ServiceStep}
 use Rattle.cli_args.specs.declared.order.Order.{Order}
 use Rattle.http_replies.specs.Replies.{head_fault_octets}
+use Rattle.convert_posts.specs.ConvertHandlers.{with_converter}
 use Rattle.http_requests.specs.GuardedHandlers.{guarded}
 use Rattle.http_requests.specs.HandlerRuns.{FaultReplies, HandlerRelation}
 use Rattle.hub_server.specs.EndpointRuns.{EndpointRelation}
@@ -392,28 +393,28 @@ module _ {S P L : Type 0} (model : StoreModel S) (effects : EndpointRelation P) 
   abbrev pub RunsGuarded : List ℕ → Bool → List (List ℕ) → Address → ServeLimits
       → Option (List ℕ) → Option (List ℕ) → List (HostCall S P L) → Type 0
   RunsGuarded file creates names requested limits before after log =
-      ServesStore (guarded (ServiceStep model)) effects (λ store. (names, store)) file creates
-      requested limits before after log
+      ServesStore (guarded (with_converter (ServiceStep model))) effects
+      (λ store. (names, store)) file creates requested limits before after log
 
   -- why it wasn't
   abbrev pub StopsGuarded : List ℕ → Bool → List (List ℕ) → Address → ServeLimits → Stop
       → Option (List ℕ) → Option (List ℕ) → List (HostCall S P L) → Type 0
   StopsGuarded file creates names requested limits stop before after log =
-      StopsStore (guarded (ServiceStep model)) effects (λ store. (names, store)) file creates
-      requested limits stop before after log
+      StopsStore (guarded (with_converter (ServiceStep model))) effects
+      (λ store. (names, store)) file creates requested limits stop before after log
 
   -- the same with these files of a site beside the service
   abbrev pub RunsSite : List SiteFile → List ℕ → Bool → List (List ℕ) → Address → ServeLimits
       → Option (List ℕ) → Option (List ℕ) → List (HostCall S P L) → Type 0
   RunsSite files file creates names requested limits before after log =
-      ServesStore (guarded (with_site (ServiceStep model))) effects
+      ServesStore (guarded (with_converter (with_site (ServiceStep model)))) effects
       (λ store. (names, (files, store))) file creates requested limits before after log
 
   -- why it wasn't
   abbrev pub StopsSite : List SiteFile → List ℕ → Bool → List (List ℕ) → Address → ServeLimits
       → Stop → Option (List ℕ) → Option (List ℕ) → List (HostCall S P L) → Type 0
   StopsSite files file creates names requested limits stop before after log =
-      StopsStore (guarded (with_site (ServiceStep model))) effects
+      StopsStore (guarded (with_converter (with_site (ServiceStep model)))) effects
       (λ store. (names, (files, store))) file creates requested limits stop before after log
 
   -- the files of the folder were read first, and are the site

@@ -12,6 +12,7 @@ use base_types::{Items, Text};
 use book_http::{Listener, Service};
 use book_store::OpenFault;
 use cli_orders::{Address, Stop, announce_and_serve, announce_and_serve_in_turn};
+use convert_posts::WithConverter;
 use http_requests::{Guarded, Handler};
 use hub_server::{Endpoint, ServeLimits};
 use request_log::{LoggedEndpoint, LoggedHandler};
@@ -119,8 +120,8 @@ pub(crate) fn run_serve<S: BookStore + Drop, P, L: Listener + Drop, M: Host<S, P
     announce_and_serve_in_turn(alloc, &mut service, listener, port, connections, writer)
 }
 
-/// Serves the books in the file at the address behind a guard of a server with these names, beside
-/// those of the loopback. The store is opened or created first.
+/// Serves the books in the file, with conversions before them, at the address behind a guard of a
+/// server with these names, beside those of the loopback. The store is opened or created first.
 fn run_guarded<S: BookStore + Drop, P: Endpoint, L, M: Host<S, P, L>, W: Write>(
     alloc: Global,
     host: &mut M,
@@ -141,7 +142,8 @@ fn run_guarded<S: BookStore + Drop, P: Endpoint, L, M: Host<S, P, L>, W: Write>(
 {
     let store = get_store(alloc, host, file.as_str(), creates)?;
     let service = Service::new(alloc, store)?;
-    let handler = Guarded::new(names, service);
+    let converting = WithConverter::new(service);
+    let handler = Guarded::new(names, converting);
     serve_at(alloc, host, handler, address, limits, is_logged, writer)
 }
 
@@ -168,7 +170,8 @@ fn run_site<S: BookStore + Drop, P: Endpoint, L, M: Host<S, P, L>, W: Write>(
     let store = get_store(alloc, host, file.as_str(), creates)?;
     let service = Service::new(alloc, store)?;
     let beside = WithSite::new(site, service);
-    let handler = Guarded::new(names, beside);
+    let converting = WithConverter::new(beside);
+    let handler = Guarded::new(names, converting);
     serve_at(alloc, host, handler, address, limits, is_logged, writer)
 }
 

@@ -1,0 +1,186 @@
+//! What a body has.
+
+use crate::asked::Asked;
+use crate::card_cut::front;
+use crate::unconverted::Unconverted;
+use base_types::NoMemory;
+use card_conversion::foreign_format;
+use contact_columns::wish_fault;
+use contact_csv::{Header, find_header};
+use csv_cards::is_export;
+use import_text::{begins_with_word, is_card, split_piece};
+use std::alloc::Global;
+
+/// The most octets among which a header is.
+pub(crate) const HEAD_OCTETS: usize = 16_384;
+
+/// The octets from which a format is known, and among which a card begins.
+const FRONT_OCTETS: usize = 131_072;
+
+/// The most lines among which a header is.
+const HEAD_LINES: u32 = 5;
+
+/// The most separators in the lines among which a header is.
+const SEPARATORS_MAX: u64 = 1_000;
+
+/// The most times that a column is compared with one of which something is said.
+const COMPARED_MAX: u64 = 10_000;
+
+/// What a body has.
+#[derive(Clone, Copy)]
+pub(crate) enum Content<'a> {
+    /// Cards, or what is no card.
+    Cards,
+    /// Rows of an export.
+    Export,
+    /// Contacts with this header.
+    Contacts(Header<'a>),
+    /// Nothing that is converted, for this reason.
+    None(NotContent),
+}
+
+/// Why a body has nothing that is converted.
+#[derive(Clone, Copy)]
+pub(crate) enum NotContent {
+    /// It is of another format, or too large in some way, as these words say.
+    Foreign(&'static str),
+    /// It has cards, and something is said of columns.
+    NoColumns,
+    /// Something is wrong with what is said of its columns.
+    Columns,
+    /// Its header isn't known.
+    Header,
+}
+
+/// The first lines of the head, with as many as a header may be in.
+fn first_lines(head: &[u8]) -> &[u8] {
+    let mut len: usize = 0;
+    for _line in 0..HEAD_LINES {
+        let rest = head.get(len..).unwrap_or(&[]);
+        match rest.iter().position(|octet| *octet == b'\n') {
+            Some(place) => len = len.saturating_add(place).saturating_add(1),
+            None => return head,
+        }
+    }
+    front(head, len)
+}
+
+/// The number of octets that may stand between cells.
+fn count_separators(lines: &[u8]) -> u64 {
+    lines
+        .iter()
+        .filter(|octet| matches!(**octet, b',' | b';' | b'\t' | b'|'))
+        .count() as u64
+}
+
+/// The number of entries of what is said of columns.
+fn count_entries(columns: &str) -> u64 {
+    columns.bytes().filter(|octet| *octet == b',').count() as u64
+}
+
+/// Why no header is looked for: it would take too long.
+fn header_bound(head: &[u8], columns: &str) -> Option<&'static str> {
+    let cells = count_separators(first_lines(head));
+    let entries = count_entries(columns).saturating_add(1);
+    if cells > SEPARATORS_MAX {
+        Some("a header of more than 1,000 cells; convert it by `contacts convert`")
+    } else if cells.saturating_mul(entries) > COMPARED_MAX {
+        Some("a header of too many columns for so many that are named; name only some")
+    } else {
+        None
+    }
+}
+
+/// Whether a card begins somewhere among the octets.
+fn has_card(octets: &[u8]) -> bool {
+    let (piece, after) = split_piece(octets);
+    is_card(piece) || !after.is_empty()
+}
+
+/// Whether all octets are white space, perhaps after a byte order mark.
+fn is_blank(text: &[u8]) -> bool {
+    text.iter().all(|octet| octet.is_ascii_whitespace())
+}
+
+/// Why a body isn't converted, whatever is asked: its format.
+fn format_fault(body: &[u8]) -> Option<&'static str> {
+    if body.starts_with(b"\xFF\xFE") || body.starts_with(b"\xFE\xFF") {
+        return Some("text in UTF-16; send it in UTF-8");
+    }
+    foreign_format(front(body, FRONT_OCTETS))
+}
+
+/// What a body has that isn't of another format, no export, and begins with no card.
+fn contacts_in<'a>(
+    alloc: Global,
+    asked: &'a Asked,
+    body: &[u8],
+) -> Result<Content<'a>, NoMemory> {
+    let head = front(body, HEAD_OCTETS);
+    let columns = asked.columns.as_str();
+    if let Some(words) = header_bound(head, columns) {
+        return Ok(Content::None(NotContent::Foreign(words)));
+    }
+    if !columns.is_empty() && wish_fault(alloc, head, columns)?.is_some() {
+        return Ok(Content::None(NotContent::Columns));
+    }
+    if let Some(header) = find_header(alloc, head, columns)? {
+        return Ok(Content::Contacts(header));
+    }
+    if !columns.is_empty() {
+        return Ok(Content::None(NotContent::NoColumns));
+    }
+    let octets = front(body, FRONT_OCTETS);
+    if asked.line > 1 || is_blank(octets) || has_card(octets) {
+        Ok(Content::Cards)
+    } else {
+        Ok(Content::None(NotContent::Header))
+    }
+}
+
+/// What a body has.
+pub(crate) fn content_of<'a>(
+    alloc: Global,
+    asked: &'a Asked,
+    body: &[u8],
+) -> Result<Content<'a>, NoMemory> {
+    if let Some(words) = format_fault(body) {
+        return Ok(Content::None(NotContent::Foreign(words)));
+    }
+    let text = body.strip_prefix(b"\xEF\xBB\xBF").unwrap_or(body);
+    let is_of_rows = is_export(front(body, HEAD_OCTETS));
+    if !is_of_rows && !begins_with_word(text, b"BEGIN:VCARD") {
+        return contacts_in(alloc, asked, body);
+    }
+    if !asked.columns.is_empty() {
+        Ok(Content::None(NotContent::NoColumns))
+    } else if is_of_rows {
+        Ok(Content::Export)
+    } else {
+        Ok(Content::Cards)
+    }
+}
+
+impl NotContent {
+    /// The fault with its words.
+    pub(crate) fn fault(
+        self,
+        alloc: Global,
+        asked: &Asked,
+        body: &[u8],
+    ) -> Result<Unconverted, NoMemory> {
+        let head = front(body, HEAD_OCTETS);
+        match self {
+            NotContent::Foreign(words) => Unconverted::with_words(alloc, words),
+            NotContent::NoColumns => {
+                Unconverted::with_columns(alloc, "the file has cards, and no columns")
+            }
+            NotContent::Columns => {
+                let words = wish_fault(alloc, head, asked.columns.as_str())?;
+                let words = words.as_ref().map_or("", |text| text.as_str());
+                Unconverted::with_columns(alloc, words)
+            }
+            NotContent::Header => Unconverted::with_header(alloc, head),
+        }
+    }
+}
