@@ -36,8 +36,3 @@ same_ok a b e = ap lines_in e
 pub ok_either : (octets : List ℕ) (made : Result Conversion ImportFault) → IfOk made (λ m. IsConverted octets m.card m.changes) → IfOk made (λ m. (Spells octets m.card × (m.changes ≡ [])) ⊎ IsConverted octets m.card m.changes)
 ok_either octets (Ok m) q = inr q
 ok_either octets (Err fault) q = tt
-
--- a card of which lines may be left out, since it is too long with them
-pub ok_if_long : (octets : List ℕ) (made : Result Conversion ImportFault) → IsTooLong octets → IfOk made (λ m. LeavesOutIfLong octets m.changes)
-ok_if_long octets (Ok m) long = λ left. long
-ok_if_long octets (Err fault) long = tt
