@@ -17,6 +17,10 @@ passes octets start len (Some xs) =
     ∙ append_assoc (take len (drop start octets)) (drop len (drop start octets)) xs
     ∙ ap (λ ys. take len (drop start octets) ++ (ys ++ xs)) (drop-drop len start octets)
 
+pub nothing_read : (a : Option (List ℕ)) → Consumes a a []
+nothing_read None = tt
+nothing_read (Some x) = refl
+
 pub no_more : (a b c : Option (List ℕ)) → Consumes a b [] → Consumes b c [] → Consumes a c []
 no_more None b c p q = tt
 no_more (Some x) None c p q = absurd p
