@@ -29,7 +29,7 @@ const NAMES: [&str; 5] = ["card", "columns", "dates", "line", "more"];
 
 /// The value of a flag: `1`, or nothing.
 fn flag_of(value: Option<&str>) -> Result<bool, NoCommand>
-    ensures { MatchesExpected (flag_of (option_map (λ text. text.now) value)) result }
+    ensures { MatchesExpected (flag_of (option_map (λ text. text.now) value.entry)) result }
 {
     match value {
         None => Ok(false),
@@ -51,7 +51,7 @@ fn place_of(number: Option<u64>) -> Result<u64, NoCommand>
 
 /// The order of day and month: `day` or `month`, or nothing.
 fn dates_of(value: Option<&str>) -> Result<Option<DateOrder>, NoCommand>
-    ensures { MatchesExpected (dates_of (option_map (λ text. text.now) value)) result }
+    ensures { MatchesExpected (dates_of (option_map (λ text. text.now) value.entry)) result }
 {
     match value {
         None => Ok(None),
