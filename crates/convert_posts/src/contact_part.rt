@@ -63,7 +63,11 @@ pub(crate) fn origin_of(asked: &Asked, before: &[u8]) -> Origin {
     Origin {
         card: asked.card,
         line: asked.line,
-        feeds: if asked.line > 1 { count_feeds(before) } else { 0 },
+        feeds: if asked.line > 1 {
+            count_feeds(before)
+        } else {
+            0
+        },
     }
 }
 

@@ -111,11 +111,7 @@ fn format_fault(body: &[u8]) -> Option<&'static str> {
 }
 
 /// What a body has that isn't of another format, no export, and begins with no card.
-fn contacts_in<'a>(
-    alloc: Global,
-    asked: &'a Asked,
-    body: &[u8],
-) -> Result<Content<'a>, NoMemory> {
+fn contacts_in<'a>(alloc: Global, asked: &'a Asked, body: &[u8]) -> Result<Content<'a>, NoMemory> {
     let head = front(body, HEAD_OCTETS);
     let columns = asked.columns.as_str();
     if let Some(words) = header_bound(head, columns) {

@@ -128,7 +128,13 @@ fn cut_returns(alloc: Global, body: &[u8], more: bool) -> Result<(usize, Cut), N
     ensures { IfOk result (λ cut. cut.0 ≤ length body.now) }
 {
     let window = front(body, PIECE_OCTETS_MAX.saturating_add(1));
-    let text = read_all(alloc, LineEnds { reader: window, are_returns: true })?;
+    let text = read_all(
+        alloc,
+        LineEnds {
+            reader: window,
+            are_returns: true,
+        },
+    )?;
     let goes_on = more || window.len() < body.len();
     let (len, cut) = cut_cards(alloc, text.as_slice(), goes_on)?;
     Ok((len.min(body.len()), cut))
@@ -266,11 +272,13 @@ fn contacts_part(
     let text = rows.get(notes.len()..).unwrap_or(&[]);
     let starts = cut.starts.as_slice();
     match convert_contacts_in(alloc, asked, text, header, frame.origin, starts)? {
-        Some(Contacts {
-            converted,
-            columns,
-            dates,
-        }) => Ok(Some(part_with(alloc, frame, converted, columns, dates)?)),
+        Some(
+            Contacts {
+                converted,
+                columns,
+                dates,
+            },
+        ) => Ok(Some(part_with(alloc, frame, converted, columns, dates)?)),
         None => Ok(None),
     }
 }
