@@ -3,7 +3,7 @@ ghost use Rattle.store_check.specs.BookChecks.{CheckedAreWellFormed};
 ghost use Rattle.store_check.specs.FaultSearches.{FaultyAreNotStored};
 ghost use Rattle.store_check.specs.ListedRows.{WellStoredAreHeld};
 
-/// Sound, readable rows represent well-formed books exactly if they pass the tests made row by row
+/// Sound rows represent well-formed books exactly if they pass the tests made row by row
 /// (`specs/BookChecks.antt`).
 pub fn checked_rows_are_well_formed()
     ensures { CheckedAreWellFormed }

@@ -33,8 +33,9 @@ module _ {X : Type 0} (row shown : X → Row) (cells listed : Row → Row) (of_i
       (subst (IsPermutation (map with_null (map shown xs))) (map-map with_null listed rows ∙ all_rows rows) (IsPermutation-sym _ _ (IsPermutation-map with_null _ _ h)))
 
 pub listed_held : ListedRowsAreHeld
-listed_held db rows schema h = record {
+listed_held db rows schema obeys h = record {
   schema = schema;
+  obeys = obeys;
   meta = one_permutation (schema_row schema_number) (map meta_listed (db.trees 0)) (IsPermutation-sym _ _ h.meta);
   books = shown_held book_row book_shown book_cells book_listed (λ _. refl) (λ _. refl) rows.books (db.trees 2) h.books;
   members = IsPermutation-sym _ _ h.members;
@@ -45,6 +46,7 @@ listed_held db rows schema h = record {
 pub new_tables_empty : NewTablesAreEmpty
 new_tables_empty db h = record {
   schema = h.schema;
+  obeys = h.obeys;
   meta = h.meta;
   books = subst (λ t. HoldBooks t []) (sym h.books) (IsPermutation-refl []);
   members = subst (λ t. HoldMembers t []) (sym h.members) (IsPermutation-refl []);
