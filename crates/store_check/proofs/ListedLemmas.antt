@@ -194,7 +194,7 @@ whole_row r = r
 
 -- ---- the law
 
-module _ (limits : Bounds) (db : Database) (books members imports keeps : List Row) (ours : IsCurrentSchema db) (obeys : ObeyTables db.trees) (listed : AreListedRows db books members imports keeps) where
+module _ (limits : Bounds) (db : Database) (books members imports keeps : List Row) (ours : IsCurrentSchema db) (listed : AreListedRows db books members imports keeps) where
   lists : AreTableRows books members imports keeps → ListsRows db (decode_rows books members imports keeps)
   lists shown = record {
     meta = IsPermutation-same (map meta_listed (db.trees 0)) (schema_row schema_number ∷ []) ours.meta;
@@ -205,13 +205,13 @@ module _ (limits : Bounds) (db : Database) (books members imports keeps : List R
   }
 
   -- the tables hold the rows
-  pub rows_are_held : AreWellStored limits books members imports keeps → HoldsRows db (decode_rows books members imports keeps)
-  rows_are_held w = listed_held db (decode_rows books members imports keeps) ours.schema obeys (lists w.shown)
+  pub rows_are_held : ObeyTables db.trees → AreWellStored limits books members imports keeps → HoldsRows db (decode_rows books members imports keeps)
+  rows_are_held obeys w = listed_held db (decode_rows books members imports keeps) ours.schema obeys (lists w.shown)
 
-  held_of_stored : AreWellStored limits books members imports keeps → HoldsWellFormed limits db
-  held_of_stored w = record {
+  held_of_stored : ObeyTables db.trees → AreWellStored limits books members imports keeps → HoldsWellFormed limits db
+  held_of_stored obeys w = record {
     rows = decode_rows books members imports keeps;
-    holds = rows_are_held w;
+    holds = rows_are_held obeys w;
     well_formed = w.well_formed;
   }
 
@@ -239,5 +239,7 @@ module _ (limits : Bounds) (db : Database) (books members imports keeps : List R
   }
 
 pub well_stored_held : WellStoredAreHeld
-well_stored_held limits db books members imports keeps ours obeys listed =
-    (held_of_stored limits db books members imports keeps ours obeys listed, stored_of_held limits db books members imports keeps ours obeys listed)
+well_stored_held limits db books members imports keeps ours listed = (
+  λ both. held_of_stored limits db books members imports keeps ours listed both.0 both.1,
+  λ held. (held.holds.obeys, stored_of_held limits db books members imports keeps ours listed held),
+)

@@ -1,5 +1,5 @@
 -- Laws of whole tables, as they are read when a store is opened or created. This project's own.
-use Rattle.std.specs.Prelude.{◌≡◌, [], ◌∷◌, map}
+use Rattle.std.specs.Prelude.{◌≡◌, ◌↔◌, [], ◌∷◌, map}
 use Rattle.std.specs.List.Sorted.{IsPermutation}
 use Rattle.sqlite.specs.Effect.{Database}
 use Rattle.sqlite.specs.Order.{Row}
@@ -24,10 +24,10 @@ pub record ListsRows (db : Database) (rows : TableRows) : Type 0 where
   pub imports : IsPermutation (map import_cells (db.trees 7)) (map import_row rows.imports)
   pub keeps : IsPermutation (map keep_listed (db.trees 9)) (map keep_pair rows.keeps)
 
--- declared tables with these result rows hold the rows, as those of an open connection
+-- declared tables hold exactly the rows that the queries return
 abbrev pub ListedRowsAreHeld : Type 0
 ListedRowsAreHeld = (db : Database) (rows : TableRows) → db.schema ≡ book_schema →
-    ObeyTables db.trees → ListsRows db rows → HoldsRows db rows
+    (ObeyTables db.trees × ListsRows db rows) ↔ HoldsRows db rows
 
 -- newly created tables hold no rows
 abbrev pub NewTablesAreEmpty : Type 0
