@@ -327,15 +327,16 @@ raised_range limits most a b = record {
 
 accepted_raised : (limits most : Bounds) (pairs : ℕ) → AreWithin limits most → (es : List Named) → accept_books limits pairs es ≡ Ok tt → accept_books (raised limits most) pairs es ≡ Ok tt
 accepted_raised limits most pairs fits [] ok = refl
-accepted_raised limits most pairs fits (e ∷ es) ok = by (has_pairs_left limits e.1.number pairs) (is_within_room limits (live_count e.1.counts)) refl refl
+accepted_raised limits most pairs fits (e ∷ es) ok = by (has_pairs_left limits e.1.number pairs) (is_within_room limits (live_count e.1.counts)) refl refl (accepted_raised limits most pairs fits es)
   where
-    by : (s t : Bool) → has_pairs_left limits e.1.number pairs ≡ s → is_within_room limits (live_count e.1.counts) ≡ t → accept_books (raised limits most) pairs (e ∷ es) ≡ Ok tt
-    by false t p q = absurd (let bad = rw p at ok in cc)
-    by true false p q = absurd (let bad = rw (p, q) at ok in cc)
-    by true true p q =
+    by : (s t : Bool) → has_pairs_left limits e.1.number pairs ≡ s → is_within_room limits (live_count e.1.counts) ≡ t
+        → (accept_books limits pairs es ≡ Ok tt → accept_books (raised limits most) pairs es ≡ Ok tt) → accept_books (raised limits most) pairs (e ∷ es) ≡ Ok tt
+    by false t p q others = absurd (let bad = rw p at ok in cc)
+    by true false p q others = absurd (let bad = rw (p, q) at ok in cc)
+    by true true p q others =
         let le = fits.changes in
         let left : has_pairs_left (raised limits most) e.1.number pairs ≡ true = grind (arith, p, le) in
-        rw (left, q) (accepted_raised limits most pairs fits es (rw (p, q) at ok))
+        rw (left, q) (others (rw (p, q) at ok))
 
 was_accepted : {X : Type 0} (r : Result (Unit {0}) Refusal) (x y : X) → (r >>= λ _. Ok x) ≡ Ok y → r ≡ Ok tt
 was_accepted (Ok done) x y is = refl
