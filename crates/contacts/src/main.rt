@@ -68,8 +68,8 @@ fn conversion_of(order: &Result<Order, LineFault>) -> Option<Wanted<'_>> {
     }
 }
 
-/// Runs the order on the host, reports a stop, and returns the exit status. (In `run` the prover
-/// would spell out the whole contract of `run_and_report` over files and sockets.)
+/// Runs the order on the host, reports a stop, and returns the exit status. (Over the files
+/// and sockets of the system the prover would spell out the whole contract of `run_and_report`.)
 fn run_on<
     S: AdminStore + Drop,
     P: Endpoint,
@@ -97,17 +97,26 @@ fn convert(rt: &HostRuntime, wanted: Wanted<'_>) -> u8 {
     run_convert(rt.alloc(), rt, wanted, &mut rows, rt.stderr())
 }
 
-/// Runs another order on the files and ports of the system, and returns the exit status.
-fn run(rt: &HostRuntime, order: Result<Order, LineFault>) -> u8 {
-    let mut host = FileHost::new(*rt);
+/// Runs the order on the host and the streams of the system, and returns the exit status. (One body
+/// that names both the host of the program and its streams is more than the prover takes.)
+fn run_on_streams<S: AdminStore + Drop, P: Endpoint, L: Listener + Drop, M: Host<S, P, L>>(
+    rt: &HostRuntime,
+    host: &mut M,
+    order: Result<Order, LineFault>,
+) -> u8 {
     run_on(
         rt.alloc(),
-        &mut host,
+        host,
         order,
         &mut rt.stdin(),
         &mut rt.stdout(),
         &mut rt.stderr(),
     )
+}
+
+/// Runs another order on the files and ports of the system, and returns the exit status.
+fn run(rt: &HostRuntime, order: Result<Order, LineFault>) -> u8 {
+    run_on_streams(rt, &mut FileHost::new(*rt), order)
 }
 
 fn main(rt: HostRuntime) -> ExitCode {
