@@ -1,0 +1,2 @@
+mod FloatLemmas
+mod RowLemmas

@@ -1,0 +1,4 @@
+pub mod ConvertRequests
+pub mod Parts
+pub mod PartValues
+pub mod ConvertReplies

@@ -1,0 +1,51 @@
+//! Answers a request for a conversion.
+ghost use Rattle.std.specs.Prelude.{◌≡◌, IfOk};
+ghost use Rattle.convert_posts.specs.ConvertReplies.{IsConversionReply, IsConvertReply};
+
+use crate::asked::{Asked, read_asked};
+use crate::parts::convert_body;
+use crate::values::{part_value, unconverted_value};
+use base_types::NoMemory;
+use http::StatusCode;
+use http_replies::{json_bytes, method_fault_bytes, route_fault_bytes};
+use http_requests::Head;
+use http_routes::{NoCommand, split_target};
+use std::alloc::Global;
+
+/// The whole reply with what becomes of the front of the body.
+fn conversion_reply(
+    alloc: Global,
+    asked: &Asked,
+    body: &[u8],
+    close: bool,
+) -> Result<Vec<u8>, NoMemory>
+    ensures { IfOk result (λ reply. IsConversionReply body.now close reply.items) }
+{
+    match convert_body(alloc, asked, body)? {
+        Ok(part) => {
+            let value = part_value(alloc, &part)?;
+            json_bytes(alloc, StatusCode::OK, &value, close)
+        }
+        Err(fault) => {
+            let value = unconverted_value(alloc, &fault)?;
+            json_bytes(alloc, StatusCode::UNPROCESSABLE_ENTITY, &value, close)
+        }
+    }
+}
+
+/// The whole reply to a request for a conversion: what becomes of the front of its body, or why the
+/// file isn't converted; or the fault of the API for a wrong method or a wrong query. `NoMemory` if
+/// an allocation fails.
+pub fn convert_reply(alloc: Global, head: &Head, body: &[u8]) -> Result<Vec<u8>, NoMemory>
+    ensures { IfOk result (λ reply. IsConvertReply head.now body.now reply.items) }
+{
+    if head.method.as_str() != "POST" {
+        return method_fault_bytes(alloc, "POST", head.close);
+    }
+    let (_, query) = split_target(head.target.as_str());
+    match read_asked(alloc, query) {
+        Ok(asked) => conversion_reply(alloc, &asked, body, head.close),
+        Err(NoCommand::Fault(fault)) => route_fault_bytes(alloc, fault, head.close),
+        Err(NoCommand::Memory) => Err(NoMemory),
+    }
+}
