@@ -23,9 +23,6 @@ const HEAD_LINES: u32 = 5;
 /// The most cells in the lines among which a header is.
 const CELLS_MAX: u64 = 1_000;
 
-/// The most octets of what is said of columns.
-const COLUMNS_OCTETS_MAX: usize = 16_384;
-
 /// The most columns of which something is said.
 const ENTRIES_MAX: u64 = 256;
 
@@ -106,8 +103,6 @@ fn header_bound(head: &[u8], columns: &str) -> Option<&'static str> {
     let compared = cells.all.saturating_mul(entries.all);
     if cells.all > CELLS_MAX {
         Some("a header of more than 1,000 cells; convert it by `contacts convert`")
-    } else if columns.len() > COLUMNS_OCTETS_MAX {
-        Some("--columns: it has more than 16,384 octets; name only some columns")
     } else if entries.all > ENTRIES_MAX {
         Some("--columns: it names more than 256 columns; name only some")
     } else if compared > COMPARED_MAX || cells.wide.saturating_mul(entries.wide) > WIDE_COMPARED_MAX
