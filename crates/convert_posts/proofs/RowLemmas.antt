@@ -1,17 +1,34 @@
 -- The rows of cards that were written one after another.
-use Rattle.std.proofs.Common.{◌≡◌, ◌∙◌, ◌∷◌, ◌++◌, [], ℕ, List, Option, refl, sym, ap, subst, map, append_assoc, append-nil}
+use Rattle.std.proofs.Common.{◌≡◌, ◌≢◌, ◌∙◌, ◌∷◌, ◌++◌, [], ℕ, List, Option, refl, sym, ap, subst, map, append_assoc, append-nil}
 use Rattle.std.proofs.lemmas.List.{map-append}
+use Rattle.std.specs.List.{AllByRecursion, AllPairs}
 use Rattle.vcard_lines.specs.declared.line.Line.{Line}
-use Rattle.card_conversion.specs.Accounts.{ConvertsAll}
-use Rattle.card_conversion.specs.ContactAccounts.{ConvertsContacts}
+use Rattle.vcard_text.specs.Cards.{IsCard, uid_of}
 use Rattle.card_conversion.specs.ContactFates as contacts
+use Rattle.card_conversion.specs.Counts as pieces
+use Rattle.card_conversion.specs.Counts.{nothing_counted}
+use Rattle.card_conversion.specs.Courses.{AllHaveFates, ConvertsPieces, ConvertsRows, HaveFates, Part, cards_of, cards_of_all, counts_of, of_pieces, of_rows}
 use Rattle.card_conversion.specs.Deliveries.{WritesInTurn}
-use Rattle.card_conversion.specs.Fates.{cards_of}
-use Rattle.card_conversion.specs.declared.ledger.Summary.{Summary}
+use Rattle.card_conversion.specs.declared.course.Course.{Course}
 use Rattle.contact_csv.specs.Contacts.{columns_of}
 use Rattle.contact_csv.specs.declared.rows.ContactReader.{ContactReader}
 use Rattle.convert_posts.specs.Parts.{AddsRow, AreRowsOf, IsOfContacts, IsOfPieces, card_text, row_text}
 use Rattle.convert_posts.specs.declared.part.CardRow.{CardRow}
+
+-- what is known of the cards of files
+abbrev pub AreCards : Type 0
+AreCards = (parts : List Part) → AllHaveFates [] parts → AllByRecursion IsCard (cards_of_all parts)
+
+abbrev pub AreApart : Type 0
+AreApart = (parts : List Part) → AllHaveFates [] parts → AllPairs (λ a b. a ≢ b) (map uid_of (cards_of_all parts))
+
+-- the same of one file
+cards_of_one : AreCards → (part : Part) → HaveFates [] part → AllByRecursion IsCard (cards_of part)
+cards_of_one all part have = subst (AllByRecursion IsCard) (append-nil (cards_of part)) (all (part ∷ []) (have, tt))
+
+apart_in_one : AreApart → (part : Part) → HaveFates [] part → AllPairs (λ a b. a ≢ b) (map uid_of (cards_of part))
+apart_in_one all part have =
+    subst (λ (cards : List (List Line)). AllPairs (λ a b. a ≢ b) (map uid_of cards)) (append-nil (cards_of part)) (all (part ∷ []) (have, tt))
 
 module _ {A : Type 0} (rows_of : A → List CardRow) where
   abbrev row_step : List Line → A → A → Type 0
@@ -34,17 +51,28 @@ module _ {A : Type 0} (rows_of : A → List CardRow) where
   rows_are : (cards : List (List Line)) (a b : A) → rows_of a ≡ [] → WritesInTurn row_step cards a b → AreRowsOf cards (rows_of b)
   rows_are cards a b none written = rows_added cards a b written ∙ ap (λ (rows : List CardRow). map row_text rows ++ map card_text cards) none
 
-  pub of_pieces : (input : Option (List ℕ)) (a b : A) (summary : Summary) → rows_of a ≡ [] → ConvertsAll row_step input a b summary → IsOfPieces input summary (rows_of b)
-  of_pieces input a b summary none converts = (converts.entries, converts.accounts, rows_are (cards_of converts.entries) a b none converts.written)
+  pub pieces_done : (input : Option (List ℕ)) (first course : Course) (a b : A) → AreCards → AreApart → counts_of first ≡ nothing_counted → rows_of a ≡ [] → ConvertsPieces row_step input [] first course a b
+      → IsOfPieces input (counts_of course) (rows_of b)
+  pieces_done input first course a b are_cards are_apart nothing none converts = (
+    converts.entries,
+    record {
+      whole = converts.whole;
+      fates = converts.part.fates;
+      distinct = apart_in_one are_apart (of_pieces converts.entries) converts.part.fates;
+      cards = cards_of_one are_cards (of_pieces converts.entries) converts.part.fates;
+      counts = converts.part.counts ∙ ap (λ start. pieces.summary_after start converts.entries) nothing;
+    },
+    rows_are (cards_of (of_pieces converts.entries)) a b none converts.part.written,
+  )
 
-  pub of_contacts : {R : Type 0} (remaining : R → Option (List ℕ)) (reader : ContactReader R) (a b : A) (summary : Summary) → rows_of a ≡ [] → ConvertsContacts row_step remaining reader a b summary
-      → IsOfContacts summary (rows_of b)
-  of_contacts remaining reader a b summary none converts = record {
+  pub rows_done : {R : Type 0} (remaining : R → Option (List ℕ)) (reader : ContactReader R) (first course : Course) (a b : A) → AreCards → AreApart → counts_of first ≡ nothing_counted → rows_of a ≡ []
+      → ConvertsRows row_step remaining reader [] first course a b → IsOfContacts (counts_of course) (rows_of b)
+  rows_done remaining reader first course a b are_cards are_apart nothing none converts = record {
     columns = columns_of reader;
     entries = converts.entries;
-    fates = converts.accounts.fates;
-    distinct = converts.accounts.distinct;
-    cards = converts.accounts.cards;
-    counts = converts.accounts.counts;
-    are_rows = rows_are (contacts.cards_of converts.entries) a b none converts.written;
+    fates = converts.part.fates;
+    distinct = apart_in_one are_apart (of_rows (columns_of reader) converts.entries) converts.part.fates;
+    cards = cards_of_one are_cards (of_rows (columns_of reader) converts.entries) converts.part.fates;
+    counts = converts.part.counts ∙ ap (λ start. contacts.summary_after start converts.entries) nothing;
+    are_rows = rows_are (contacts.cards_of converts.entries) a b none converts.part.written;
   }

@@ -35,14 +35,17 @@ dates_of (Some text) =
     if bytes_eq text (codes "day") then Ok (Some DayFirst)
     else (if bytes_eq text (codes "month") then Ok (Some MonthFirst) else Err BadQuery)
 
--- what the names and values of a query ask for
-abbrev pub asked_in : List Pair → Result Asked RouteFault
-asked_in pairs =
-    check_or_fault (has_only_names query_names pairs) BadQuery >>= λ _.
+-- the number of the name, from 1 on; 1 if it isn't there
+abbrev pub place_in : List ℕ → List Pair → Result ℕ RouteFault
+place_in name pairs = optional_number (query_value name pairs) >>= place_of
+
+-- what the values of a query ask for
+abbrev pub asked_of : List Pair → Result Asked RouteFault
+asked_of pairs =
     flag_of (query_value (codes "more") pairs) >>= λ more.
     dates_of (query_value (codes "dates") pairs) >>= λ dates.
-    optional_number (query_value (codes "card") pairs) >>= place_of >>= λ card.
-    optional_number (query_value (codes "line") pairs) >>= place_of >>= λ line.
+    place_in (codes "card") pairs >>= λ card.
+    place_in (codes "line") pairs >>= λ line.
     Ok (record {
       more = more;
       card = card;
@@ -50,3 +53,8 @@ asked_in pairs =
       columns = unwrap_or (query_value (codes "columns") pairs) [];
       dates = dates;
     })
+
+-- what the names and values of a query ask for
+abbrev pub asked_in : List Pair → Result Asked RouteFault
+asked_in pairs =
+    check_or_fault (has_only_names query_names pairs) BadQuery >>= λ _. asked_of pairs

@@ -1,6 +1,7 @@
 //! What a request asks for.
 ghost use Rattle.std.specs.Prelude.{◌≡◌, option_map};
-ghost use Rattle.convert_posts.specs.ConvertRequests.{asked_in, dates_of, flag_of, place_of};
+ghost use Rattle.convert_posts.specs.ConvertRequests.{asked_in, asked_of, dates_of, flag_of};
+ghost use Rattle.convert_posts.specs.ConvertRequests.{place_in, place_of};
 ghost use Rattle.http_routes.specs.Queries.{pairs_of as pairs_in};
 ghost use Rattle.http_routes.specs.internal.Results.{MatchesExpected};
 
@@ -73,20 +74,22 @@ fn dates_of(value: Option<&str>) -> Result<Option<DateOrder>, NoCommand>
     }
 }
 
-/// What the query of a request asks for. `BadQuery` for another name, a name twice, and a wrong
-/// value; or out of memory.
-pub(crate) fn read_asked(alloc: Global, query: &str) -> Result<Asked, NoCommand>
-    ensures { MatchesExpected (asked_in (pairs_in query.now)) result }
+/// The number of the name, from 1 on; 1 if it isn't there.
+fn place_in(name: &str, pairs: &[(Text, Text)]) -> Result<u64, NoCommand>
+    ensures { MatchesExpected (place_in name.now pairs.now) result }
 {
-    let pairs = pairs_of(alloc, query.as_bytes())?;
-    let pairs = pairs.as_slice();
-    if !has_only_names(&NAMES, pairs) {
-        return Err(NoCommand::Fault(RouteFault::BadQuery));
-    }
+    let number = number_of(name, pairs)?;
+    place_of(number)
+}
+
+/// What the names and values of a query ask for. `BadQuery` for a wrong value; or out of memory.
+fn asked_of(alloc: Global, pairs: &[(Text, Text)]) -> Result<Asked, NoCommand>
+    ensures { MatchesExpected (asked_of pairs.now) result }
+{
     let more = flag_of(query_value("more", pairs))?;
     let dates = dates_of(query_value("dates", pairs))?;
-    let card = place_of(number_of("card", pairs)?)?;
-    let line = place_of(number_of("line", pairs)?)?;
+    let card = place_in("card", pairs)?;
+    let line = place_in("line", pairs)?;
     let columns = Text::copy_of(alloc, query_value("columns", pairs).unwrap_or(""))?;
     Ok(Asked {
         more,
@@ -95,4 +98,16 @@ pub(crate) fn read_asked(alloc: Global, query: &str) -> Result<Asked, NoCommand>
         columns,
         dates,
     })
+}
+
+/// What the query of a request asks for. `BadQuery` for another name, a name twice, and a wrong
+/// value; or out of memory.
+pub(crate) fn read_asked(alloc: Global, query: &str) -> Result<Asked, NoCommand>
+    ensures { MatchesExpected (asked_in (pairs_in query.now)) result }
+{
+    let pairs = pairs_of(alloc, query.as_bytes())?;
+    if !has_only_names(&NAMES, &pairs) {
+        return Err(NoCommand::Fault(RouteFault::BadQuery));
+    }
+    asked_of(alloc, &pairs)
 }
