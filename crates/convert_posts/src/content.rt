@@ -20,7 +20,7 @@ const FRONT_OCTETS: usize = 131_072;
 /// The most lines among which a header is.
 const HEAD_LINES: u32 = 5;
 
-/// The most cells in the lines among which a header is.
+/// The most cells of a line among which a header is.
 const CELLS_MAX: u64 = 1_000;
 
 /// The most columns of which something is said.
@@ -58,17 +58,15 @@ pub(crate) enum NotContent {
     Header,
 }
 
-/// The first lines of the head, with as many as a header may be in.
-fn first_lines(head: &[u8]) -> &[u8] {
-    let mut len: usize = 0;
-    for _line in 0..HEAD_LINES {
-        let rest = head.get(len..).unwrap_or(&[]);
-        match rest.iter().position(|octet| *octet == b'\n') {
-            Some(place) => len = len.saturating_add(place).saturating_add(1),
-            None => return head,
+/// The first line with its end, and the octets after it.
+fn split_line(octets: &[u8]) -> (&[u8], &[u8]) {
+    match octets.iter().position(|octet| *octet == b'\n') {
+        Some(place) => {
+            let len = place.saturating_add(1);
+            (front(octets, len), octets.get(len..).unwrap_or(&[]))
         }
+        None => (octets, &[]),
     }
-    front(head, len)
 }
 
 /// How many texts there are between separators, and how many of them aren't of ASCII.
@@ -96,9 +94,23 @@ impl Texts {
     }
 }
 
+/// The most cells of a line among which a header is, and the most of them that aren't of ASCII.
+fn widest_line(head: &[u8]) -> Texts {
+    let mut most = Texts { all: 0, wide: 0 };
+    let mut rest = head;
+    for _line in 0..HEAD_LINES {
+        let (line, after) = split_line(rest);
+        let cells = Texts::count(line, b",;\t|");
+        most.all = most.all.max(cells.all);
+        most.wide = most.wide.max(cells.wide);
+        rest = after;
+    }
+    most
+}
+
 /// Why no header is looked for: it would take too long.
 fn header_bound(head: &[u8], columns: &str) -> Option<&'static str> {
-    let cells = Texts::count(first_lines(head), b",;\t|\n");
+    let cells = widest_line(head);
     let entries = Texts::count(columns.as_bytes(), b",");
     let compared = cells.all.saturating_mul(entries.all);
     if cells.all > CELLS_MAX {
@@ -132,12 +144,22 @@ fn format_fault(body: &[u8]) -> Option<&'static str> {
     foreign_format(front(body, FRONT_OCTETS))
 }
 
+/// What a body has in which no header is looked for, as these words say. A later part without
+/// columns begins with text between cards.
+fn without_header<'a>(asked: &'a Asked, words: &'static str) -> Content<'a> {
+    if asked.line > 1 && asked.columns.is_empty() {
+        Content::Cards
+    } else {
+        Content::None(NotContent::Foreign(words))
+    }
+}
+
 /// What a body has that isn't of another format, no export, and begins with no card.
 fn contacts_in<'a>(alloc: Global, asked: &'a Asked, body: &[u8]) -> Result<Content<'a>, NoMemory> {
     let head = front(body, HEAD_OCTETS);
     let columns = asked.columns.as_str();
     if let Some(words) = header_bound(head, columns) {
-        return Ok(Content::None(NotContent::Foreign(words)));
+        return Ok(without_header(asked, words));
     }
     if !columns.is_empty() && wish_fault(alloc, head, columns)?.is_some() {
         return Ok(Content::None(NotContent::Columns));

@@ -121,9 +121,10 @@ fn front_row(kind: RowKind, text: &[u8], more: bool) -> (Front, u64) {
 
 /// The number of octets of the header, which is the first row of the text.
 pub(crate) fn header_len(kind: RowKind, text: &[u8]) -> usize {
-    match front_row(kind, text, false) {
-        (Front::Whole(count) | Front::Long(count), _) => count,
-        (Front::Open, _) => 0,
+    let (found, _) = front_row(kind, text, false);
+    match found {
+        Front::Whole(count) | Front::Long(count) => count,
+        Front::Open => 0,
     }
 }
 
