@@ -117,7 +117,8 @@ fn header_bound(head: &[u8], columns: &str) -> Option<&'static str> {
         Some("a header of more than 1,000 cells; convert it by `contacts convert`")
     } else if entries.all > ENTRIES_MAX {
         Some("--columns: it names more than 256 columns; name only some")
-    } else if compared > COMPARED_MAX || cells.wide.saturating_mul(entries.wide) > WIDE_COMPARED_MAX
+    } else if compared > COMPARED_MAX
+        || cells.wide.saturating_mul(entries.wide) > WIDE_COMPARED_MAX
     {
         Some("--columns: it names too many columns for so wide a header; name only some")
     } else {

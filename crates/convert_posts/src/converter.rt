@@ -26,12 +26,7 @@ impl Front for Converter {
 
     ghost answers = { conversions };
 
-    fn answer(
-        &self,
-        alloc: Global,
-        head: &Head,
-        body: &[u8],
-    ) -> Result<Option<Vec<u8>>, NoMemory> {
+    fn answer(&self, alloc: Global, head: &Head, body: &[u8]) -> Result<Option<Vec<u8>>, NoMemory> {
         if !is_for_convert(head.target.as_str()) {
             return Ok(None);
         }

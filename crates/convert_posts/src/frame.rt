@@ -74,11 +74,7 @@ pub(crate) fn open_part(alloc: Global, asked: &Asked, kind: Kind) -> Result<Part
 }
 
 /// A part whose one card or row isn't converted. `None` for any other.
-pub(crate) fn small_part(
-    alloc: Global,
-    frame: Frame,
-    cut: &Cut,
-) -> Result<Option<Part>, NoMemory>
+pub(crate) fn small_part(alloc: Global, frame: Frame, cut: &Cut) -> Result<Option<Part>, NoMemory>
     ensures taken { IfOk result (λ done. IfSome done (λ part. part.taken ≡ frame.taken)) }
     ensures passed { IfOk result (λ done. IfSome done IsPassed) }
 {

@@ -13,12 +13,7 @@ pub trait Front {
 
     /// The whole reply to a request of the front's own, and `None` for any other request. `NoMemory`
     /// if an allocation fails.
-    fn answer(
-        &self,
-        alloc: Global,
-        head: &Head,
-        body: &[u8],
-    ) -> Result<Option<Vec<u8>>, NoMemory>
+    fn answer(&self, alloc: Global, head: &Head, body: &[u8]) -> Result<Option<Vec<u8>>, NoMemory>
         ensures { IfOk result (λ reply.
             Gives answers head.now body.now (option_map (λ octets. octets.items) reply)) };
 }
