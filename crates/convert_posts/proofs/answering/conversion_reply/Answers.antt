@@ -9,5 +9,5 @@ use Rattle.convert_posts.proofs.answering.conversion_reply.Goals as goal
 pub returns-in-Ok : goal.returns-in-Ok
 returns-in-Ok c =
     IfOk-weaker c.json_bytes.result _ _
-    (λ reply is. part c.in-Ok.part c.in-Ok.ensures (is ∙ ap (λ data. json_octets 200 data c.args.close) c.in_ok-value.ensures))
+    (λ reply is. part c.in-Ok.part c.in-Ok.ensures (is ∙ ap (λ value. json_octets 200 value c.args.close) c.in_ok-value.ensures))
     (c.json_bytes.ensures (ap has_float c.in_ok-value.ensures ∙ part_has_no_float c.in-Ok.part))
