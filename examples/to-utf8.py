@@ -4,7 +4,8 @@
 Usage: examples/to-utf8.py OLD.vcf NEW.vcf
 
 For sets that `contacts convert` doesn't know, as GB2312, EUC-KR, Shift_JIS and Big5. Python has to
-know the set. A value in quoted-printable stays so, on one line. All other lines stay as they are.
+know the set. A value in quoted-printable stays so, on one line. All other lines stay as they are,
+but for their ends. NEW.vcf must not be there yet.
 """
 
 import quopri
@@ -20,13 +21,17 @@ def is_quoted(line):
 
 def joined(octets):
     """The lines, each with those that quoted-printable continues it by."""
-    lines = [b""]
+    lines, parts = [], []
     for line in octets.splitlines():
-        if is_quoted(lines[-1]) and lines[-1].endswith(b"="):
-            lines[-1] = lines[-1][:-1] + line
-        else:
-            lines.append(line)
-    return lines[1:]
+        is_cut = is_quoted(parts[0] if parts else line) and line.endswith(b"=")
+        parts.append(line[:-1] if is_cut else line)
+        if not is_cut:
+            lines.append(b"".join(parts))
+            parts = []
+    if parts:
+        # The file ends within a value: the sign that it goes on stays.
+        lines.append(b"".join(parts) + b"=")
+    return lines
 
 
 def in_utf8(line):
@@ -46,15 +51,14 @@ def in_utf8(line):
 def main():
     if len(sys.argv) != 3:
         sys.exit("usage: to-utf8.py OLD.vcf NEW.vcf")
-    with open(sys.argv[1], "rb") as old:
-        lines = joined(old.read())
     try:
-        made = [in_utf8(line) for line in lines]
-    except (LookupError, UnicodeDecodeError) as error:
-        sys.exit(f"to-utf8.py: nothing is written: {error}")
-    # A file that is there is never written over.
-    with open(sys.argv[2], "xb") as new:
-        new.writelines(line + b"\r\n" for line in made)
+        with open(sys.argv[1], "rb") as old:
+            made = [in_utf8(line) for line in joined(old.read())]
+        # A file that is there is never written over.
+        with open(sys.argv[2], "xb") as new:
+            new.writelines(line + b"\r\n" for line in made)
+    except (LookupError, OSError, UnicodeError) as error:
+        sys.exit(f"to-utf8.py: {error}")
 
 
 if __name__ == "__main__":

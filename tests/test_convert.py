@@ -185,7 +185,14 @@ class Convert(OrderTest):
         done = subprocess.run([sys.executable, ROOT / "examples/to-utf8.py", "old.vcf", "new.vcf"],
                               cwd=self.folder, capture_output=True)
         self.assertEqual((0, b""), (done.returncode, done.stderr))
-        ended = self.convert((self.folder / "new.vcf").read_bytes())
+        made = (self.folder / "new.vcf").read_bytes()
+        # A second time it writes over nothing, and says so.
+        done = subprocess.run(done.args, cwd=self.folder, capture_output=True)
+        self.assertEqual(1, done.returncode)
+        self.assertIn(b"File exists: 'new.vcf'", done.stderr)
+        self.assertNotIn(b"Traceback", done.stderr)
+        self.assertEqual(made, (self.folder / "new.vcf").read_bytes())
+        ended = self.convert(made)
         self.assertEqual(0, ended.status, ended)
         made = card("4.0", "UID:a", "FN:一\\, b", "N:亜;b=", "TEL:1")
         self.assertEqual(made, unfolded(rows_of(ended.out)[0][1].encode()))
