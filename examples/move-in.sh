@@ -42,8 +42,10 @@ synced() {
     [ "$(cat names)" = "$2" ] || { echo "move-in: wanted $2"; exit 1; }
 }
 
-convert radicale.vcf staff.csv '3 cards written, 3 changed, 0 not carried'
-convert google.csv clients.csv '3 cards written, 2 changed, 0 not carried'
+convert radicale.vcf staff.csv \
+    '3 cards written, 3 changed, 1 with parts kept aside, 0 not carried'
+convert google.csv clients.csv \
+    '3 cards written, 2 changed, 0 with parts kept aside, 0 not carried'
 expect 'rows 3' check staff.csv
 expect 'rows 3' check clients.csv
 

@@ -25,7 +25,7 @@ COPY = "copy [OPTIONS] <FILE> <NEW>"
 RESTORE = "restore [OPTIONS] <BACKUP> <FILE>"
 RESYNC = "resync [OPTIONS] <FILE>"
 CHECK = "check <FILE>"
-CONVERT = "convert [OPTIONS] <FILE>"
+CONVERT = "convert [OPTIONS] <FILE>..."
 BOOKS = "books <FILE>"
 VERIFY = "verify <FILE>"
 
@@ -135,7 +135,7 @@ MISSING = [
     ("resync", missing("<FILE>", "resync <FILE>")),
     ("resync --skip 2", missing("<FILE>", "resync --skip <N> <FILE>")),
     ("check", missing("<FILE>", CHECK)),
-    ("convert", missing("<FILE>", "convert <FILE>")),
+    ("convert", missing("<FILE>...", "convert <FILE>...")),
     ("books", missing("<FILE>", BOOKS)),
     ("verify", missing("<FILE>", VERIFY)),
 ]
@@ -163,7 +163,6 @@ TOO_MANY = [
     ("restore a.db b.db c.db", unexpected("c.db", RESTORE)),
     ("resync a.db b.db", unexpected("b.db", RESYNC)),
     ("check a.csv b.csv", unexpected("b.csv", CHECK)),
-    ("convert a.vcf b.vcf", unexpected("b.vcf", CONVERT)),
     ("books a.db staff", unexpected("staff", BOOKS)),
     ("verify a.db b.db", unexpected("b.db", VERIFY)),
 ]
@@ -258,6 +257,9 @@ NO_VALUES = [
     ("run a.db --socket", no_value("--socket <PATH>")),
     ("run --socket --port 1 a.db", no_value("--socket <PATH>")),
     ("convert a.vcf --to", no_value("--to <DIR>")),
+    ("convert a.vcf --columns", no_value("--columns <COLUMNS>")),
+    ("convert a.vcf --charset", no_value("--charset <CHARSET>")),
+    ("convert a.vcf --report", no_value("--report <REPORT>")),
     ("export a.db staff --form", no_value("--form <F>")),
     ("resync a.db --skip", no_value("--skip <N>")),
     ("mirror a.db staff --limit", no_value("--limit <L>")),
@@ -338,9 +340,32 @@ SOCKET_AND_PORT = [
     for arguments in ["run a.db --socket s --port 8080", "run --port=0 --socket=s a.db --log"]
 ]
 
+# The day and the month don't both come first.
+BOTH_ORDERS = [
+    (arguments, error("the argument '--day-first' cannot be used with '--month-first'", CONVERT))
+    for arguments in ["convert a.csv --day-first --month-first",
+                      "convert --month-first --rows 2 --day-first a.csv"]
+]
+
 NO_FORMS = [
     ("export a.db staff --form rows", no_form("rows")),
     ("export a.db staff --form=CARDS", no_form("CARDS")),
+]
+
+# vCards of a version that there isn't, with a form, or a version without them.
+NO_VERSIONS = [
+    *((f"export a.db staff --vcf --as {version}",
+       error(f"invalid value '{version}' for '--as <V>'\n  [possible values: 4.0, 3.0]"))
+      for version in ["2.1", "3", "4"]),
+    ("export a.db staff --vcf --form cards",
+     error("the argument '--vcf' cannot be used with '--form <F>'", EXPORT)),
+    ("export --form=columns a.db staff --as 3.0 --vcf",
+     error("the argument '--vcf' cannot be used with '--form <F>'", EXPORT)),
+    ("export a.db staff --as 3.0", error("the argument '--as <V>' needs '--vcf'", EXPORT)),
+    ("export a.db staff --as=4.0 --form cards",
+     error("the argument '--as <V>' needs '--vcf'", EXPORT)),
+    ("export a.db staff --vcf --vcf", twice("--vcf", EXPORT)),
+    ("export a.db staff --vcf --as 3.0 --as 3.0", twice("--as <V>", EXPORT)),
 ]
 
 # Arguments that ask for an order on a.db, whatever the values of its options.
@@ -375,6 +400,9 @@ GOOD = [
     "export a.db staff",
     "export a.db staff --form columns",
     "export --form=cards a.db staff",
+    "export a.db staff --vcf",
+    "export --as 3.0 --vcf a.db staff",
+    "export a.db staff --vcf --as=4.0",
     "tally a.db staff",
     "tally -- a.db staff",
     "tally a.db -- staff",
@@ -406,4 +434,4 @@ GOOD = [
 ]
 
 BAD = [*MISSING, *TOO_MANY, *UNKNOWN_ORDERS, *UNKNOWN_OPTIONS, *DOUBLED, *NO_VALUES, *NO_NUMBERS,
-       *SOCKET_AND_PORT, *NO_FORMS]
+       *SOCKET_AND_PORT, *BOTH_ORDERS, *NO_FORMS, *NO_VERSIONS]

@@ -4,8 +4,8 @@ the README of crates/contact_csv; the UIDs by Python's csv, hashlib and uuid.
 
 from collections import namedtuple
 
-# What is shown, the octets of the file, the lines of the card once unfolded, and the report.
-Export = namedtuple("Export", "title octets card report")
+# What is shown, the octets of the file, the lines of the card once unfolded, and its changes.
+Export = namedtuple("Export", "title octets card changes")
 
 GOOGLE_TODAY = """\
 First Name,Middle Name,Last Name,Phonetic First Name,Phonetic Middle Name,Phonetic Last Name,\
@@ -51,9 +51,8 @@ EXPORTS = [
             "item3.X-ABLABEL:Shoe size",
             "FN:Dr. Ann Lee",
         ],
-        "row 1, line 2: the cell of Birthday rewritten\n"
-        "row 1, line 2: the cell of Event 1 - Value rewritten\n"
-        "1 cards written, 1 changed, 0 not carried\n",
+        ["row 1, line 2: the cell of Birthday rewritten",
+         "row 1, line 2: the cell of Event 1 - Value rewritten"],
     ),
     Export(
         "Outlook's, with semicolons; columns without a property, and a row without a value",
@@ -81,10 +80,9 @@ EXPORTS = [
             "X-E-MAIL-TYPE:SMTP",
             "X-GENDER:Unspecified",
         ],
-        "row 1, line 2: the cell of E-mail Type kept as X-E-MAIL-TYPE\n"
-        "row 1, line 2: the cell of Birthday rewritten\n"
-        "row 1, line 2: the cell of Gender kept as X-GENDER\n"
-        "1 cards written, 1 changed, 0 not carried\n",
+        ["row 1, line 2: the cell of E-mail Type kept as X-E-MAIL-TYPE",
+         "row 1, line 2: the cell of Birthday rewritten",
+         "row 1, line 2: the cell of Gender kept as X-GENDER"],
     ),
     Export(
         "Google's older columns after a byte order mark; a date without a year",
@@ -106,8 +104,7 @@ EXPORTS = [
             "TITLE:Boss",
             "TEL;TYPE=home,fax:+1 555",
         ],
-        "row 1, line 2: the cell of Birthday rewritten\n"
-        "1 cards written, 1 changed, 0 not carried\n",
+        ["row 1, line 2: the cell of Birthday rewritten"],
     ),
     Export(
         "tabs; no name but a telephone; a date that is none; a line end and a control character",
@@ -121,9 +118,8 @@ EXPORTS = [
             "FN:555",
             "X-NOTES:again",
         ],
-        "row 1, line 2: the cell of Birthday kept as text: its day, month or year isn't certain\n"
-        "row 1, line 2: the cell of Notes kept as X-NOTES\n"
-        "1 cards written, 1 changed, 0 not carried\n",
+        ["row 1, line 2: the cell of Birthday kept as text: its day, month or year isn't certain",
+         "row 1, line 2: the cell of Notes kept as X-NOTES"],
     ),
     Export(
         "an octet that isn't UTF-8 is a character of Latin-1",
@@ -134,7 +130,7 @@ EXPORTS = [
             "EMAIL:a@x.test",
             "FN:A\u00ff",
         ],
-        "1 cards written, 0 changed, 0 not carried\n",
+        [],
     ),
 ]
 

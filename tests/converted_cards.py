@@ -21,6 +21,10 @@ NAMESPACE = uuid.UUID("6ba7b812-9dad-11d1-80b4-00c04fd430c8")
 PNG = "iVBORw0KGgoAAAANSUhEUgAAAAEAAAABCAQAAAC1HAwCAAAAC0lEQVR42mNk+A8AAQUBAScY42YAAAAASUVORK5CYII="
 
 
+# A text of 150 octets without white space.
+LONG_WORD = "abcdefghij" * 15
+
+
 def card(version, *lines):
     return ["BEGIN:VCARD", f"VERSION:{version}", *lines, "END:VCARD"]
 
@@ -101,6 +105,23 @@ CARDS = [
         card("3.0", "UID:a", "FN:Ann", "LABEL;TYPE=home:1 Park Lane\\nLondon"),
         ["UID:a", "FN:Ann", "ADR;TYPE=home;LABEL=\"1 Park Lane^nLondon\":;;;;;;"],
         ["line 5: LABEL renamed"],
+    ),
+    Converted(
+        "labels go onto the addresses of their types, in order, also of those that come later; one "
+        "too many is an address of its own",
+        card("3.0", "UID:a", "FN:Ann", "LABEL;TYPE=work:W1", "ADR;TYPE=HOME:;;h1;;;;",
+             "ADR;TYPE=work,pref:;;w1;;;;", "item1.ADR;TYPE=dom,work:;;w2;;;;",
+             "ADR;TYPE=work;LABEL=own:;;w3;;;;", "LABEL;TYPE=HOME,postal:H1",
+             "LABEL;TYPE=work:W2\\nTown", "LABEL;TYPE=work:W3", "LABEL:O"),
+        ["UID:a", "FN:Ann", "ADR;TYPE=home;LABEL=\"H1\":;;h1;;;;",
+         "ADR;TYPE=work;PREF=1;LABEL=\"W1\":;;w1;;;;",
+         "item1.ADR;TYPE=dom,work;LABEL=\"W2^nTown\":;;w2;;;;",
+         "ADR;TYPE=work;LABEL=own:;;w3;;;;", "ADR;TYPE=work;LABEL=\"W3\":;;;;;;",
+         "ADR;LABEL=\"O\":;;;;;;"],
+        ["line 5: LABEL joined to its ADR", "line 6: ADR given a LABEL",
+         "line 7: ADR given a LABEL", "line 8: ADR given a LABEL",
+         "line 10: LABEL joined to its ADR",
+         "line 11: LABEL joined to its ADR", "line 12: LABEL renamed", "line 13: LABEL renamed"],
     ),
     Converted(
         "a line that is no property is kept",
@@ -214,11 +235,12 @@ CARDS = [
             "X-ANDROID-CUSTOM:vnd.android.cursor.item/nickname;Bo;1;;",
             "UID:a",
         ),
-        ["N:Kim;Bo", "ADR;TYPE=work;PREF=1:;;1 Park Lane;London;;;UK",
-         "ADR;TYPE=work;LABEL=\"1 Park Lane^n^'London^'\":;;;;;;", "ORG:Müller\\, Ltd",
+        ["N:Kim;Bo",
+         "ADR;TYPE=work;PREF=1;LABEL=\"1 Park Lane^n^'London^'\":;;1 Park Lane;London;;;UK",
+         "ORG:Müller\\, Ltd",
          "NOTE:C:\\\\temp", "X-ANDROID-CUSTOM:vnd.android.cursor.item/nickname;Bo;1;;", "UID:a",
          "FN:Bo Kim"],
-        ["line 4: ADR rewritten", "line 5: LABEL renamed", "line 6: ORG rewritten",
+        ["line 4: ADR given a LABEL", "line 5: LABEL joined to its ADR", "line 6: ORG rewritten",
          "line 7: NOTE rewritten", "line 1: FN added"],
     ),
     Converted(
@@ -370,6 +392,26 @@ CARDS = [
          "line 7: ORG rewritten", "line 8: TITLE rewritten"],
     ),
     Converted(
+        "an empty FN gets the name that N gives (RFC 6350, section 6.2.1: a card has an FN)",
+        card("3.0", "UID:a", "FN:", "N:Lee;Pat;;Dr.;"),
+        ["UID:a", "FN:Dr. Pat Lee", "N:Lee;Pat;;Dr.;"],
+        ["line 4: FN was empty and got a name"],
+    ),
+    Converted(
+        "an empty FN of a card without N: the organisation's name; the card's text is read twice",
+        card("2.1", "FN;ENCODING=QUOTED-PRINTABLE:", "UID:a", "N:;;;;", "ORG:Lee, Ltd;Sales",
+             "X-ADDRESSBOOKSERVER-MEMBER:b"),
+        ["FN:Lee\\, Ltd", "UID:a", "N:;;;;", "ORG:Lee\\, Ltd;Sales", "X-MEMBER:b"],
+        ["line 3: FN was empty and got a name", "line 6: ORG rewritten",
+         "line 7: X-ADDRESSBOOKSERVER-MEMBER kept under another name"],
+    ),
+    Converted(
+        "an empty FN stays beside one that isn't, and where no line gives a name",
+        card("3.0", "UID:a", "FN:", "FN:Ann", "N:Lee;Pat"),
+        ["UID:a", "FN:", "FN:Ann", "N:Lee;Pat"],
+        [],
+    ),
+    Converted(
         "a line break of CR alone, of LF alone and of both",
         card("2.1", "UID:a", "FN:Ann",
              "NOTE;ENCODING=QUOTED-PRINTABLE:a=0Db=0Ac=0D=0Ad=0A=0De=0D=0D"),
@@ -387,6 +429,35 @@ CARDS = [
         card("3.0", "UID:a", "FN:Ann", "ADR;X-A=\"1^n2\";X-B=^:;;;;;;"),
         ["UID:a", "FN:Ann", "ADR;X-A=\"1^^n2\";X-B=^^:;;;;;;"],
         ["line 5: ADR rewritten"],
+    ),
+    Converted(
+        "a line of vCard 2.1 that Qt cut at 76 octets: the space before the rest isn't the "
+        "value's, but a second one is",
+        card("2.1", "UID:a", "FN:Ann", "NOTE:" + LONG_WORD[:71], " " + LONG_WORD[71:146],
+             " " + LONG_WORD[146:], "TITLE:" + LONG_WORD[:70], "  " + LONG_WORD),
+        ["UID:a", "FN:Ann", "NOTE:" + LONG_WORD, "TITLE:" + LONG_WORD[:70] + " " + LONG_WORD],
+        [],
+    ),
+    Converted(
+        "a card of vCard 2.1 in which one line is folded that isn't full: each is folded at white "
+        "space, which the values keep",
+        card("2.1", "UID:a", "FN:Ann", "NOTE:" + LONG_WORD[:71], " " + LONG_WORD,
+             "TITLE:Head", " of sales"),
+        ["UID:a", "FN:Ann", "NOTE:" + LONG_WORD[:71] + " " + LONG_WORD, "TITLE:Head of sales"],
+        [],
+    ),
+    Converted(
+        "vCard 4.0 has no ENCODING: a photo is a URI, and a note is a text (RFC 6350, sections "
+        "6.2.4 and 6.7.2); the other lines stay as they are",
+        card("4.0", "UID:a", "FN:Ann", "PHOTO;ENCODING=b;TYPE=PNG:" + PNG,
+             "LOGO;MEDIATYPE=image/png;encoding=BASE64:" + PNG,
+             "KEY;ENCODING=b:data:application/pgp-keys;base64,AAAA",
+             "NOTE;ENCODING=QUOTED-PRINTABLE:a=3Db=0Ac", "TEL;TYPE=\"Home\":1"),
+        ["UID:a", "FN:Ann", "PHOTO:data:image/png;base64," + PNG,
+         "LOGO;MEDIATYPE=image/png:data:image/png;base64," + PNG,
+         "KEY:data:application/pgp-keys;base64,AAAA", "NOTE:a=b\\nc", "TEL;TYPE=\"Home\":1"],
+        ["line 5: PHOTO rewritten", "line 6: LOGO rewritten", "line 7: KEY rewritten",
+         "line 8: NOTE rewritten"],
     ),
     Converted(
         "ENCODING beside a URI says nothing (RFC 6350, section 6.2.4: PHOTO is a URI)",

@@ -20,7 +20,7 @@ book's initial report
   run      Serve the books over HTTP on 127.0.0.1, or at a Unix socket, until it is stopped
   serve    Serve one connection after another over HTTP on 127.0.0.1
   import   Import cards from a CSV file into a book
-  export   Write the cards of a book to standard output as CSV
+  export   Write the cards of a book to standard output as CSV or as vCards
   tally    Print how many cards a book has, and counts of its changes by kind
   forget   Forget the removals recorded in a book up to a change number
   mirror   Sync a book to a new device page by page, and print the device's copy
@@ -185,7 +185,7 @@ imported or none. A card may have up to 262,144 bytes, and a book up to 10,000 c
 """
 
 HELP["export"] = """\
-Write the cards of a book to standard output as CSV
+Write the cards of a book to standard output as CSV or as vCards
 
 Usage: contacts export [OPTIONS] <FILE> <BOOK>
 
@@ -196,10 +196,14 @@ Arguments:
 Options:
       --form <F>  CSV format: `cards` for a UID and a vCard per row, `columns` for one property \
 per column [default: cards]
+      --vcf       Write one file of vCards in place of CSV
+      --as <V>    With --vcf, the version of the vCards: `4.0`, or `3.0` for phones and Outlook \
+[default: 4.0]
   -h, --help      Print help
 
-Example:
+Examples:
   contacts export office.db staff --form columns > people.csv
+  contacts export office.db staff --vcf --as 3.0 > people.vcf
 """
 
 HELP["tally"] = """\
@@ -309,8 +313,8 @@ The copy is one file, without a log beside it. It was opened and compared before
 It holds no text of a card that was removed or replaced, nor of a book that is left out. While a \
 server has the file open, it can't be copied.
 
-If a book is left out, the others keep their names and cards, but get new ids. So every device \
-copies them anew, as after `resync`.
+If a book is left out, those made after it keep their names and cards, but get new ids. So every \
+device copies them anew, as after `resync`.
 """
 
 HELP["restore"] = """\
@@ -377,25 +381,38 @@ refused, with status 1.
 HELP["convert"] = """\
 Convert cards and contacts of other programs to vCard 4.0, as CSV for `import`
 
-Usage: contacts convert [OPTIONS] <FILE>
+Usage: contacts convert [OPTIONS] <FILE>...
 
 Arguments:
-  <FILE>  vCards of version 2.1, 3.0 or 4.0, CSV of Google or Outlook, or rows of `export`
+  <FILE>...  vCards of version 2.1, 3.0 or 4.0, a spreadsheet of contacts as CSV, or rows of \
+`export`; several files become one output
 
 Options:
-      --to <DIR>         Existing folder to write files to: one `.vcf` file per card, or the CSV \
+      --to <DIR>           Existing folder to write files to: one `.vcf` file per card, or the CSV \
 files of --rows and --octets
-      --rows <ROWS>      Write several CSV files, each with at most this number of rows, 1 to 10000
-      --octets <OCTETS>  Write several CSV files, each of at most this number of bytes, 1 to 8388608
-  -h, --help             Print help
+      --rows <ROWS>        Write several CSV files, each with at most this number of rows, 1 to 10000
+      --octets <OCTETS>    Write several CSV files, each of at most this number of bytes, 1 to 8388608
+      --day-first          Dates such as 05/04/1980 have the day first
+      --month-first        Dates such as 05/04/1980 have the month first
+      --columns <COLUMNS>  What columns of a spreadsheet become, as \
+'Name=fn,Mail=email;type=work,#3=-': a column's name, or # and its number, and one of fn, n.family, \
+n.given, n.additional, n.prefix, n.suffix, nickname, org, org.unit, title, role, email, tel, adr, \
+adr.street, adr.city, adr.region, adr.code, adr.country, adr.box, adr.extended, url, bday, \
+anniversary, note, categories, uid, gender, lang, impp, or - to leave it out
+      --charset <CHARSET>  Character set of the file: UTF-8, UTF-16, ISO-8859-1 to -16, \
+windows-1250 to -1258 or -874, KOI8-R or KOI8-U
+      --report <REPORT>    New file for all lines of the report, one for each line of a card that \
+was changed
+  -h, --help               Print help
 
 Example:
   contacts convert phone.vcf > people.csv
 
-Needs no store file. Standard error gets a line for each line of a card that was changed, a line \
-for each card that can't be carried over, and their numbers. The status is 1 if a card wasn't \
-carried over. With --rows or --octets the files are named after FILE, `phone-1.csv`, `phone-2.csv` \
-and so on, beside FILE or in the folder. No file is overwritten.
+Needs no store file. Standard error gets a line for each card whose content changed or that can't \
+be carried over, how often each other change came, and the numbers of cards. The status is 1 if a \
+card wasn't carried over. With --rows or --octets the files are named after the first FILE, \
+`phone-1.csv`, `phone-2.csv` and so on, beside it or in the folder. No file is overwritten, and \
+nothing is written before each FILE is known to be one that is converted.
 """
 
 HELP["books"] = """\

@@ -4,17 +4,22 @@ The expected cards are in converted_cards.py, worked out by hand. Whatever is co
 `check` and an import, and the same file gives the same octets.
 """
 
+import base64
 import csv
 import io
 import random
 import re
+import resource
+import subprocess
+import sys
 import unittest
 import uuid
 
 from card_rows import octets as octets_of
+from conversion_reports import digest
 from converted_cards import ADDED_UID, CARDS, added_uid, card
 from order_trials import OrderTest
-from program import Ended, run
+from program import ROOT, Ended, run
 
 HEAD = b"uid,vcard\n"
 
@@ -32,7 +37,6 @@ PIECES = [
       b"\xef\xbb\xbfBegin:vCard\nFN:Cy\nEND:VCARD"],
      ["card 1, line 1: UID added", "card 2, line 3: UID added", "card 3, line 5: UID added"]),
 ]
-
 
 # Names of character sets, each with the name of Python's codec. What is called ISO/IEC 8859-1, -9 or
 # -11 is mostly Windows-1252, -1254 or -874, which only have more characters.
@@ -55,13 +59,18 @@ def unfolded(octets):
     return octets.decode().replace("\r\n ", "").split("\r\n")[:-1]
 
 
+# A row may have a card of 262,144 octets.
+csv.field_size_limit(1_000_000)
+
+
 def rows_of(octets):
     """The rows of a CSV text, without the header."""
     return list(csv.reader(io.StringIO(octets.decode(), newline="")))[1:]
 
 
-def summary(written, changed, refused):
-    return b"%d cards written, %d changed, %d not carried\n" % (written, changed, refused)
+def report(lines, written, changed, refused, files=None):
+    """What is printed where these are the lines of the report."""
+    return digest(lines, written, changed, refused, files).encode()
 
 
 class Convert(OrderTest):
@@ -85,21 +94,35 @@ class Convert(OrderTest):
         self.assertEqual(0, ended.status, ended)
 
     def test_cards(self):
-        for title, lines, wanted, report in CARDS:
-            for end in "\r\n", "\n":
+        for title, lines, wanted, changes in CARDS:
+            for end in "\r\n", "\n", "\r":
                 with self.subTest(title, end=end):
                     octets = octets_of(text(lines, end))
                     ended = self.convert(octets)
                     rows = rows_of(ended.out)
                     self.assertEqual(1, len(rows), ended)
-                    uid = "UID:" + added_uid(octets)
+                    # A carriage return that ends lines is read as a line feed.
+                    read = octets.replace(b"\r", b"\n") if end == "\r" else octets
+                    uid = "UID:" + added_uid(read)
                     made = card("4.0", *(uid if it == ADDED_UID else it for it in wanted))
                     self.assertEqual(made, unfolded(rows[0][1].encode()))
-                    lines_of_report = [f"card 1, {line}\n" for line in report]
-                    due = "".join(lines_of_report).encode() + summary(1, bool(report), 0)
+                    listed = [f"card 1, {line}" for line in changes]
+                    due = report(listed, 1, bool(changes), 0)
                     self.assertEqual((0, due), (ended.status, ended.err))
                     self.assertEqual(ended, self.convert(octets), "not the same again")
                     self.imported(ended.out, 1)
+
+    def test_a_report_in_a_file(self):
+        """It has a line for each change, and then what is printed at the end."""
+        for title, lines, _wanted, changes in CARDS:
+            with self.subTest(title):
+                ended = self.convert(octets_of(text(lines)), "--report", "r.txt")
+                file = self.folder / "r.txt"
+                listed = "".join(f"card 1, {line}\n" for line in changes)
+                told = [it for it in ended.err.decode().splitlines(True) if it.startswith("card 1, ")]
+                end = ended.err.decode().removeprefix("".join(told))
+                self.assertEqual(listed + end, file.read_text(encoding="utf-8"))
+                file.unlink()
 
     def test_encodings(self):
         lines = card("3.0", "UID:a", "FN:Zoë Ångström")
@@ -107,6 +130,11 @@ class Convert(OrderTest):
             ("UTF-8 with its mark", b"\xef\xbb\xbf" + text(lines).encode()),
             ("UTF-16, low octet first", b"\xff\xfe" + text(lines).encode("utf-16-le")),
             ("UTF-16, high octet first", b"\xfe\xff" + text(lines).encode("utf-16-be")),
+            ("UTF-16 without a mark, low octet first", text(lines).encode("utf-16-le")),
+            ("UTF-16 without a mark, high octet first", text(lines).encode("utf-16-be")),
+            ("UTF-16 whose lines end with CR alone", text(lines, "\r").encode("utf-16")),
+            ("UTF-8 with its mark, lines that end with CR alone",
+             b"\xef\xbb\xbf" + text(lines, "\r").encode()),
             ("Latin-1", text(lines).encode("latin-1")),
         ]:
             with self.subTest(title):
@@ -131,6 +159,63 @@ class Convert(OrderTest):
                         made = card("4.0", "UID:a", "FN:A", "NOTE:" + wanted)
                         self.assertEqual(made, unfolded(rows_of(ended.out)[0][1].encode()))
 
+    def test_charsets_that_are_not_known(self):
+        """A card whose text depends on one is refused by its name; one of ASCII isn't."""
+        ann = text(card("2.1", "UID:b", "FN:Ann"))
+        for name, value in [("GB2312", "\udcd2\udcbb"), ("EUC-KR", "\udcb0\udca1"),
+                            ("Shift_JIS", "\udc88\udc9f"), ("Big5", "\udca4@"),
+                            ("ISO-2022-JP", "\x1b$B0l\x1b(B")]:
+            for encoding in "", ";ENCODING=QUOTED-PRINTABLE":
+                with self.subTest(name, encoding=encoding):
+                    if encoding:
+                        value = "".join(f"={octet:02X}" for octet in octets_of(value))
+                    bad = text(card("2.1", "UID:a", f"FN;CHARSET={name}{encoding}:{value}"))
+                    good = text(card("2.1", "UID:c", f"FN;CHARSET={name}{encoding}:Cy"))
+                    ended = self.convert(octets_of(bad + ann + good))
+                    lines = [f"card 1, line 1: not carried: the charset {name} isn't known: "
+                             "export the card in UTF-8", "card 3, line 14: FN rewritten"]
+                    self.assertEqual((1, report(lines, 2, 1, 1)), (ended.status, ended.err))
+                    self.assertEqual(["b", "c"], [row[0] for row in rows_of(ended.out)])
+
+    def test_other_character_sets(self):
+        """A program in Python makes UTF-8 of them."""
+        lines = card("2.1", "UID:a", "FN;CHARSET=GB2312:\udcd2\udcbb, b",
+                     "N;CHARSET=Shift_JIS;ENCODING=QUOTED-PRINTABLE:=88=9F;b=\r\n=3D", "TEL:1")
+        (self.folder / "old.vcf").write_bytes(octets_of(text(lines)))
+        done = subprocess.run([sys.executable, ROOT / "examples/to-utf8.py", "old.vcf", "new.vcf"],
+                              cwd=self.folder, capture_output=True)
+        self.assertEqual((0, b""), (done.returncode, done.stderr))
+        made = (self.folder / "new.vcf").read_bytes()
+        # A second time it writes over nothing, and says so.
+        done = subprocess.run(done.args, cwd=self.folder, capture_output=True)
+        self.assertEqual(1, done.returncode)
+        self.assertIn(b"File exists: 'new.vcf'", done.stderr)
+        self.assertNotIn(b"Traceback", done.stderr)
+        self.assertEqual(made, (self.folder / "new.vcf").read_bytes())
+        ended = self.convert(made)
+        self.assertEqual(0, ended.status, ended)
+        made = card("4.0", "UID:a", "FN:一\\, b", "N:亜;b=", "TEL:1")
+        self.assertEqual(made, unfolded(rows_of(ended.out)[0][1].encode()))
+
+    def test_photos_that_are_too_large(self):
+        """A card of at most 262,144 octets keeps its photo, and a longer one is carried without."""
+        for version, kind in [("3.0", "PHOTO"), ("2.1", "LOGO"), ("3.0", "SOUND")]:
+            for size, is_kept in [(100_000, True), (200_000, False)]:
+                with self.subTest(version, kind=kind, size=size):
+                    photo = base64.b64encode(b"\xff\xd8\xff" + bytes(size)).decode()
+                    lines = card(version, "UID:a", "FN:Ann", f"{kind};ENCODING=BASE64:" + photo,
+                                 "PHOTO:http://a.test/b.png", "TEL:1")
+                    ended = self.convert(text(lines).encode())
+                    what = "rewritten" if is_kept else "left out"
+                    due = report([f"card 1, line 5: {kind} {what}"], 1, 1, 0)
+                    self.assertEqual((0, due), (ended.status, ended.err))
+                    media = "audio/basic" if kind == "SOUND" else "image/jpeg"
+                    kept = [f"{kind}:data:{media};base64,{photo}"] if is_kept else []
+                    made = card("4.0", "UID:a", "FN:Ann", *kept, "PHOTO:http://a.test/b.png",
+                                "TEL:1")
+                    self.assertEqual(made, unfolded(rows_of(ended.out)[0][1].encode()))
+                    self.imported(ended.out, 1)
+
     def test_a_character_of_two_units(self):
         """RFC 2781, section 5: the Egyptian god Ra as a character, an equals sign, and his name."""
         before, after = text(card("3.0", "UID:a", "FN:|")).split("|")
@@ -147,27 +232,26 @@ class Convert(OrderTest):
         """A head of 50,000 folds before 50,000 lines of base64 is one line."""
         folded = ["X", *50_000 * [" ="], " ;BASE64", *50_000 * ["A"]]
         ended = self.convert(text(card("3.0", "UID:a", "FN:Ann", *folded), "\n").encode())
-        report = b"card 1, line 5: kept as X-UNREADABLE\n" + summary(1, 1, 0)
-        self.assertEqual((0, report), (ended.status, ended.err))
+        due = report(["card 1, line 5: kept as X-UNREADABLE"], 1, 1, 0)
+        self.assertEqual((0, due), (ended.status, ended.err))
         kept = "X-UNREADABLE:X" + 50_000 * "=" + "\\;BASE64" + 50_000 * "A"
         wanted = card("4.0", "UID:a", "FN:Ann", kept)
         self.assertEqual(wanted, unfolded(rows_of(ended.out)[0][1].encode()))
 
     def test_pieces(self):
-        for title, pieces, report in PIECES:
+        for title, pieces, lines in PIECES:
             with self.subTest(title):
                 ended = self.convert(b"".join(pieces))
                 uids = [added_uid(piece) for piece in pieces if piece.strip()]
                 self.assertEqual(uids, [row[0] for row in rows_of(ended.out)])
-                lines = "".join(line + "\n" for line in report).encode()
-                self.assertEqual(lines + summary(len(uids), len(uids), 0), ended.err)
+                self.assertEqual(report(lines, len(uids), len(uids), 0), ended.err)
                 self.assertEqual(0, ended.status)
 
     def test_joined_files(self):
         """The first of two joined files has no line feed at its end."""
         first, second = text(card("3.0", "UID:a", "FN:Ann")), text(card("3.0", "UID:b", "FN:Bob"))
         ended = self.convert((first.removesuffix("\r\n") + second).encode())
-        self.assertEqual((0, summary(2, 0, 0)), (ended.status, ended.err))
+        self.assertEqual((0, report([], 2, 0, 0)), (ended.status, ended.err))
         self.assertEqual([["a", "Ann"], ["b", "Bob"]], [
             [uid, unfolded(vcard.encode())[3].partition(":")[2]]
             for uid, vcard in rows_of(ended.out)
@@ -183,38 +267,80 @@ class Convert(OrderTest):
             self.assertEqual(5, uuid.UUID(uid).version)
         self.assertEqual(added_uid(octets), uids[0])
         self.assertEqual(uids[0], rows_of(self.convert(octets).out)[0][0])
-        report = b"card 1, line 1: UID added\ncard 2, line 5: UID added\n" + summary(2, 2, 0)
-        self.assertEqual(report, ended.err)
+        lines = ["card 1, line 1: UID added", "card 2, line 5: UID added"]
+        self.assertEqual(report(lines, 2, 2, 0), ended.err)
 
     def test_what_is_not_carried(self):
         ann = text(card("4.0", "UID:a", "FN:Ann"))
-        for title, octets, written, report in [
+        for title, octets, written, line in [
             ("no octet", "", 0, ""),
             ("blank lines between cards", "\n\n" + ann + "\r\n \n", 1, ""),
             ("words between cards", ann + "words\nmore\n" + ann.replace("UID:a", "UID:b"), 2,
-             "line 6: not carried: no card begins here\n"),
-            ("a UID twice", ann + ann, 1,
-             "card 2, line 6: not carried: an earlier card has the same UID\n"),
+             "line 6: not carried: no card begins here"),
             ("too long", ann.replace("Ann", "x" * 270_000), 0,
-             "card 1, line 1: not carried: the text is too long\n"),
+             "card 1, line 1: not carried: the text is too long"),
             ("too long in vCard 3.0", "BEGIN:VCARD\nVERSION:3.0\nNOTE:" + "a" * 262_144, 0,
-             "card 1, line 1: not carried: the text is too long\n"),
-            ("no card", "x", 0, "line 1: not carried: no card begins here\n"),
+             "card 1, line 1: not carried: the text is too long"),
+            ("no card", "x", 0, "line 1: not carried: no card begins here"),
         ]:
             with self.subTest(title):
                 ended = self.convert(octets.encode())
-                refused = bool(report)
-                self.assertEqual(report.encode() + summary(written, 0, refused), ended.err)
+                refused = int(bool(line))
+                self.assertEqual(report([line] * refused, written, 0, refused), ended.err)
                 self.assertEqual(int(refused), ended.status)
                 self.assertEqual(written, len(rows_of(ended.out)))
                 self.assertTrue(ended.out.startswith(HEAD))
+
+    def test_a_line_of_a_million_parameters(self):
+        """It isn't carried, in 60 MB of memory; 65,536 semicolons are, and the cards around it."""
+        ann, bob = (text(card("3.0", f"UID:{name}", f"FN:{name}")) for name in ("Ann", "Bob"))
+        crammed = text(card("3.0", "UID:c", "FN:C", "TEL" + ";A=1" * 1_000_000 + ":1"))
+
+        def bounded():
+            resource.setrlimit(resource.RLIMIT_AS, (60_000_000, 60_000_000))
+
+        (self.folder / "cards.vcf").write_bytes((ann + crammed + bob).encode())
+        ended = run("convert", "cards.vcf", cwd=self.folder, preexec_fn=bounded)
+        lines = ["card 2, line 6: not carried: the card has more than 65,536 semicolons"]
+        self.assertEqual((1, report(lines, 2, 0, 1)), (ended.status, ended.err))
+        self.assertEqual(["Ann", "Bob"], [row[0] for row in rows_of(ended.out)])
+        for count, carried in (65_536, 1), (65_537, 0):
+            octets = text(card("4.0", "UID:a", "FN:A", "NOTE:" + ";" * count)).encode()
+            ended = self.convert(octets)
+            self.assertEqual((1 - carried, carried), (ended.status, len(rows_of(ended.out))))
+
+    def test_a_uid_twice(self):
+        """The same card is passed, however often it comes. Another one is kept under a UID that is
+        computed from its text, which is canonical here."""
+        ann, bob = (text(card("4.0", "UID:a", f"FN:{name}")) for name in ("Ann", "Bob"))
+        old = text(card("3.0", "UID:a", "FN:Ann"), "\n")
+        own = added_uid(bob.encode())
+        ended = self.convert((ann + old + bob + bob + ann).encode())
+        lines = ["card 2, line 6: an earlier card is the same",
+                 f"card 3, line 11: an earlier card has the same UID; kept under {own}",
+                 "card 4, line 16: an earlier card is the same",
+                 "card 5, line 21: an earlier card is the same"]
+        self.assertEqual((0, report(lines, 2, 1, 0)), (ended.status, ended.err))
+        self.assertEqual([["a", card("4.0", "UID:a", "FN:Ann")],
+                          [own, card("4.0", f"UID:{own}", "FN:Bob")]],
+                         [[uid, unfolded(vcard.encode())] for uid, vcard in rows_of(ended.out)])
+        self.imported(ended.out, 2)
+
+    def test_no_room_for_another_uid(self):
+        """A card of 262,144 octets with the UID of another one would be longer under its own."""
+        ann, bob = text(card("4.0", "UID:a", "FN:Ann")), text(card("4.0", "UID:a", "FN:Bob"))
+        notes = (262_144 - len(bob)) // len("NOTE:x\r\n") * "NOTE:x\r\n"
+        ended = self.convert((ann + bob.replace("END", notes + "END")).encode())
+        lines = ["card 2, line 6: not carried: an earlier card has the same UID, and with "
+                 "another one the text is too long"]
+        self.assertEqual((1, report(lines, 1, 0, 1)), (ended.status, ended.err))
 
     def test_a_file_for_each_card(self):
         uids = ["a", "urn:uuid:7f", "é", "../b", ".c", "x" * 201, "d.vcf"]
         octets = "".join(text(card("4.0", f"UID:{uid}", "FN:A")) for uid in uids).encode()
         (self.folder / "to").mkdir()
         ended = self.convert(octets, "--to", "to")
-        self.assertEqual(Ended(0, b"", summary(7, 0, 0)), ended)
+        self.assertEqual(Ended(0, b"", report([], 7, 0, 0, files=7)), ended)
         names = sorted(path.name for path in (self.folder / "to").iterdir())
         wanted = ["7f.vcf", "a.vcf", "card-3.vcf", "card-4.vcf", "card-5.vcf", "card-6.vcf",
                   "d.vcf.vcf"]
@@ -233,7 +359,7 @@ class Convert(OrderTest):
     def test_files_of_rows(self):
         octets = "".join(text(card("4.0", f"UID:{n}", "FN:A")) for n in range(7)).encode()
         ended = self.convert(octets, "--rows", 3)
-        self.assertEqual(Ended(0, b"", summary(7, 0, 0)), ended)
+        self.assertEqual(Ended(0, b"", report([], 7, 0, 0, files=3)), ended)
         files = ["cards-1.csv", "cards-2.csv", "cards-3.csv"]
         self.assertEqual([*files, "cards.vcf"], self.names())
         counts = [len(rows_of((self.folder / name).read_bytes())) for name in files]
@@ -251,7 +377,7 @@ class Convert(OrderTest):
                              (len(HEAD) + 2 * row - 1, [1] * 7)]:
             with self.subTest(most=most):
                 ended = self.convert(octets, "--octets", most, "--to", "to")
-                self.assertEqual(Ended(0, b"", summary(7, 0, 0)), ended)
+                self.assertEqual(Ended(0, b"", report([], 7, 0, 0, files=len(counts))), ended)
                 files = sorted((self.folder / "to").iterdir())
                 self.assertEqual(counts, [len(rows_of(it.read_bytes())) for it in files])
                 for file in files:
@@ -297,8 +423,8 @@ class Convert(OrderTest):
                     octets[place:place] = drawn.choice([b"\r\n", b"=", b":", b";", b"\n ", b"\0"])
             with self.subTest(number=number):
                 ended = self.convert(bytes(octets))
-                end = re.search(rb"(?:^|\n)(\d+) cards written, (\d+) changed, (\d+) not carried\n$",
-                                ended.err)
+                end = re.search(rb"(?:^|\n)(\d+) cards written, (\d+) changed, \d+ with parts kept "
+                                rb"aside, (\d+) not carried\n$", ended.err)
                 self.assertTrue(end, ended)
                 self.assertEqual(1 if int(end[3]) else 0, ended.status)
                 rows = rows_of(ended.out)

@@ -12,6 +12,7 @@ import uuid
 import zipfile
 
 from contact_rows import EXPORTS, KNOWN_HEADERS
+from conversion_reports import digest, numbers
 from converted_cards import added_uid
 from order_trials import OrderTest
 from program import ROOT, Ended, run
@@ -56,11 +57,11 @@ GOOGLE = [
         "item2.X-ABLABEL:Main",
     ],
 ]
-GOOGLE_REPORT = """\
-row 1, line 2: the cell of Birthday rewritten
-row 2, line 6: the cell of Birthday rewritten
-3 cards written, 2 changed, 0 not carried
-"""
+GOOGLE_LINES = [
+    "row 1, line 2: the cell of Birthday rewritten",
+    "row 2, line 6: the cell of Birthday rewritten",
+]
+GOOGLE_REPORT = digest(GOOGLE_LINES, 3, 2, 0)
 
 # Outlook's columns. The second row has no value, the fourth is the first one again, and the fifth
 # has one cell more than the header.
@@ -90,14 +91,13 @@ OUTLOOK = [
     ],
     ["FN:Ann", "N:;Ann;;;"],
 ]
-OUTLOOK_REPORT = """\
-row 1, line 2: the cell of E-mail Type kept as X-E-MAIL-TYPE
-row 1, line 2: the cell of Birthday rewritten
-row 1, line 2: the cell of Sensitivity kept as X-SENSITIVITY
-row 4, line 6: an earlier row has the same cells
-row 5, line 8: not carried: the row has more or fewer cells than the header
-2 cards written, 1 changed, 1 not carried
-"""
+OUTLOOK_REPORT = digest([
+    "row 1, line 2: the cell of E-mail Type kept as X-E-MAIL-TYPE",
+    "row 1, line 2: the cell of Birthday rewritten",
+    "row 1, line 2: the cell of Sensitivity kept as X-SENSITIVITY",
+    "row 4, line 6: an earlier row has the same cells",
+    "row 5, line 8: not carried: the row has more or fewer cells than the header",
+], 2, 1, 1)
 
 
 def csv_text(rows, delimiter=","):
@@ -175,10 +175,10 @@ class ConvertContacts(OrderTest):
 
     def test_whole_cards(self):
         """The lines of each card in their order, with its UID."""
-        for title, octets, lines, report in EXPORTS:
+        for title, octets, lines, changes in EXPORTS:
             with self.subTest(title):
                 ended = self.convert(octets)
-                self.assertEqual(report, ended.err.decode())
+                self.assertEqual(digest(changes, 1, bool(changes), 0), ended.err.decode())
                 [[uid, card]] = rows_of(ended.out)
                 self.assertEqual(lines[0], "UID:" + uid)
                 whole = ["BEGIN:VCARD", "VERSION:4.0", *lines, "END:VCARD", ""]
@@ -199,33 +199,33 @@ class ConvertContacts(OrderTest):
 
     def test_no_row(self):
         ended = self.convert(csv_text([OUTLOOK_HEAD]).encode())
-        self.assertEqual(Ended(0, HEAD, b"0 cards written, 0 changed, 0 not carried\n"), ended)
+        self.assertEqual(Ended(0, HEAD, numbers(0, 0, 0, 0).encode()), ended)
 
     def test_a_row_that_is_too_long(self):
-        long = ["Ann", *[""] * 7, "x" * 270_000, ""]
+        long = ["Ann", *[""] * 7, "x" * 262_144, ""]
         ended = self.convert(csv_text([OUTLOOK_HEAD, long]).encode())
-        report = (b"row 1, line 2: not carried: the text is too long\n"
-                  b"0 cards written, 0 changed, 1 not carried\n")
+        report = digest(["row 1, line 2: not carried: the text is too long"], 0, 0, 1).encode()
         self.assertEqual(Ended(1, HEAD, report), ended)
 
     def test_names_of_columns(self):
         header = ["First Name", "E-mail Address", "a\x1b[31mb", "é" * 70]
         ended = self.convert(csv_text([header, ["Ann", "", "1", "2"]]).encode())
-        report = (f"row 1, line 2: the cell of a [31mb kept as X-A--31MB\n"
-                  f"row 1, line 2: the cell of {'é' * 60} kept as X-{'-' * 58}\n"
-                  f"1 cards written, 1 changed, 0 not carried\n")
+        report = digest(["row 1, line 2: the cell of a [31mb kept as X-A--31MB",
+                         f"row 1, line 2: the cell of {'é' * 60} kept as X-{'-' * 58}"], 1, 1, 0)
         self.assertEqual((0, report), (ended.status, ended.err.decode()))
 
     def test_files(self):
         octets = (ROOT / "examples/google.csv").read_bytes()
         (self.folder / "to").mkdir()
         ended = self.convert(octets, "--to", "to")
-        self.assertEqual((0, b"", GOOGLE_REPORT), (ended.status, ended.out, ended.err.decode()))
+        report = digest(GOOGLE_LINES, 3, 2, 0, files=3)
+        self.assertEqual((0, b"", report), (ended.status, ended.out, ended.err.decode()))
         names = sorted(path.name for path in (self.folder / "to").iterdir())
         uids = [uuid.UUID(row_uid(header_of(octets), cells)) for cells in rows_of(octets)]
         self.assertEqual(sorted(f"{uid}.vcf" for uid in uids), names)
         ended = self.convert(octets, "--rows", 2)
-        self.assertEqual((0, b"", GOOGLE_REPORT), (ended.status, ended.out, ended.err.decode()))
+        report = digest(GOOGLE_LINES, 3, 2, 0, files=2)
+        self.assertEqual((0, b"", report), (ended.status, ended.out, ended.err.decode()))
         counts = [len(rows_of((self.folder / f"contacts-{number}.csv").read_bytes()))
                   for number in (1, 2)]
         self.assertEqual([2, 1], counts)
@@ -234,13 +234,13 @@ class ConvertContacts(OrderTest):
         end = 'FN:A\r\nNOTE:a\\, "b"\r\nEND:VCARD\r\n'
         cards = [f"BEGIN:VCARD\r\nVERSION:4.0\r\nUID:{uid}\r\n{end}" for uid in "abc"]
         octets = csv_text([["uid", "vcard"], *zip("abc", cards)]).encode()
-        report = b"3 cards written, 0 changed, 0 not carried\n"
         for name in "export.csv", "export":
             with self.subTest(name):
                 ended = self.convert(octets, name=name)
-                self.assertEqual((0, report), (ended.status, ended.err))
+                self.assertEqual((0, numbers(3, 0, 0, 0).encode()), (ended.status, ended.err))
                 self.assertEqual([list(row) for row in zip("abc", cards)], rows_of(ended.out))
         (self.folder / "to").mkdir()
+        report = numbers(3, 0, 0, 0, files=3).encode()
         self.assertEqual(Ended(0, b"", report), self.convert(octets, "--to", "to"))
         for uid, card in zip("abc", cards):
             self.assertEqual(card.encode(), (self.folder / "to" / (uid + ".vcf")).read_bytes())
@@ -251,14 +251,13 @@ class ConvertContacts(OrderTest):
         more = [f"BEGIN:VCARD\nFN:{name}\nEND:VCARD" for name in "BCD"]
         rows = [["a", first], ["b", "two"], [more[0]], [more[1], ""], ["", more[2], "e"]]
         ended = self.convert(csv_text([["uid", "vcard"], *rows]).encode(), name="export.csv")
-        report = """\
-card 1, line 1: UID added
-line 5: not carried: no card begins here
-card 2, line 7: UID added
-card 3, line 10: UID added
-card 4, line 13: UID added
-4 cards written, 4 changed, 1 not carried
-"""
+        report = digest([
+            "card 1, line 1: UID added",
+            "line 5: not carried: no card begins here",
+            "card 2, line 7: UID added",
+            "card 3, line 10: UID added",
+            "card 4, line 13: UID added",
+        ], 4, 4, 1)
         self.assertEqual((1, report), (ended.status, ended.err.decode()))
         made = rows_of(ended.out)
         self.assertEqual([["FN:A", 'NOTE:"x"'], ["FN:B"], ["FN:C"], ["FN:D"]],
@@ -273,20 +272,23 @@ card 4, line 13: UID added
         ]:
             with self.subTest(title):
                 ended = self.convert(octets)
-                report = refused * b"line 1: not carried: no card begins here\n"
-                report += b"0 cards written, 0 changed, %d not carried\n" % refused
+                lines = refused * ["line 1: not carried: no card begins here"]
+                report = digest(lines, 0, 0, refused).encode()
                 self.assertEqual(Ended(refused, HEAD, report), ended)
 
     def test_unknown_headers(self):
         known = "has no header of contacts that is known"
         unread = "has a header whose columns aren't known: "
+        say = "; say what its columns are, beginning with --columns "
         for title, octets, words in [
             ("no octet", b"", known),
-            ("another language", b"Imi\xc4\x99,Nazwisko,Poczta\nAnn,Lee,a@x.test\n", known),
-            ("other columns", b"uid,vcards\na,b\n", known),
+            ("another language", b"Imi\xc4\x99,Nazwisko,Poczta\nAnn,Lee,a@x.test\n",
+             known + say + "'Imi\u0119=fn'"),
+            ("other columns", b"uid,vcards\na,b\n", known + say + "'vcards=fn'"),
             # A file whose addresses and numbers would all be kept aside isn't converted.
             ("unknown reach", b"First Name;Labels;Mail (priv.);Mobil 2\nA;b;a@x.test;1\n",
-             unread + "Mail (priv.), Mobil 2"),
+             unread + "Mail (priv.), Mobil 2" + say
+             + "'Mail (priv.)=email,Mobil 2=tel;type=cell'"),
         ]:
             for name in "a.csv", "a.CSV":
                 with self.subTest(title, name=name):
@@ -297,7 +299,7 @@ card 4, line 13: UID added
 
     def test_cards_in_a_file_of_another_name(self):
         card = b"BEGIN:VCARD\r\nVERSION:4.0\r\nUID:a\r\nFN:A\r\nEND:VCARD\r\n"
-        report = b"1 cards written, 0 changed, 0 not carried\n"
+        report = numbers(1, 0, 0, 0).encode()
         for octets in card, b"\xef\xbb\xbf" + card:
             ended = self.convert(octets, name="cards.csv")
             self.assertEqual((0, report), (ended.status, ended.err))
@@ -313,8 +315,8 @@ card 4, line 13: UID added
         header = "First Name,Last Name,E-mail Address,Notes\n"
         rows = [f"A{number},Lee,a{number}@x.test,plain\n" for number in range(1, 1001)]
         wanted = [f"A{number} Lee" for number in range(1, 1001) if number != 11]
-        report = (b"row 11, line 12: not carried: a quote isn't closed in its row\n"
-                  b"999 cards written, 0 changed, 1 not carried\n")
+        line = "row 11, line 12: not carried: a quote isn't closed in its row"
+        report = digest([line], 999, 0, 1).encode()
         for title, row, other in [
             ("to the end of the file", 'A11,Lee,a11@x.test,"plain\n', "plain"),
             ("up to a quote of a later row", 'A11,Lee,a11@x.test,"plain\n', '"in quotes"'),
@@ -347,7 +349,10 @@ card 4, line 13: UID added
                 else:
                     self.assertEqual(["Bob"], self.names(ended))
                     self.assertEqual(1, ended.status)
-                    self.assertIn(b"row 1, line 2: not carried: a quote", ended.err)
+                    lost = "row 1, line 2: not carried: a quote isn't closed in its row, and "
+                    lost += f"{count} lines are lost with it\n"
+                    self.assertTrue(ended.err.decode().startswith(lost), ended)
+                    self.assertEqual(3, ended.err.count(b"\n"))
 
     def test_faults_of_rows(self):
         header = "First Name,E-mail Address,Notes\r\n"
@@ -358,15 +363,13 @@ card 4, line 13: UID added
         ]:
             with self.subTest(title):
                 ended = self.convert((header + row + "Bob,,\r\n").encode())
-                report = (f"row 1, line 2: not carried: {why}\n"
-                          f"1 cards written, 0 changed, 1 not carried\n")
+                report = digest([f"row 1, line 2: not carried: {why}"], 1, 0, 1)
                 self.assertEqual((1, report), (ended.status, ended.err.decode()))
                 self.assertEqual(["Bob"], self.names(ended))
 
     def test_rows_that_are_no_loss(self):
         octets = b"First Name,E-mail Address\nAnn,a@x.test\n,\nAnn,a@x.test\nBob,\n\n"
-        report = (b"row 3, line 4: an earlier row has the same cells\n"
-                  b"2 cards written, 0 changed, 0 not carried\n")
+        report = digest(["row 3, line 4: an earlier row has the same cells"], 2, 0, 0).encode()
         ended = self.convert(octets)
         self.assertEqual((0, report), (ended.status, ended.err))
         self.assertEqual(["Ann", "Bob"], self.names(ended))
@@ -391,14 +394,11 @@ card 4, line 13: UID added
         self.assertEqual(2, len(set(uids[0])))
 
     def test_dates(self):
-        """One order for the whole file; a date that may be two stays as it is, and is reported."""
+        """One order for the whole file, which its dates say (test_convert_options: if they don't)."""
         told = "the cell of Birthday kept as text: its day, month or year isn't certain"
         for cells, values in [
             (["05/04/1980", "15/04/1980"], [":19800405", ":19800415"]),
             (["05/04/1980", "04/15/1980"], [":19800504", ":19800415"]),
-            (["05/04/1980", "05/05/1980"], [";VALUE=text:05/04/1980", ":19800505"]),
-            (["15/04/1980", "04/15/1980", "05/04/1980"],
-             [":19800415", ":19800415", ";VALUE=text:05/04/1980"]),
             (["15.04.1980", "5.4.80", "05.04.29"], [":19800415", ":19800405", ":20290405"]),
             (["15-Apr-80", "1-Dez-2001", "3 M\u00e4r 1999"], [":19800415", ":20011201", ":19990303"]),
             (["1980-04-15", "1980/04/15", "19800415", "--04-15"],
@@ -414,7 +414,9 @@ card 4, line 13: UID added
                          if line.startswith("BDAY")]
                 self.assertEqual(values, found)
                 texts = [value.startswith(";VALUE=text") for value in values]
-                self.assertEqual(sum(texts), ended.err.decode().count(told))
+                # The first is told again, as what to look at first.
+                lines = [it for it in ended.err.decode().splitlines() if it.startswith("row ")]
+                self.assertEqual(sum(texts), sum(told in line for line in lines), ended.err)
                 self.assertEqual(0, ended.status)
 
     def test_known_headers(self):
@@ -460,8 +462,6 @@ card 4, line 13: UID added
             (workbook.getvalue(), "an Excel workbook; save it as CSV UTF-8"),
             (b"version: 1\ndn: cn=Ann\n", "LDIF; export the contacts as vCard or CSV"),
             (b"%PDF-1.4\n", "a PDF; export the contacts as vCard or CSV"),
-            (b"uid,fn,family,given,email,tel,org,note\np,Pat,,,,,,\n",
-             "in the form that contacts import takes as it is"),
         ]:
             for name in "a.csv", "a.vcf":
                 ended = self.convert(octets, name=name)

@@ -13,6 +13,7 @@ from heads import HOST, head, length
 from http_requests import (
     COLUMNS,
     books,
+    card,
     export,
     forget,
     get,
@@ -155,6 +156,16 @@ class Cuts(ServedTest):
             self.serve(*[octets[place:place + 1] for place in range(len(octets))])
 
         self.each(serve_cuts)
+
+    def test_a_long_body_in_pieces(self):
+        """A body of 100,000 octets comes in pieces of 1,500, as a network cuts it."""
+        self.renew()
+        self.serve(STAFF)
+        notes = [f"NOTE:{number:04} " + "x" * 65 for number in range(1_298)]
+        octets = request("PUT", "/books/staff/cards/a", card("a", "Ann", *notes)) + books()
+        self.assertLess(100_000, len(octets))
+        self.serve(*[octets[place:place + 1_500] for place in range(0, len(octets), 1_500)])
+        self.serve(get("staff", "a"))
 
     def test_in_drawn_pieces(self):
         def serve_cuts(connection):

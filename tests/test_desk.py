@@ -6,6 +6,8 @@ examples/nginx.conf, no script may make markup of a string, and each text has to
 
 import json
 import re
+import shutil
+import subprocess
 import unittest
 
 from program import ROOT
@@ -133,7 +135,7 @@ class Desk(unittest.TestCase):
 
     def test_texts(self):
         """Each text that a script asks for is there."""
-        source = text(SITE / "js/texts.js")
+        source = text(SITE / "js/texts.js") + text(SITE / "js/importtexts.js")
         known = set(re.findall(r"^  (\w+):", source, re.M))
         for path in SCRIPTS:
             for name in re.findall(r'\b(?:t|count)\(\s*"(\w+)"', code(path)):
@@ -155,6 +157,14 @@ class Desk(unittest.TestCase):
             for name, ground, least in [*pairs, ("accent-ink", "accent", 4.5)]:
                 with self.subTest(scheme=scheme, colour=name, ground=ground):
                     self.assertGreaterEqual(ratio(colours[name], colours[ground]), least)
+
+    @unittest.skipUnless(shutil.which("node"), "there is no node")
+    def test_units(self):
+        """What files become on their way in, without a browser."""
+        units = ROOT / "clients/desk/trial/units/intake.test.mjs"
+        ran = subprocess.run(["node", "--test", units], stdout=subprocess.PIPE,
+                             stderr=subprocess.STDOUT, text=True, timeout=600)
+        self.assertEqual(0, ran.returncode, ran.stdout)
 
     def test_manifest(self):
         manifest = json.loads(text(SITE / "manifest.json"))

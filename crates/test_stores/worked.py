@@ -638,6 +638,27 @@ ask 1 => refused 1
 card staff z FN:Zoe => created 6
 copy 0 => copy 1/3/5 | c 3 [c Cy]
 """),
+    ("Devices of two books ask among changes of all kinds",
+     10_000, """
+create staff => book 1
+card staff a FN:Ann => created 1
+card staff b FN:Bob => created 2
+card staff a FN:Anna => edited 3
+ask 0 1 => page 1/2/3 and more | b 2 [b Bob]
+remove staff b => gone 4
+ask 0 => page 1/4/4 | a 3 [a Anna] | b gone
+ask 2 => page 1/4/4 | a 3 [a Anna]
+create clients => book 2
+move staff a clients => moved 5 1
+ask 1 => page 2/1/1 | a 1 [a Anna]
+ask 0 => page 1/5/5 | a gone
+ask 0 0 => refused 11
+tally staff => cards 0 created 2 deleted 1 edited 1 horizon 0 import_edited 0 imported 0 moved_in 0 moved_out 1 number 5 remembered 2
+books => books | clients 2 1 0 | staff 1 5 0
+copy 0 => copy 1/5/5
+copy 1 => copy 2/1/1 | a 1 [a Anna]
+copy 2 => copy 1/4/4 | a 3 [a Anna]
+"""),
     ("No events, no replies",
      10_000, """
 copy 0 => copy none
@@ -770,6 +791,10 @@ mirror nobody 1 1 => refused 1
     ("A book that forgot tombstones is copied too", FIVE_CHANGES, """
 forget staff 5 => forgot 1 horizon 5
 mirror staff 1 10 => pages 2 done 1/5/5 | a 4 [a Anna] | c 3 [c Cy]
+"""),
+    ("Names and UIDs may be left out", FIVE_CHANGES, """
+create  => refused 3
+people staff  => refused 4
 """),
     ("Malformed commands are refused", FIVE_CHANGES, r"""
 report staff .../1/3/99999999999999 => refused 10 cause 1

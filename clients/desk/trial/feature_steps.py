@@ -4,7 +4,7 @@ import base64
 import json
 import re
 
-from between import fill_disk
+from between import fill_disk, refuse
 from loss_steps import CARD, at_desk, names
 from office import card, logical
 from steps import ROWS, TITLE, fault, more, search, step, stored, toast, until
@@ -369,8 +369,9 @@ DROP = """((files) => {
 
 @step
 def dropped_files(trial):
-    """A file that is dropped on the page is offered for an import; the page stays."""
+    """A file that is dropped on the page is offered for an import, also where none is converted."""
     page, office = at_desk(trial), trial.office
+    refuse(page, "POST", "/convert", 405, "")
     page.press("clients", "document.querySelector('#books')")
     dora, dirk, dana = (card(f"drop{n}", f"FN:D{it} Dropped")
                         for n, it in enumerate(("ora", "irk", "ana")))
@@ -387,3 +388,4 @@ def dropped_files(trial):
     page.wait(f"{DIALOG}?.innerText.includes('only if all of them are vCards')")
     assert page.run(f"{DIALOG}.querySelector('.bar .main').disabled")
     page.press("Close", DIALOG)
+    page.run("window.fetchAgain()")

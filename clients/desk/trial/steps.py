@@ -4,7 +4,7 @@ import json
 import time
 
 from access import audit
-from between import UNAWARE, lose_reply
+from between import UNAWARE, lose_reply, refuse
 from cards import office_cards
 from common import HEADER, ROWS, STATE, TITLE, card_with, toast, until
 from office import card, logical
@@ -303,10 +303,12 @@ def files(trial):
          "Card 2 (Old Olga): It isn’t vCard 4.0."),
         ("cut.vcf", card("v1", "FN:Cut")[:-14], "(END:VCARD) is missing"),
     ]
+    refuse(admin, "POST", "/convert", 405, "")  # as with a server that doesn't convert
     admin.run(f"({MENU}).click()")
     admin.wait("document.querySelector('.tally caption')?.textContent.startsWith('Since')")
     admin.picture(trial.pictures / "book.png")
     admin.press("Import a file")
+    admin.wait("document.querySelector('dialog .choose')")
     for name, text, words in bad:
         path = folder / name
         path.write_bytes(text if isinstance(text, bytes) else text.encode())
@@ -326,6 +328,7 @@ def files(trial):
     admin.press("Import", "document.querySelector('dialog .bar')")
     admin.wait(f"{IMPORT} === '2 new cards, 0 changed, 0 as they were'")
     admin.press("Close", "document.querySelector('dialog')")
+    admin.run("window.fetchAgain()")
     admin.press("All books")
     search(admin, "01632 960777")
     admin.wait(f"{TITLE} === 'Vera Without Uid'")

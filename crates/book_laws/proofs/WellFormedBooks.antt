@@ -188,6 +188,22 @@ within limits after book room is = record {
   imports = is.imports;
 }
 
+-- well-formed books are so by greater limits
+pub wider : (limits after : Bounds) (books : Books) → limits.changes_max ≤ after.changes_max → limits.books_max ≤ after.books_max → IsWellFormed limits books → IsWellFormed after books
+wider limits after books changes more is =
+    let few = is.within_limit in
+    record {
+      within_limit = omega (arith, few, more);
+      legal_names = is.legal_names;
+      first_id = is.first_id;
+      last_id = is.last_id;
+      ids_apart = is.ids_apart;
+      each = λ name book at.
+          let form = is.each name book at in
+          let low = form.within_limit in
+          within limits after book (omega (arith, low, changes)) form;
+    }
+
 -- and with any tombstone limit that is enough for its tombstones
 pub with_other_keep : (limits : Bounds) (book : Book) (keep : ℕ) → 1 ≤ keep → tombstone_count book ≤ keep → IsWellFormedBook limits book → IsWellFormedBook limits (record book { keep = keep })
 with_other_keep limits book keep least enough is = record {
@@ -393,9 +409,9 @@ module _ (limits : Bounds) (books : Books) (name : List ℕ) (is : IsWellFormed 
       }
 
   -- a book is new
-  pub well_new : 1 ≤ limits.keep → finite.contains_key books name ≡ false → is_legal_name name ≡ true → finite.len books < limits.books_max → IsWellFormed limits (finite.insert books name (fresh_book (finite.len books + 1) limits.keep))
-  well_new least free legal room =
-      let book : Book = fresh_book (finite.len books + 1) limits.keep in
+  pub well_new : (keep : ℕ) → 1 ≤ keep → finite.contains_key books name ≡ false → is_legal_name name ≡ true → finite.len books < limits.books_max → IsWellFormed limits (finite.insert books name (fresh_book (finite.len books + 1) keep))
+  well_new keep least free legal room =
+      let book : Book = fresh_book (finite.len books + 1) keep in
       let n : finite.len (finite.insert books name book) ≡ finite.len books + 1 = len-insert text_total books name book ∙ cond-false _ _ _ free in
       record {
         within_limit = omega (arith, n, room);
@@ -403,7 +419,7 @@ module _ (limits : Bounds) (books : Books) (name : List ℕ) (is : IsWellFormed 
         first_id = for_each (λ q x. 1 ≤ x.id) book is.first_id (omega arith);
         last_id = for_each (λ q x. x.id ≤ finite.len (finite.insert books name book)) book (λ q x e. let le = is.last_id q x e in omega (arith, le, n)) (omega (arith, n));
         ids_apart = apart book (λ q x e same_id. let le = is.last_id q x e in absurd (omega (arith, le, same_id)));
-        each = for_each (λ q x. IsWellFormedBook limits x) book is.each (well_empty (finite.len books + 1) limits.keep limits least);
+        each = for_each (λ q x. IsWellFormedBook limits x) book is.each (well_empty (finite.len books + 1) keep limits least);
       }
 
 abbrev no_books : Books

@@ -35,7 +35,7 @@ use Rattle.book_model.specs.Putting.{FoundMember, answer_over_live, books_after_
 use Rattle.book_model.specs.Removing.{remove_number}
 use Rattle.book_model.specs.SameCards.{same_card}
 use Rattle.book_model.specs.WellFormed.{IsWellFormedBook, IsWellFormed}
-use Rattle.book_laws.specs.WellFormedLaws.{LeavesWellFormed, CreateKeepsWellFormed, PutKeepsWellFormed, RemoveKeepsWellFormed, MoveKeepsWellFormed, ImportKeepsWellFormed, ForgetKeepsWellFormed}
+use Rattle.book_laws.specs.WellFormedLaws.{AreWithin, LeavesWellFormed, CreateKeepsWellFormed, PutKeepsWellFormed, RemoveKeepsWellFormed, MoveKeepsWellFormed, ImportKeepsWellFormed, ForgetKeepsWellFormed}
 use Rattle.base_types.proofs.TextLemmas.{text_total}
 use Rattle.book_laws.proofs.AcceptedLemmas.{after_test, after_known, after_named}
 use Rattle.book_laws.proofs.WellFormedBooks.{Fits, well_changed, within, well_kept, well_forgotten, well_over, well_new}
@@ -46,6 +46,10 @@ HasNumberLeft limits number = number + 1 ≤ limits.changes_max
 
 number_left : (limits : Bounds) (number : ℕ) → IfOk (next_number limits number) (λ _. HasNumberLeft limits number)
 number_left limits number = after_test (λ _. HasNumberLeft limits number) (nat_lt number limits.changes_max) ChangesSpent (Ok (number + 1)) (λ left. let l = ltb-true number limits.changes_max left in omega (arith, l))
+
+-- and so there is one by greater limits
+left_within : (limits most : Bounds) (number : ℕ) → AreWithin limits most → HasNumberLeft limits number → HasNumberLeft most number
+left_within limits most number fits left = let le = fits.changes in omega (arith, le, left)
 
 -- ---- creating a book
 
@@ -64,10 +68,13 @@ new_id_is limits books name =
     record { legal = legal; free = not-true (finite.contains_key books name) free; room = ltb-true (finite.len books) limits.books_max room; id_is = refl })))
 
 pub creating_keeps_form : CreateKeepsWellFormed
-creating_keeps_form limits books name range is =
-    after_known (λ (done : ℕ × Books). IsWellFormed limits done.1) (IsNewId limits books name)
+creating_keeps_form limits most books name range fits is =
+    after_known (λ (done : ℕ × Books). IsWellFormed most done.1) (IsNewId limits books name)
     (new_id limits name (finite.contains_key books name) (finite.len books)) (λ id. Ok (id, finite.insert books name (fresh_book id limits.keep))) (new_id_is limits books name)
-    (λ id new. subst (λ (n : ℕ). IsWellFormed limits (finite.insert books name (fresh_book n limits.keep))) new.id_is (well_new limits books name is range.keep_least new.free new.legal new.room))
+    (λ id new.
+    let le = fits.books in
+    let room = new.room in
+    subst (λ (n : ℕ). IsWellFormed most (finite.insert books name (fresh_book n limits.keep))) new.id_is (well_new most books name is limits.keep range.keep_least new.free new.legal (omega (arith, le, room))))
 
 -- ---- storing a card
 
@@ -91,24 +98,24 @@ put_over limits found card (Some stored) =
     no_reason : (why : StoreReason) → ◌≡◌ {A = Option StoreReason} None (Some why) → ⊥
     no_reason why e = cc
 
-module _ (limits : Bounds) (books : Books) (name : List ℕ) (is : IsWellFormed limits books) where
+module _ (limits most : Bounds) (within_most : AreWithin limits most) (books : Books) (name : List ℕ) (is : IsWellFormed most books) where
   put_written : (book : Book) (card : List Line) → finite.get books name ≡ Some book → (o : Option StoreReason)
-      → ((why : StoreReason) → o ≡ Some why → Fits (Stores card why) (live_at book (uid_of card)) × HasNumberLeft limits book.number) → IsWellFormed limits (books_after_put books name book card o)
+      → ((why : StoreReason) → o ≡ Some why → Fits (Stores card why) (live_at book (uid_of card)) × HasNumberLeft limits book.number) → IsWellFormed most (books_after_put books name book card o)
   put_written book card at None fits = is
   put_written book card at (Some why) fits =
       let f = fits why refl in
-      well_over limits books name is book (book_after_change book (uid_of card) (Stores card why)) at refl
-      (well_changed limits limits book (uid_of card) (Stores card why) (is.each name book at) f.1 f.0 refl)
+      well_over most books name is book (book_after_change book (uid_of card) (Stores card why)) at refl
+      (well_changed most most book (uid_of card) (Stores card why) (is.each name book at) (left_within limits most book.number within_most f.1) f.0 refl)
 
 pub putting_keeps_form : PutKeepsWellFormed
-putting_keeps_form limits books name card expect is =
-    let P : PutAnswer × Books → Type 0 = λ done. IsWellFormed limits done.1 in
+putting_keeps_form limits most books name card expect fits is =
+    let P : PutAnswer × Books → Type 0 = λ done. IsWellFormed most done.1 in
     after_named P books name _ (λ book at.
     let found = found_in_book book (uid_of card) in
     let Q = PutsWell limits book.number card (live_at book (uid_of card)) in
     after_known P Q (put_answer limits found card expect) _
     (after_test Q (is_expected expect (version_of found.live)) (VersionMismatch (version_of found.live)) (answer_over_live limits found card found.live) (λ expected. put_over limits found card found.live))
-    (λ answer well. put_written limits books name is book card at (put_store_reason answer) well))
+    (λ answer well. put_written limits most fits books name is book card at (put_store_reason answer) well))
 
 -- ---- removing a card
 
@@ -121,13 +128,13 @@ remove_over limits number expect (Some stored) =
     IfOk-weaker (next_number limits number) (λ _. HasNumberLeft limits number) Q (λ version left. (refl, left)) (number_left limits number))
 
 pub removing_keeps_form : RemoveKeepsWellFormed
-removing_keeps_form limits books name uid expect is =
-    let P : ℕ × Books → Type 0 = λ done. IsWellFormed limits done.1 in
+removing_keeps_form limits most books name uid expect fits is =
+    let P : ℕ × Books → Type 0 = λ done. IsWellFormed most done.1 in
     after_named P books name _ (λ book at.
     after_known P (λ (_ : ℕ). (is_some (live_at book uid) ≡ true) × HasNumberLeft limits book.number) (remove_number limits (found_in_book book uid) expect) _
     (remove_over limits book.number expect (live_at book uid))
-    (λ number found. well_over limits books name is book (book_after_change book uid (TakesAway Deletion)) at refl
-    (well_changed limits limits book uid (TakesAway Deletion) (is.each name book at) found.1 found.0 tt)))
+    (λ number found. well_over most books name is book (book_after_change book uid (TakesAway Deletion)) at refl
+    (well_changed most most book uid (TakesAway Deletion) (is.each name book at) (left_within limits most book.number fits found.1) found.0 tt)))
 
 -- ---- moving a card
 
@@ -176,7 +183,7 @@ own_live limits book uid stored is e = by_row (finite.get book.members uid) refl
     by_row (Some row) at e = by_card row at row.card refl e
     by_row None at e = absurd (no_card e)
 
-module _ (limits : Bounds) (books : Books) (from to uid : List ℕ) (source target : Book) (moving : Moving) (is : IsWellFormed limits books)
+module _ (limits most : Bounds) (within_most : AreWithin limits most) (books : Books) (from to uid : List ℕ) (source target : Book) (moving : Moving) (is : IsWellFormed most books)
     (at : finite.get books from ≡ Some source) (there : finite.get books to ≡ Some target) (apart : same_name from to ≡ false) (fits : FitsMove limits (found_in_book source uid) (found_in_book target uid) moving) where
   abbrev target_after : Book
   target_after = book_after_change target uid (Stores moving.card MoveIn)
@@ -185,26 +192,26 @@ module _ (limits : Bounds) (books : Books) (from to uid : List ℕ) (source targ
   removed_up_to_base = book_after_change source uid (TakesAway MoveOut)
 
   own_moved : uid_of moving.card ≡ uid
-  own_moved = ap uid_of (sym fits.card_is) ∙ own_live limits source uid fits.stored (is.each from source at) fits.live
+  own_moved = ap uid_of (sym fits.card_is) ∙ own_live most source uid fits.stored (is.each from source at) fits.live
 
-  well_come : IsWellFormed limits (finite.insert books to target_after)
-  well_come = well_over limits books to is target target_after there refl (well_changed limits limits target uid (Stores moving.card MoveIn) (is.each to target there) fits.target_left fits.free own_moved)
+  well_come : IsWellFormed most (finite.insert books to target_after)
+  well_come = well_over most books to is target target_after there refl (well_changed most most target uid (Stores moving.card MoveIn) (is.each to target there) (left_within limits most target.number within_most fits.target_left) fits.free own_moved)
 
   still_at : finite.get (finite.insert books to target_after) from ≡ Some source
   still_at = get-insert text_total books to target_after from ∙ cond-false _ _ _ apart ∙ at
 
-  well_moved : IsWellFormed limits (books_after_move books from to uid source target moving.card)
-  well_moved = well_over limits (finite.insert books to target_after) from well_come source removed_up_to_base still_at refl (well_changed limits limits source uid (TakesAway MoveOut) (is.each from source at) fits.source_left (ap is_some fits.live) tt)
+  well_moved : IsWellFormed most (books_after_move books from to uid source target moving.card)
+  well_moved = well_over most (finite.insert books to target_after) from well_come source removed_up_to_base still_at refl (well_changed most most source uid (TakesAway MoveOut) (is.each from source at) (left_within limits most source.number within_most fits.source_left) (ap is_some fits.live) tt)
 
 pub moving_keeps_form : MoveKeepsWellFormed
-moving_keeps_form limits books from to uid expect is =
-    let P : Moved × Books → Type 0 = λ done. IsWellFormed limits done.1 in
+moving_keeps_form limits most books from to uid expect within_most is =
+    let P : Moved × Books → Type 0 = λ done. IsWellFormed most done.1 in
     after_named P books from _ (λ source at.
     after_named P books to _ (λ target there.
     after_test P (not (same_name from to)) SameBook _ (λ apart.
     after_known P (FitsMove limits (found_in_book source uid) (found_in_book target uid)) (move_answer limits (found_in_book source uid) (found_in_book target uid) expect) _
     (move_over limits (found_in_book source uid) (found_in_book target uid) expect (live_at source uid) (live_at target uid) refl refl)
-    (λ moving fits. well_moved limits books from to uid source target moving is at there (not-true (same_name from to) apart) fits))))
+    (λ moving fits. well_moved limits most within_most books from to uid source target moving is at there (not-true (same_name from to) apart) fits))))
 
 -- ---- importing cards
 
@@ -251,36 +258,37 @@ tally_fits limits state cards number =
       room = ⊎_elim (λ none. inl (eqb-true _ _ none)) (λ le. inr (leb-true number limits.changes_max le)) (or_cases _ _ left);
     }))
 
-module _ (limits : Bounds) (books : Books) (name key : List ℕ) (book : Book) (cards : List (List Line)) (is : IsWellFormed limits books) (at : finite.get books name ≡ Some book) (legal : is_legal_key key ≡ true) where
+module _ (limits most : Bounds) (within_most : AreWithin limits most) (books : Books) (name key : List ℕ) (book : Book) (cards : List (List Line)) (is : IsWellFormed most books) (at : finite.get books name ≡ Some book) (legal : is_legal_key key ≡ true) where
   abbrev imported : Importing Book
   imported = import_cards live_at book_after_store book cards
 
   imported_well : IsImporting book imported
-  imported_well = all_cards book cards (import_state book 0 0 0) (record { limits = limits; form = is.each name book at; same_id = refl; number_is = omega arith })
+  imported_well = all_cards book cards (import_state book 0 0 0) (record { limits = most; form = is.each name book at; same_id = refl; number_is = omega arith })
 
-  tally_room : (tally : ImportTally) → FitsTally limits imported imported.book.number tally → imported.book.number ≤ limits.changes_max
+  tally_room : (tally : ImportTally) → FitsTally limits imported imported.book.number tally → imported.book.number ≤ most.changes_max
   tally_room tally fits =
       let n = imported_well.number_is in
-      let most = (is.each name book at).within_limit in
-      ⊎_elim (λ none. omega (arith, n, most, none)) (λ le. le) fits.room
+      let old = (is.each name book at).within_limit in
+      let raised = within_most.changes in
+      ⊎_elim (λ none. omega (arith, n, old, none)) (λ le. omega (arith, le, raised)) fits.room
 
-  import_kept : (kept : Option ImportTally) → LeavesWellFormed limits (import_under_key limits books name book key cards kept)
+  import_kept : (kept : Option ImportTally) → LeavesWellFormed most (import_under_key limits books name book key cards kept)
   import_kept (Some kept) = is
   import_kept None =
-      let P : ImportTally × Books → Type 0 = λ done. IsWellFormed limits done.1 in
+      let P : ImportTally × Books → Type 0 = λ done. IsWellFormed most done.1 in
       after_known P (FitsTally limits imported imported.book.number) (import_tally limits imported (live_count imported.book.counts) imported.book.number) _
       (tally_fits limits imported (live_count imported.book.counts) imported.book.number)
       (λ tally fits.
       let known = fits.number_is in
-      well_over limits books name is book (book_with_kept_import imported.book key tally) at imported_well.same_id
-      (well_kept limits imported.book key tally legal (omega (arith, known)) (within imported_well.limits limits imported.book (tally_room tally fits) imported_well.form)))
+      well_over most books name is book (book_with_kept_import imported.book key tally) at imported_well.same_id
+      (well_kept most imported.book key tally legal (omega (arith, known)) (within imported_well.limits most imported.book (tally_room tally fits) imported_well.form)))
 
 pub importing_keeps_form : ImportKeepsWellFormed
-importing_keeps_form limits books name key cards is =
-    let P : ImportTally × Books → Type 0 = λ done. IsWellFormed limits done.1 in
+importing_keeps_form limits most books name key cards fits is =
+    let P : ImportTally × Books → Type 0 = λ done. IsWellFormed most done.1 in
     after_named P books name _ (λ book at.
     after_test P (is_legal_key key) BadKey _ (λ legal.
-    import_kept limits books name key book cards is at legal (finite.get book.imports key)))
+    import_kept limits most fits books name key book cards is at legal (finite.get book.imports key)))
 
 -- ---- forgetting
 

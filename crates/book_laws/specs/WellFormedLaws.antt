@@ -1,5 +1,5 @@
 -- The books of a store stay well formed, whatever calls are made. This project's own.
-use Rattle.std.specs.Prelude.{ℕ, ◌≡◌, ◌≢◌, IfOk, List, Option, Some, Result, Ok, Err}
+use Rattle.std.specs.Prelude.{ℕ, ◌≡◌, ◌≢◌, ◌≤◌, IfOk, List, Option, Some, Result, Ok, Err}
 use Rattle.std.specs.FinMap as finite
 use Rattle.vcard_lines.specs.declared.line.Line.{Line}
 use Rattle.book_model.specs.declared.page.Page.{Page}
@@ -30,29 +30,40 @@ LeavesWellFormed limits step = IfOk step (λ done. IsWellFormed limits done.1)
 
 -- ---- each step that changes books keeps them well formed
 
+-- These limits allow no more changes and no more books than the others. So the books of a store with
+-- them are well formed by the others too, as an opening tests it.
+pub record AreWithin (limits most : Bounds) : Type 0 where
+  pub changes : limits.changes_max ≤ most.changes_max
+  pub books : limits.books_max ≤ most.books_max
+
 abbrev pub CreateKeepsWellFormed : Type 0
-CreateKeepsWellFormed = (limits : Bounds) (books : Books) (name : List ℕ) → IsInRange limits →
-    IsWellFormed limits books → LeavesWellFormed limits (create_step limits books name)
+CreateKeepsWellFormed = (limits most : Bounds) (books : Books) (name : List ℕ) → IsInRange limits →
+    AreWithin limits most → IsWellFormed most books →
+    LeavesWellFormed most (create_step limits books name)
 
 abbrev pub PutKeepsWellFormed : Type 0
 PutKeepsWellFormed =
-    (limits : Bounds) (books : Books) (name : List ℕ) (card : List Line) (expect : Option ℕ) →
-    IsWellFormed limits books → LeavesWellFormed limits (put_step limits books name card expect)
+    (limits most : Bounds) (books : Books) (name : List ℕ) (card : List Line) (expect : Option ℕ) →
+    AreWithin limits most → IsWellFormed most books →
+    LeavesWellFormed most (put_step limits books name card expect)
 
 abbrev pub RemoveKeepsWellFormed : Type 0
 RemoveKeepsWellFormed =
-    (limits : Bounds) (books : Books) (name uid : List ℕ) (expect : Option ℕ) →
-    IsWellFormed limits books → LeavesWellFormed limits (remove_step limits books name uid expect)
+    (limits most : Bounds) (books : Books) (name uid : List ℕ) (expect : Option ℕ) →
+    AreWithin limits most → IsWellFormed most books →
+    LeavesWellFormed most (remove_step limits books name uid expect)
 
 abbrev pub MoveKeepsWellFormed : Type 0
 MoveKeepsWellFormed =
-    (limits : Bounds) (books : Books) (from to uid : List ℕ) (expect : Option ℕ) →
-    IsWellFormed limits books → LeavesWellFormed limits (move_step limits books from to uid expect)
+    (limits most : Bounds) (books : Books) (from to uid : List ℕ) (expect : Option ℕ) →
+    AreWithin limits most → IsWellFormed most books →
+    LeavesWellFormed most (move_step limits books from to uid expect)
 
 abbrev pub ImportKeepsWellFormed : Type 0
 ImportKeepsWellFormed =
-    (limits : Bounds) (books : Books) (name key : List ℕ) (cards : List (List Line)) →
-    IsWellFormed limits books → LeavesWellFormed limits (import_step limits books name key cards)
+    (limits most : Bounds) (books : Books) (name key : List ℕ) (cards : List (List Line)) →
+    AreWithin limits most → IsWellFormed most books →
+    LeavesWellFormed most (import_step limits books name key cards)
 
 abbrev pub ForgetKeepsWellFormed : Type 0
 ForgetKeepsWellFormed = (limits : Bounds) (books : Books) (name : List ℕ) (upto : ℕ) →

@@ -11,7 +11,8 @@ pub fn new_stores_are_well_formed()
     ensures { EmptyStoresAreWellFormed }
 {}
 
-/// From well-formed books, each step that isn't refused leaves well-formed books.
+/// From well-formed books, each step that isn't refused leaves well-formed books, also by greater
+/// limits than those of the step.
 /// - `create`: a new book, where the limits are in range.
 /// - `put`: a put of a card.
 /// - `remove`: a removal of a card.

@@ -14,3 +14,4 @@ pub mod IdempotenceLemmas
 pub mod PageCountLemmas
 pub mod MirrorLemmas
 pub mod PageTokenLemmas
+pub mod LifeLemmas

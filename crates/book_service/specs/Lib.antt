@@ -7,6 +7,7 @@ pub mod DeviceReplies
 pub mod Runs
 pub mod PageCounts
 pub mod Promise
+pub mod Lives
 pub mod Mirrors
 pub mod PageTokenLaws
 pub mod internal

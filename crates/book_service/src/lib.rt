@@ -8,6 +8,7 @@ mod device_pages;
 mod event;
 mod importing;
 pub mod laws;
+pub mod lives;
 mod mirrored;
 mod page_tokens;
 mod reply;

@@ -63,21 +63,6 @@ confirmed_shows old new limits store left order =
     let was = store.stays_sound (read_before old new left order) in
     (left.same order.0 was.sound.holds.schema order.1 (λ _. was.committed)).now_is
 
-pub confirmed_survives : (old new : State) (limits : Bounds) → IsStore old limits → OnlyReads old new → IsOpenOnHonestDisk new → Survives old new (λ _. ⊥)
-confirmed_survives old new limits store left order =
-    let was = store.stays_sound (read_before old new left order) in
-    record {
-      clean = left.survives.clean;
-      shield = left.survives.shield;
-      counts = left.survives.counts;
-      limit = left.survives.limit;
-      closes = left.survives.closes;
-      crash = λ clean db leaves. elim (left.survives.crash clean db leaves) [
-        | inl before ↦ inl before
-        | inr other ↦ absurd (other was.sound.holds.schema)
-      ];
-    }
-
 -- the tables were written, opened and read
 pub opened_shows : (old mid new : State) → HasNoPendingWrites old → ChangesNothing old mid → IsOpenOnHonestDisk mid → new.now ≡ mid.now → new.now ≡ old.now
 opened_shows old mid new settled left order same = same ∙ (left.same order.0 order.1 settled).now_is

@@ -8,3 +8,4 @@ pub mod RefusalLemmas
 pub mod CountLemmas
 pub mod SearchLemmas
 pub mod CopyLemmas
+pub mod RestartLemmas

@@ -7,3 +7,4 @@ pub mod OnConnections
 pub mod FileSearches
 pub mod ClosedFiles
 pub mod Copies
+pub mod Restarts

@@ -48,8 +48,8 @@ table_model g = record {
 }
 
 -- A call that reads: the contract of every store, and that it only reads. So a crash leaves what it
--- could leave before the call, if the tables are declared. Over rows that cause no fault, a fault
--- of the store comes only from an outside cause.
+-- could leave before the call. Over rows that cause no fault, a fault of the store comes only from
+-- an outside cause.
 pub record ReadsStore {S : Type 0} {T A : Type 0} (g : Ghosts S) (allows : T → A → Type 0)
     (old new : StoreView S) (r : Result A Denied) (query : Bounds → Books → Result T Refusal)
     : Type 0 where

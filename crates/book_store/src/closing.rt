@@ -9,16 +9,13 @@ ghost use Rattle.store_tables.specs.SchemaCreation.{empty_schema};
 ghost use Rattle.sync_core.specs.StoreModels.{KeepsBooks, KeepsTerms};
 ghost use Rattle.std.specs.Prelude.{◌≡◌, IfOk, OnOk, false};
 
-use crate::files::FileBooks;
+use crate::real_files::{OpensFiles, RealFiles};
 use crate::schema_creation::is_schema_empty;
 use crate::sql_store::SqlStore;
-use book_model::Limits;
 use sqlite::{Alter, Connection, FileStore, Files};
 use sqlite_disk::Disk;
 use sqlite_std_file::{FileFrom, Unknown};
-use std::fs::Permissions;
-use std::os::unix::fs::{MetadataExt, PermissionsExt};
-use std::{fs, io};
+use std::fs;
 use store_schema::{OpenFault, open_fault_of};
 use sync_core::BookStore;
 
@@ -96,53 +93,11 @@ pub(crate) fn remove_new(rt: &HostRuntime, target: &str, log: &str) {
     let _removed_log = fs::remove_file(rt, log);
 }
 
-/// Whether the file is there and has no octets.
-fn is_empty_file(rt: &HostRuntime, path: &str) -> bool {
-    match fs::metadata(rt, path) {
-        Ok(metadata) => metadata.len() == 0,
-        Err(_) => false,
-    }
-}
-
-/// Gives the new file and its log the mode of the file at the path.
-fn take_mode(rt: &HostRuntime, path: &str, target: &str, log: &str) -> io::Result<()> {
-    let mode = fs::metadata(rt, path)?.mode() & 0o777;
-    fs::set_permissions(rt, target, Permissions::from_mode(mode))?;
-    fs::set_permissions(rt, log, Permissions::from_mode(mode))
-}
-
-/// Opens a new file, with the mode of the file at the path. If that fails, an empty file is removed.
-pub(crate) fn open_new(
-    rt: &HostRuntime,
-    path: &str,
-    target: &str,
-    log: &str,
-) -> Result<Connection<FileStore<FileFrom<Unknown>>>, OpenFault>
-    ensures { IfOk result (λ connection. connection.in_transaction ≡ false) }
-{
-    match Connection::open_from(rt, target, false, Unknown) {
-        Ok(connection) => {
-            // Before anything is written that others may not read.
-            if take_mode(rt, path, target, log).is_err() {
-                remove_new(rt, target, log);
-                return Err(OpenFault::Store);
-            }
-            Ok(connection)
-        }
-        Err((error, _left)) => {
-            if is_empty_file(rt, target) {
-                remove_new(rt, target, log);
-            }
-            Err(open_fault_of(error))
-        }
-    }
-}
-
 /// Copies the books into the new file of the connection, which needs no log.
-fn fill_new(
+fn fill_new<S: Alter, D: Disk + Drop>(
     rt: &HostRuntime,
-    books: &mut FileBooks,
-    connection: Connection<FileStore<FileFrom<Unknown>>>,
+    books: &mut SqlStore<S>,
+    connection: Connection<FileStore<D>>,
     target: &str,
     log: &str,
 ) -> Result<(), OpenFault>
@@ -160,23 +115,37 @@ fn fill_new(
     }
 }
 
-/// Copies the books of the file at the path into a new file.
-fn copy_to_new(
+/// The same, unless the file has tables.
+fn fill_if_empty<S: Alter, D: Disk + Drop>(
     rt: &HostRuntime,
-    books: &mut FileBooks,
-    path: &str,
+    books: &mut SqlStore<S>,
+    connection: Connection<FileStore<D>>,
     target: &str,
     log: &str,
-) -> Result<(), OpenFault> {
-    let connection = open_new(rt, path, target, log)?;
+) -> Result<(), OpenFault>
+    requires { connection.in_transaction ≡ false }
+{
     if !is_schema_empty(connection.schema()) {
         return Err(OpenFault::NotEmpty);
     }
     fill_new(rt, books, connection, target, log)
 }
 
+/// Copies the books of the file at the path into a new file.
+fn copy_to_new<S: Alter, D: Disk + Drop, F: OpensFiles<D>>(
+    rt: &HostRuntime,
+    files: &F,
+    books: &mut SqlStore<S>,
+    path: &str,
+    target: &str,
+    log: &str,
+) -> Result<(), OpenFault> {
+    let connection = files.open_new(rt, path, target, log)?;
+    fill_if_empty(rt, books, connection, target, log)
+}
+
 /// The number of the books.
-fn book_count(books: &mut FileBooks) -> Result<u64, OpenFault> {
+fn book_count<S: Alter>(books: &mut SqlStore<S>) -> Result<u64, OpenFault> {
     match books.books() {
         Ok(lines) => Ok(lines.len() as u64),
         Err(_) => Err(OpenFault::Store),
@@ -184,15 +153,16 @@ fn book_count(books: &mut FileBooks) -> Result<u64, OpenFault> {
 }
 
 /// Copies the books of the file at the path into a new file, and returns their number.
-fn copy_books(
+fn copy_books<S: Alter, D: Disk + Drop, F: OpensFiles<D>>(
     rt: &HostRuntime,
-    books: &mut FileBooks,
+    files: &F,
+    books: &mut SqlStore<S>,
     path: &str,
     target: &str,
     log: &str,
 ) -> Result<u64, OpenFault> {
     let count = book_count(books)?;
-    copy_to_new(rt, books, path, target, log)?;
+    copy_to_new(rt, files, books, path, target, log)?;
     Ok(count)
 }
 
@@ -223,19 +193,35 @@ pub(crate) fn forget_log(rt: &HostRuntime, had_log: bool, log: &str) {
     }
 }
 
-/// Opens the file at the path, and copies its books. Leaves no log that the opening made.
-fn copy_opened(
+/// Copies the books of the file at the path, which is open. Leaves no log that the opening made.
+fn copy_held<S: Alter + Drop, D: Disk + Drop, F: OpensFiles<D>>(
     rt: &HostRuntime,
+    files: &F,
+    books: SqlStore<S>,
+    path: &str,
+    had_log: bool,
+    old_log: &str,
+    target: &str,
+    log: &str,
+) -> Result<u64, OpenFault> {
+    let mut books = books;
+    let copied = copy_books(rt, files, &mut books, path, target, log);
+    forget_log(rt, had_log, old_log);
+    copied
+}
+
+/// Opens the file at the path, and copies its books.
+fn copy_opened<D: Disk + Drop, F: OpensFiles<D>>(
+    rt: &HostRuntime,
+    files: &F,
     path: &str,
     old_log: &str,
     target: &str,
     log: &str,
 ) -> Result<u64, OpenFault> {
     let had_log = fs::exists(rt, old_log).unwrap_or(true);
-    let mut books = SqlStore::open(rt, path, Limits::standard())?;
-    let copied = copy_books(rt, &mut books, path, target, log);
-    forget_log(rt, had_log, old_log);
-    copied
+    let books = files.open_standard(rt, path)?;
+    copy_held(rt, files, books, path, had_log, old_log, target, log)
 }
 
 impl SqlStore<FileStore<FileFrom<Unknown>>> {
@@ -251,6 +237,6 @@ impl SqlStore<FileStore<FileFrom<Unknown>>> {
         check_both_free(rt, target)?;
         let log = log_of(rt, target)?;
         let old_log = log_of(rt, path)?;
-        copy_opened(rt, path, old_log.as_str(), target, log.as_str())
+        copy_opened(rt, &RealFiles, path, old_log.as_str(), target, log.as_str())
     }
 }

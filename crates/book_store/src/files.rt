@@ -246,3 +246,8 @@ impl SqlStore<FileStore<FileFrom<Unknown>>> {
         }
     }
 }
+
+/// `open` within the standard limits, for callers that need none of its contract.
+pub(crate) fn open_standard(rt: &HostRuntime, path: &str) -> Result<FileBooks, OpenFault> {
+    SqlStore::open(rt, path, Limits::standard())
+}

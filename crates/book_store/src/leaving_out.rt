@@ -10,12 +10,12 @@ ghost use Rattle.store_tables.specs.SchemaCreation.{empty_schema};
 ghost use Rattle.sync_core.specs.StoreModels.{KeepsBooks, KeepsTerms};
 ghost use Rattle.std.specs.Prelude.{◌≡◌, ◌≤◌, IfOk, OnOk, false};
 
-use crate::closing::{check_both_free, forget_log, log_of, open_new, remove_new};
+use crate::closing::{check_both_free, forget_log, log_of, remove_new};
 use crate::copy_fault::{CopyFault, fault_of};
-use crate::files::FileBooks;
+use crate::real_files::{OpensFiles, RealFiles};
 use crate::sql_store::SqlStore;
 use base_types::Text;
-use book_model::{Limits, Refusal};
+use book_model::Refusal;
 use sqlite::{Alter, Connection, FileStore, Files};
 use sqlite_disk::Disk;
 use sqlite_std_file::{FileFrom, Unknown};
@@ -89,7 +89,7 @@ impl<S: Alter> SqlStore<S> {
 
 /// Refused with `NoSuchBook` if a name isn't that of a book. `copy_without` tests it too, but then
 /// there is a new file.
-fn check_names(books: &mut FileBooks, names: &[Text]) -> Result<(), CopyFault> {
+fn check_names<S: Alter>(books: &mut SqlStore<S>, names: &[Text]) -> Result<(), CopyFault> {
     for name in names {
         match books.book(name.as_str()) {
             Ok(_line) => {}
@@ -107,19 +107,32 @@ fn are_same_file(rt: &HostRuntime, a: &str, b: &str) -> bool {
     }
 }
 
+/// Copies the books but those with these names into the file of the connection, and returns their
+/// number.
+fn fill_opened<S: Alter, D: Disk + Drop>(
+    books: &mut SqlStore<S>,
+    names: &[Text],
+    connection: Connection<FileStore<D>>,
+) -> Result<u64, CopyFault>
+    requires { connection.in_transaction ≡ false }
+{
+    let (_files, count) = books.copy_without(names, connection)?;
+    Ok(count)
+}
+
 /// Copies the books but those with these names into a new file at `making`, with the mode of the
 /// file at the path, and returns their number. An error may leave that file.
-fn fill_new(
+fn fill_new<S: Alter, D: Disk + Drop, F: OpensFiles<D>>(
     rt: &HostRuntime,
-    books: &mut FileBooks,
+    files: &F,
+    books: &mut SqlStore<S>,
     names: &[Text],
     path: &str,
     making: &str,
     log: &str,
 ) -> Result<u64, CopyFault> {
-    let connection = open_new(rt, path, making, log)?;
-    let (_files, count) = books.copy_without(names, connection)?;
-    Ok(count)
+    let connection = files.open_new(rt, path, making, log)?;
+    fill_opened(books, names, connection)
 }
 
 /// Gives the finished file its name, without its log. After an error nothing is at either name.
@@ -136,9 +149,10 @@ fn name_new(rt: &HostRuntime, making: &str, log: &str, target: &str) -> Result<(
 
 /// Makes the file at `making`, and then gives it the name `target`. After an error nothing is at
 /// either name.
-fn make_file(
+fn make_file<S: Alter, D: Disk + Drop, F: OpensFiles<D>>(
     rt: &HostRuntime,
-    books: &mut FileBooks,
+    files: &F,
+    books: &mut SqlStore<S>,
     names: &[Text],
     path: &str,
     making: &str,
@@ -147,7 +161,7 @@ fn make_file(
     let log = log_of(rt, making)?;
     // What a copy left that was stopped.
     remove_new(rt, making, log.as_str());
-    match fill_new(rt, books, names, path, making, log.as_str()) {
+    match fill_new(rt, files, books, names, path, making, log.as_str()) {
         Ok(count) => {
             name_new(rt, making, log.as_str(), target)?;
             Ok(count)
@@ -161,21 +175,41 @@ fn make_file(
 }
 
 /// Tests the names, and makes the file.
-fn copy_rest(
+fn copy_rest<S: Alter, D: Disk + Drop, F: OpensFiles<D>>(
     rt: &HostRuntime,
-    books: &mut FileBooks,
+    files: &F,
+    books: &mut SqlStore<S>,
     names: &[Text],
     path: &str,
     making: &str,
     target: &str,
 ) -> Result<u64, CopyFault> {
     check_names(books, names)?;
-    make_file(rt, books, names, path, making, target)
+    make_file(rt, files, books, names, path, making, target)
 }
 
-/// Opens the file at the path, and makes the new one. Leaves no log that the opening made.
-fn copy_opened(
+/// Makes the new file. Leaves no log that the opening of the old one made.
+fn copy_held<S: Alter + Drop, D: Disk + Drop, F: OpensFiles<D>>(
     rt: &HostRuntime,
+    files: &F,
+    books: SqlStore<S>,
+    path: &str,
+    had_log: bool,
+    old_log: &str,
+    names: &[Text],
+    making: &str,
+    target: &str,
+) -> Result<u64, CopyFault> {
+    let mut books = books;
+    let copied = copy_rest(rt, files, &mut books, names, path, making, target);
+    forget_log(rt, had_log, old_log);
+    copied
+}
+
+/// Opens the file at the path, and makes the new one.
+fn copy_opened<D: Disk + Drop, F: OpensFiles<D>>(
+    rt: &HostRuntime,
+    files: &F,
     path: &str,
     old_log: &str,
     names: &[Text],
@@ -183,10 +217,10 @@ fn copy_opened(
     target: &str,
 ) -> Result<u64, CopyFault> {
     let had_log = fs::exists(rt, old_log).unwrap_or(true);
-    let mut books = SqlStore::open(rt, path, Limits::standard())?;
-    let copied = copy_rest(rt, &mut books, names, path, making, target);
-    forget_log(rt, had_log, old_log);
-    copied
+    let books = files.open_standard(rt, path)?;
+    copy_held(
+        rt, files, books, path, had_log, old_log, names, making, target,
+    )
 }
 
 /// Makes the new file by way of `making`, which must not be the old one.
@@ -201,7 +235,15 @@ fn copy_by(
         return Err(CopyFault::Open(OpenFault::NotEmpty));
     }
     let old_log = log_of(rt, path)?;
-    copy_opened(rt, path, old_log.as_str(), names, making, target)
+    copy_opened(
+        rt,
+        &RealFiles,
+        path,
+        old_log.as_str(),
+        names,
+        making,
+        target,
+    )
 }
 
 /// The name of the new file until it is finished.

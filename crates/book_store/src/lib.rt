@@ -2,6 +2,7 @@
 //! and implements the calls of `BookStore`.
 #![tactic(auto)]
 
+mod administration;
 mod calls;
 mod closing;
 mod copy_fault;
@@ -12,6 +13,8 @@ mod keeps;
 pub mod laws;
 mod leaving_out;
 mod opening;
+mod real_files;
+mod restarting;
 mod resyncing;
 mod schema_creation;
 mod sql_store;

@@ -1,5 +1,7 @@
 mod FileLemmas
 mod LineLemmas
+mod MovedLemmas
+mod PartLemmas
 mod PieceLemmas
 mod ProgressLemmas
 mod ReadBackLemmas

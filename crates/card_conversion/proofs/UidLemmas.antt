@@ -1,5 +1,5 @@
 -- The UIDs so far, and one more.
-use Rattle.std.proofs.Common.{◌≡◌, ◌∷◌, ◌++◌, [], ℕ, List, Some, true, refl, sym, subst, ◌∙◌, inl, inr, ⊎_elim, cond, zero, suc, arith}
+use Rattle.std.proofs.Common.{◌≡◌, ◌∷◌, ◌++◌, [], ℕ, List, Some, true, refl, sym, subst, ◌∙◌, inl, inr, ⊎_elim, cond, zero, suc, arith, append_assoc}
 use Rattle.std.specs.Option.{IsSome}
 use Rattle.std.specs.Ordering.{eq_by_cmp}
 use Rattle.std.specs.List.{Contains}
@@ -42,3 +42,14 @@ module _ (uids : finite.FinMap text_cmp (Unit {0})) (known : List (List ℕ)) (u
           (Contains-append_cases known (uid ∷ []) q had)),
     )
   ]
+
+pub two_more_uids : (uids : finite.FinMap text_cmp (Unit {0})) (known : List (List ℕ)) (uid own : List ℕ) → HasUids uids known → HasUids (finite.insert (finite.insert uids uid tt) own tt) (known ++ uid ∷ own ∷ [])
+two_more_uids uids known uid own has =
+    subst (HasUids (finite.insert (finite.insert uids uid tt) own tt)) (append_assoc known (uid ∷ []) (own ∷ []))
+    (one_more_uid (finite.insert uids uid tt) (known ++ uid ∷ []) own (one_more_uid uids known uid has))
+
+pub two_kept : (before between after : finite.FinMap text_cmp (Unit {0})) (known : List (List ℕ)) (uid own key other : List ℕ) → after ≡ finite.insert between other tt → between ≡ finite.insert before key tt → key ≡ uid → other ≡ own → HasUids before known → HasUids after (known ++ uid ∷ own ∷ [])
+two_kept before between after known uid own key other a b k o has = rw (a, b, k, o) (two_more_uids before known uid own has)
+
+pub one_kept : (before after : finite.FinMap text_cmp (Unit {0})) (known : List (List ℕ)) (uid key : List ℕ) → after ≡ finite.insert before key tt → key ≡ uid → HasUids before known → HasUids after (known ++ uid ∷ [])
+one_kept before after known uid key a k has = rw (a, k) (one_more_uid before known uid has)

@@ -11,7 +11,7 @@ use Rattle.contact_csv.specs.declared.row_fault.RowFault.{RowFault}
 use Rattle.contact_csv.specs.declared.row_fault.RowFault.TheVariants as row
 use Rattle.contact_columns.specs.declared.columns.Column.{Column}
 use Rattle.card_conversion.specs.declared.contacts.fate.RowFate.{RowFate}
-use Rattle.card_conversion.specs.declared.contacts.fate.RowFate.TheVariants.{Refused, Repeated}
+use Rattle.card_conversion.specs.declared.contacts.fate.RowFate.TheVariants.{Refused, Repeated, Taken}
 use Rattle.card_conversion.specs.declared.contacts.fate.RowFate.TheVariants.{Declined, Written}
 
 -- The contact of a row with these fields, which is a card.
@@ -25,6 +25,8 @@ abbrev pub IsFate : List Column → List (List ℕ) → List (List ℕ) → RowF
 IsFate columns uids fields (Refused fault) = IsFaulty columns fields fault
 IsFate columns uids fields (Repeated made) =
     IsRowContact columns fields made × Contains uids (uid_of made.card)
+IsFate columns uids fields (Taken made) =
+    IsRowContact columns fields made × Contains uids (uid_of made.card)
 IsFate columns uids fields (Declined made words) =
     IsRowContact columns fields made × (Contains uids (uid_of made.card) → ⊥)
 IsFate columns uids fields (Written made) =
@@ -34,6 +36,7 @@ IsFate columns uids fields (Written made) =
 abbrev pub uids_of_fate : RowFate → List (List ℕ)
 uids_of_fate (Refused fault) = []
 uids_of_fate (Repeated made) = []
+uids_of_fate (Taken made) = []
 uids_of_fate (Declined made words) = uid_of made.card ∷ []
 uids_of_fate (Written made) = uid_of made.card ∷ []
 
@@ -41,6 +44,7 @@ uids_of_fate (Written made) = uid_of made.card ∷ []
 abbrev pub cards_of_fate : RowFate → List (List Line)
 cards_of_fate (Refused fault) = []
 cards_of_fate (Repeated made) = []
+cards_of_fate (Taken made) = []
 cards_of_fate (Declined made words) = []
 cards_of_fate (Written made) = made.card ∷ []
 
@@ -56,6 +60,7 @@ with_fault summary (row.Card fault) = with_refused summary
 abbrev pub counted : Summary → RowFate → Summary
 counted summary (Refused fault) = with_fault summary fault
 counted summary (Repeated made) = summary
+counted summary (Taken made) = with_refused summary
 counted summary (Declined made words) = with_refused summary
 counted summary (Written made) = with_written summary made
 
@@ -74,9 +79,13 @@ cards_of entries = flat_map (λ entry. cards_of_fate entry.fate) entries
 abbrev pub uids_of : List RowEntry → List (List ℕ)
 uids_of entries = flat_map (λ entry. uids_of_fate entry.fate) entries
 
+-- the numbers after more rows
+abbrev pub summary_after : Summary → List RowEntry → Summary
+summary_after start entries = fold (λ summary entry. counted summary entry.fate) start entries
+
 -- the numbers of all rows
 abbrev pub summary_of : List RowEntry → Summary
-summary_of entries = fold (λ summary entry. counted summary entry.fate) nothing_counted entries
+summary_of entries = summary_after nothing_counted entries
 
 -- Each row has its fate after those before it, of which the first come after these UIDs.
 abbrev pub HaveFates : List Column → List (List ℕ) → List RowEntry → Type 0

@@ -2,8 +2,9 @@
 use Rattle.std.specs.Prelude.{ℕ, ◌+◌, ◌-◌, ◌^◌, ◌==◌, List, length, min, fold, if◌then◌else◌}
 use Rattle.vcard_import.specs.declared.conversion.Conversion.{Conversion}
 use Rattle.card_conversion.specs.declared.fate.Fate.{Fate}
-use Rattle.card_conversion.specs.declared.fate.Fate.TheVariants.{Blank, Other, Long, Refused}
-use Rattle.card_conversion.specs.declared.fate.Fate.TheVariants.{Repeated, Declined, Written}
+use Rattle.card_conversion.specs.declared.fate.Fate.TheVariants.{Blank, Other, Long, Overfull, Refused}
+use Rattle.card_conversion.specs.declared.fate.Fate.TheVariants.{Repeated, Crowded, Declined}
+use Rattle.card_conversion.specs.declared.fate.Fate.TheVariants.{Written, Moved}
 use Rattle.card_conversion.specs.declared.ledger.Summary.{Summary}
 use Rattle.card_conversion.specs.Fates.{Entry}
 
@@ -22,6 +23,14 @@ with_written summary made = record {
   refused = summary.refused;
 }
 
+-- a card that was written under a UID of its own, and so is changed
+abbrev pub with_moved : Summary → Summary
+with_moved summary = record {
+  written = one_more summary.written;
+  changed = one_more summary.changed;
+  refused = summary.refused;
+}
+
 abbrev pub with_refused : Summary → Summary
 with_refused summary = record {
   written = summary.written;
@@ -29,16 +38,23 @@ with_refused summary = record {
   refused = one_more summary.refused;
 }
 
--- the numbers after a piece with this fate
+-- the numbers after a piece with this fate: the same card twice is no loss
 abbrev pub counted : Summary → Fate → Summary
 counted summary Blank = summary
 counted summary Other = with_refused summary
 counted summary Long = with_refused summary
+counted summary Overfull = with_refused summary
 counted summary (Refused fault) = with_refused summary
-counted summary (Repeated made) = with_refused summary
+counted summary (Repeated made) = summary
+counted summary (Crowded made) = with_refused summary
 counted summary (Declined made words) = with_refused summary
 counted summary (Written made) = with_written summary made
+counted summary (Moved made) = with_moved summary
+
+-- the numbers after more pieces
+abbrev pub summary_after : Summary → List Entry → Summary
+summary_after start entries = fold (λ summary entry. counted summary entry.fate) start entries
 
 -- the numbers of all pieces
 abbrev pub summary_of : List Entry → Summary
-summary_of entries = fold (λ summary entry. counted summary entry.fate) nothing_counted entries
+summary_of entries = summary_after nothing_counted entries

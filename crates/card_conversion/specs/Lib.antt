@@ -1,7 +1,10 @@
 pub mod Accounts
 pub mod Counts
+pub mod Courses
 pub mod Deliveries
 pub mod Fates
+pub mod LineEnds
+pub mod Moved
 pub mod RowTexts
 pub mod ContactAccounts
 pub mod ContactFates

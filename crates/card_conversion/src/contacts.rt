@@ -1,6 +1,7 @@
 //! Converts contacts that Google and Outlook export as CSV, one row at a time, and reports each
 //! cell that no property of its card holds as it is.
 
+mod broken_lines;
 mod fate;
 mod report;
 mod rows;
@@ -9,4 +10,4 @@ mod run;
 mod tally;
 
 pub use rows_order::convert_contacts_to_rows;
-pub use run::convert_contacts;
+pub use run::{convert_contacts, convert_more_contacts};

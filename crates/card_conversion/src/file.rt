@@ -1,12 +1,15 @@
 //! Converts a file of cards in any encoding.
-ghost use Rattle.std.specs.Prelude.{IfOk, option_map};
+ghost use Rattle.std.specs.Prelude.{ℕ, List, IfOk, OnOk, option_map};
 ghost use Rattle.import_text.specs.Texts.{text_octets};
 ghost use Rattle.card_conversion.specs.Accounts.{ConvertsAll};
+ghost use Rattle.card_conversion.specs.Courses.{ConvertsPieces, Knows};
 
+use crate::course::Course;
 use crate::fault::{ConversionFault, read_fault};
 use crate::ledger::Summary;
 use crate::outlet::Outlet;
-use crate::run::convert_cards;
+use crate::reporting::Report;
+use crate::run::{convert_cards, convert_more_cards};
 use import_text::TextReader;
 use std::alloc::Global;
 use std::io::{Read, Write};
@@ -29,6 +32,25 @@ pub fn convert_file<R: Read + Drop, O: Outlet, E: Write>(
 {
     match TextReader::new(alloc, reader) {
         Ok(text) => convert_cards(alloc, text, outlet, errors),
+        Err(error) => Err(read_fault(error)),
+    }
+}
+
+/// The same of one more file, after others (see `convert_more_cards`).
+pub fn convert_more_file<R: Read + Drop, O: Outlet, E: Write, T: Write>(
+    alloc: Global,
+    course: &mut Course,
+    reader: R,
+    outlet: &mut O,
+    report: &mut Report<E, T>,
+) -> Result<(), ConversionFault>
+    // The pieces are those of the file's octets, or of its text in UTF-8 if it is in UTF-16.
+    ensures { OnOk result ((uids : List (List ℕ)) → Knows course.old uids → ConvertsPieces O.writes
+        (option_map text_octets (R.remaining reader)) uids course.old course.new outlet.old
+        outlet.new) }
+{
+    match TextReader::new(alloc, reader) {
+        Ok(text) => convert_more_cards(alloc, course, text, outlet, report),
         Err(error) => Err(read_fault(error)),
     }
 }

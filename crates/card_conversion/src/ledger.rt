@@ -38,13 +38,33 @@ impl Ledger {
         }
     }
 
+    /// The next piece is at the first line of another file. Cards are counted on.
+    pub(crate) fn begin_file(&mut self)
+        ensures { self.new.summary ≡ self.old.summary }
+    {
+        self.place.line = 1;
+    }
+
+    /// The number of the next card, which is counted.
+    pub(crate) fn next_number(&mut self) -> u64
+        ensures { self.new.summary ≡ self.old.summary }
+    {
+        let number = self.place.card;
+        self.place.card = number.saturating_add(1);
+        number
+    }
+
     /// Counts a piece.
     pub(crate) fn count(&mut self, piece: &[u8], fate: &Fate)
         ensures { self.new.summary ≡ counted self.old.summary fate.now }
     {
         let summary = &mut self.summary;
         match fate {
-            Fate::Blank => {}
+            Fate::Blank | Fate::Repeated(_) => {}
+            Fate::Moved(_) => {
+                summary.written = summary.written.saturating_add(1);
+                summary.changed = summary.changed.saturating_add(1);
+            }
             Fate::Written(conversion) => {
                 summary.written = summary.written.saturating_add(1);
                 if !conversion.changes.is_empty() {

@@ -1,22 +1,26 @@
 //! What a piece of a file is, and what becomes of it.
-ghost use Rattle.std.specs.Prelude.{◌≡◌, IfOk, MatchResult, ℕ, List, length};
+ghost use Rattle.std.specs.Prelude.{◌≡◌, IfOk, MatchResult, ℕ, List, count_by, length, string_bytes};
+ghost use Rattle.std.specs.List.{Contains};
+ghost use Rattle.vcard_text.specs.Cards.{uid_of};
+ghost use Rattle.card_conversion.specs.Deliveries.{HasUids};
+ghost use Rattle.card_conversion.specs.Moved.{own_uid};
 ghost use Rattle.vcard_import.specs.Conversions.{IsRefused};
 ghost use Rattle.std.specs.List.{list_all};
-ghost use Rattle.card_conversion.specs.Fates.{IsConversion, first_line, is_blank};
-ghost use Rattle.card_conversion.specs.Fates.{is_card, is_white};
-ghost use Rattle.card_conversion.specs.internal.States.{Takes};
+ghost use Rattle.card_conversion.specs.Fates.{IsApart, IsConversion, first_line, is_blank};
+ghost use Rattle.card_conversion.specs.Fates.{is_card, is_overfull, is_semicolon, is_white};
+ghost use Rattle.card_conversion.specs.internal.States.{DeliversNew, Takes, TakesAfter};
 ghost use Rattle.vcard_text.specs.Spelling.{without_bom};
 
-use crate::delivery::{Outcome, deliver};
 use crate::fate::Fate;
 use crate::fault::ConversionFault;
-use crate::outlet::Outlet;
+use crate::moved::{card_under, own_uid};
+use crate::outlet::{Delivery, Outlet};
 use crate::piece_reader::PIECE_OCTETS_MAX;
 use base_types::{NoMemory, TextMap};
 use import_text::begins_with_word;
 use std::alloc::Global;
-use vcard_import::{Conversion, convert_card};
-use vcard_text::CardFault;
+use vcard_import::{Conversion, ImportFault, convert_card};
+use vcard_text::Card;
 
 /// The octets without a byte order mark of UTF-8.
 fn without_bom(octets: &[u8]) -> &[u8]
@@ -59,7 +63,98 @@ fn is_card(piece: &[u8]) -> bool
     begins_with_word(line, b"BEGIN:VCARD") && are_white(&line[11..])
 }
 
-/// Writes a card that was converted, unless an earlier one has its UID.
+/// The most semicolons of a card. Each may begin a parameter, which takes some 400 octets of memory.
+const SEMICOLONS_MAX: usize = 65_536;
+
+fn is_semicolon(octet: &u8) -> bool
+    ensures { result ≡ is_semicolon octet.now }
+{
+    *octet == b';'
+}
+
+fn count_semicolons(piece: &[u8]) -> usize
+    ensures { result ≡ count_by is_semicolon piece.now }
+{
+    piece.iter().filter(|octet| is_semicolon(*octet)).count()
+}
+
+/// Whether there are more semicolons than a card may have.
+fn is_overfull(piece: &[u8]) -> bool
+    ensures { result ≡ is_overfull piece.now }
+{
+    count_semicolons(piece) > SEMICOLONS_MAX
+}
+
+/// Writes a card, and remembers its UID. Of one that was written it remembers the UID of its own,
+/// too.
+fn write_new<O: Outlet>(
+    alloc: Global,
+    uids: &mut TextMap<()>,
+    number: u64,
+    card: &Card,
+    outlet: &mut O,
+) -> Result<Delivery, ConversionFault>
+    ensures { (known : List (List ℕ)) → HasUids uids.old known
+        → IfOk result (DeliversNew O.writes known card.now uids.new outlet.old outlet.new) }
+{
+    let uid = String::from_str(alloc, card.uid())?;
+    let own = own_uid(alloc, card)?;
+    uids.insert(uid, ())?;
+    match outlet.put(alloc, number, card)? {
+        Delivery::Written => {
+            uids.insert(own, ())?;
+            Ok(Delivery::Written)
+        }
+        Delivery::Refused(words) => Ok(Delivery::Refused(words)),
+    }
+}
+
+/// Writes a card that got a UID of its own.
+fn write_moved<O: Outlet>(
+    alloc: Global,
+    uids: &mut TextMap<()>,
+    number: u64,
+    moved: Conversion,
+    outlet: &mut O,
+) -> Result<Fate, ConversionFault>
+    ensures { (octets : List ℕ) → (known : List (List ℕ)) → HasUids uids.old known
+        → IsApart known octets moved → (Contains known (uid_of moved.card) → ⊥)
+        → IfOk result (TakesAfter O.writes octets known uids.new outlet.old outlet.new) }
+{
+    match write_new(alloc, uids, number, &moved.card, outlet)? {
+        Delivery::Written => Ok(Fate::Moved(moved)),
+        Delivery::Refused(words) => Ok(Fate::Declined(moved, words)),
+    }
+}
+
+/// What becomes of a card with the UID of an earlier one: the same card is passed, and another one
+/// is written under a UID of its own.
+fn take_again<O: Outlet>(
+    alloc: Global,
+    uids: &mut TextMap<()>,
+    number: u64,
+    conversion: Conversion,
+    outlet: &mut O,
+) -> Result<Fate, ConversionFault>
+    ensures { (octets : List ℕ) → (known : List (List ℕ)) → HasUids uids.old known
+        → Contains known (uid_of conversion.card) → IsConversion octets conversion
+        → IfOk result (TakesAfter O.writes octets known uids.new outlet.old outlet.new) }
+{
+    let own = own_uid(alloc, &conversion.card)?;
+    if uids.get(own.as_str()).is_some() {
+        return Ok(Fate::Repeated(conversion));
+    }
+    match card_under(alloc, &conversion.card, own.as_str())? {
+        Some(card) => {
+            let Conversion { card: _, changes } = conversion;
+            write_moved(alloc, uids, number, Conversion { card, changes }, outlet)
+        }
+        None => Ok(Fate::Crowded(conversion)),
+    }
+}
+
+/// Writes a card that was converted, under a UID of its own if another card has the same. The same
+/// card is passed.
 fn deliver_piece<O: Outlet>(
     alloc: Global,
     uids: &mut TextMap<()>,
@@ -70,15 +165,17 @@ fn deliver_piece<O: Outlet>(
     ensures { (octets : List ℕ) → IsConversion octets conversion
         → IfOk result (Takes O.writes octets uids.old uids.new outlet.old outlet.new) }
 {
-    match deliver(alloc, uids, number, &conversion.card, outlet)? {
-        Outcome::Repeated => Ok(Fate::Repeated(conversion)),
-        Outcome::Declined(words) => Ok(Fate::Declined(conversion, words)),
-        Outcome::Written => Ok(Fate::Written(conversion)),
+    if uids.get(conversion.card.uid()).is_some() {
+        return take_again(alloc, uids, number, conversion, outlet);
+    }
+    match write_new(alloc, uids, number, &conversion.card, outlet)? {
+        Delivery::Written => Ok(Fate::Written(conversion)),
+        Delivery::Refused(words) => Ok(Fate::Declined(conversion, words)),
     }
 }
 
 /// Converts a card. The inner `Err` is the fault of one that can't be converted.
-fn convert(alloc: Global, piece: &[u8]) -> Result<Result<Conversion, CardFault>, NoMemory>
+fn convert(alloc: Global, piece: &[u8]) -> Result<Result<Conversion, ImportFault>, NoMemory>
     ensures { IfOk result (λ converted.
         MatchResult converted (IsConversion piece.now) (IsRefused piece.now)) }
 {
@@ -89,7 +186,7 @@ fn convert(alloc: Global, piece: &[u8]) -> Result<Result<Conversion, CardFault>,
             Ok(Ok(conversion))
         }
         Err(fault) => match fault {
-            CardFault::Memory => Err(NoMemory),
+            ImportFault::Memory => Err(NoMemory),
             _ => Ok(Err(fault)),
         },
     }
@@ -114,6 +211,9 @@ pub(crate) fn take_piece<O: Outlet>(
     }
     if piece.len() >= PIECE_OCTETS_MAX {
         return Ok(Fate::Long);
+    }
+    if is_overfull(piece) {
+        return Ok(Fate::Overfull);
     }
     match convert(alloc, piece)? {
         Ok(conversion) => deliver_piece(alloc, uids, number, conversion, outlet),

@@ -1,10 +1,15 @@
-//! The lines of the report: one for each change of a card, and one for each card that isn't
-//! carried.
+//! The lines of the report: one for each card whose content changed or that isn't carried, and for
+//! the file of the report one for each change.
 
 use crate::fate::Fate;
+use crate::fault::ConversionFault;
+use crate::form_changes::FormKind;
 use crate::line_cursor::{PieceLines, find_name};
+use crate::parts::{Parts, lost_words};
+use crate::reporting::{Report, Weight};
 use base_types::NoMemory;
 use std::alloc::Global;
+use std::io::Write;
 use vcard_import::{Change, ChangeKind, Conversion};
 use vcard_text::Line;
 
@@ -58,6 +63,13 @@ struct Reported<'a> {
     piece: PieceLines<'a>,
     lines: &'a [Line],
     added: &'a [Line],
+    /// Whether the card has a name.
+    has_name: bool,
+}
+
+/// Whether the line is a name that isn't empty.
+fn is_name(line: &Line) -> bool {
+    line.name.as_str() == "FN" && !line.value.as_str().is_empty()
 }
 
 /// The lines at the end of the card that were added.
@@ -85,80 +97,285 @@ fn aside_words(alloc: Global, at: &mut Reported<'_>, name: &str) -> Result<Strin
     }
 }
 
-/// The words for a line that was added.
-fn added_words(alloc: Global, at: &mut Reported<'_>) -> Result<String, NoMemory> {
-    match at.added.split_first() {
-        Some((line, rest)) => {
-            at.added = rest;
-            let name = line.name.as_str();
-            Ok(format!(in alloc; "{name} added")?)
+/// What a line that was added is, and the words for it. A UID changes nothing that one reads.
+fn added_words(alloc: Global, at: &mut Reported<'_>) -> Result<(Said, String), NoMemory> {
+    let Some((line, rest)) = at.added.split_first() else {
+        let words = String::from_str(alloc, "a line added")?;
+        return Ok((Said::Content(Weight::Moved), words));
+    };
+    at.added = rest;
+    let name = line.name.as_str();
+    let words = format!(in alloc; "{name} added")?;
+    if name == "UID" {
+        return Ok((Said::Form(FormKind::NewUid), words));
+    }
+    Ok((Said::Content(Weight::Moved), words))
+}
+
+/// Whether nothing but white space follows the head of the line, whose name is FN.
+fn is_empty_name(name: &str, line: &[u8]) -> bool {
+    let end = line
+        .iter()
+        .position(|octet| *octet == b':')
+        .unwrap_or(line.len());
+    let value = line.get(end..).unwrap_or(&[]);
+    name == "FN"
+        && value
+            .iter()
+            .all(|octet| *octet == b':' || octet.is_ascii_whitespace())
+}
+
+/// What the report says of a change: a change of form, or words on one of content.
+#[derive(Drop)]
+enum Said {
+    Form(FormKind),
+    Content(Weight),
+}
+
+/// What a change is, and the words for it, such as `CLASS kept as X-CLASS`.
+fn change_words(
+    alloc: Global,
+    at: &mut Reported<'_>,
+    name: &str,
+    line: &[u8],
+    kind: ChangeKind,
+) -> Result<(Said, String), NoMemory> {
+    let moved = Said::Content(Weight::Moved);
+    let told = match kind {
+        ChangeKind::Rewritten if at.has_name && is_empty_name(name, line) => {
+            (moved, format!(in alloc; "{name} was empty and got a name")?)
         }
-        None => Ok(format!(in alloc; "a line added")?),
-    }
+        ChangeKind::Rewritten => {
+            (
+                Said::Form(FormKind::Rewritten),
+                format!(in alloc; "{name} rewritten")?,
+            )
+        }
+        ChangeKind::Renamed => (
+            Said::Form(FormKind::Renamed),
+            format!(in alloc; "{name} renamed")?,
+        ),
+        ChangeKind::KeptAside => (moved, aside_words(alloc, at, name)?),
+        ChangeKind::Unreadable => (moved, String::from_str(alloc, "kept as X-UNREADABLE")?),
+        ChangeKind::Added => added_words(alloc, at)?,
+        ChangeKind::Joined => {
+            (
+                Said::Form(FormKind::Joined),
+                format!(in alloc; "{name} joined to its ADR")?,
+            )
+        }
+        ChangeKind::LeftOut => {
+            (
+                Said::Content(Weight::Lost),
+                format!(in alloc; "{name} left out")?,
+            )
+        }
+        ChangeKind::Labelled => {
+            (
+                Said::Form(FormKind::Labelled),
+                format!(in alloc; "{name} given a LABEL")?,
+            )
+        }
+    };
+    Ok(told)
 }
 
-/// The words for a change, such as `CLASS kept as X-CLASS`.
-fn change_words(alloc: Global, at: &mut Reported<'_>, change: &Change) -> Result<String, NoMemory> {
-    let name = name_of(alloc, at.piece.go_to(change.place))?;
-    let name = name.as_str();
-    match change.kind {
-        ChangeKind::Rewritten => Ok(format!(in alloc; "{name} rewritten")?),
-        ChangeKind::Renamed => Ok(format!(in alloc; "{name} renamed")?),
-        ChangeKind::KeptAside => aside_words(alloc, at, name),
-        ChangeKind::Unreadable => Ok(String::from_str(alloc, "kept as X-UNREADABLE")?),
-        ChangeKind::Added => added_words(alloc, at),
-    }
+/// The line for a card, with these words.
+fn card_line(alloc: Global, place: Place, words: &str) -> Result<String, NoMemory> {
+    let Place { card, line } = place;
+    Ok(format!(in alloc; "card {card}, line {line}: {words}")?)
 }
 
-/// The lines for the changes of a card that begins at the place.
-fn changes_report(
+/// Whether the change keeps a line under a name that begins with X-.
+fn keeps_aside(change: &Change) -> bool {
+    matches!(change.kind, ChangeKind::KeptAside | ChangeKind::Unreadable)
+}
+
+/// Reports one change of a card: a change of form is counted, and one of content is a part of the
+/// card's line.
+fn report_change<E: Write, T: Write>(
+    alloc: Global,
+    place: Place,
+    at: &mut Reported<'_>,
+    change: &Change,
+    parts: &mut Parts,
+    report: &mut Report<E, T>,
+) -> Result<(), ConversionFault> {
+    let octets = at.piece.go_to(change.place);
+    let name = name_of(alloc, octets)?;
+    let (said, words) = change_words(alloc, at, name.as_str(), octets, change.kind)?;
+    let line = place.line.saturating_add(change.place as u64);
+    let card = place.card;
+    let at_line = Place { card, line };
+    report.list_line(alloc, card_line(alloc, at_line, words.as_str())?.as_str())?;
+    match said {
+        Said::Form(FormKind::NewUid) => report.count(alloc, FormKind::NewUid, "UID")?,
+        Said::Form(kind) => report.count(alloc, kind, name.as_str())?,
+        Said::Content(weight) => {
+            let words = words.as_str();
+            let text = format!(in alloc; "line {line}: {words}")?;
+            parts.add(weight, text.as_str())?;
+        }
+    }
+    Ok(())
+}
+
+/// Reports characters that couldn't be read, if the card has some.
+fn report_lost<E: Write, T: Write>(
+    alloc: Global,
+    place: Place,
+    lines: &[Line],
+    parts: &mut Parts,
+    report: &mut Report<E, T>,
+) -> Result<(), ConversionFault> {
+    let Some(words) = lost_words(alloc, lines)? else {
+        return Ok(());
+    };
+    let words = words.as_str();
+    report.list_line(alloc, card_line(alloc, place, words)?.as_str())?;
+    let line = place.line;
+    let text = format!(in alloc; "line {line}: {words}")?;
+    parts.add(Weight::Lost, text.as_str())?;
+    Ok(())
+}
+
+/// Reports the changes of a card that begins at the place, after the parts that there are.
+fn report_changes<E: Write, T: Write>(
     alloc: Global,
     place: Place,
     piece: &[u8],
     conversion: &Conversion,
-) -> Result<String, NoMemory> {
+    parts: &mut Parts,
+    report: &mut Report<E, T>,
+) -> Result<(), ConversionFault> {
+    let lines = conversion.card.lines();
+    let changes = conversion.changes.as_slice();
     let mut at = Reported {
         piece: PieceLines::new(piece),
-        lines: conversion.card.lines(),
+        lines,
         added: added_lines(conversion),
+        has_name: lines.iter().any(is_name),
     };
-    let card = place.card;
-    let mut report = String::new(alloc);
-    for change in conversion.changes.as_slice() {
-        let line = place.line.saturating_add(change.place as u64);
-        let words = change_words(alloc, &mut at, change)?;
-        report.push_str(format!(in alloc; "card {card}, line {line}: {words}\n")?.as_str())?;
+    for change in changes {
+        report_change(alloc, place, &mut at, change, parts, report)?;
     }
-    Ok(report)
+    if changes.iter().any(keeps_aside) {
+        report.count_aside();
+    }
+    report_lost(alloc, place, lines, parts, report)?;
+    if parts.is_empty() {
+        return Ok(());
+    }
+    let card = place.card;
+    let text = parts.text(alloc)?;
+    let text = text.as_str();
+    report.tell(
+        alloc,
+        parts.weight,
+        format!(in alloc; "card {card}, {text}")?.as_str(),
+    )
 }
 
-/// The line for a card that isn't carried, with the reason in words.
-fn refused_report(alloc: Global, place: Place, why: &str) -> Result<String, NoMemory> {
-    let Place { card, line } = place;
-    Ok(format!(in alloc; "card {card}, line {line}: not carried: {why}\n")?)
+/// Reports a card that was written under a UID of its own.
+fn report_moved<E: Write, T: Write>(
+    alloc: Global,
+    place: Place,
+    piece: &[u8],
+    conversion: &Conversion,
+    report: &mut Report<E, T>,
+) -> Result<(), ConversionFault> {
+    let uid = conversion.card.uid();
+    let words = format!(in alloc; "an earlier card has the same UID; kept under {uid}")?;
+    let words = words.as_str();
+    report.list_line(alloc, card_line(alloc, place, words)?.as_str())?;
+    let line = place.line;
+    let mut parts = Parts::new(alloc);
+    parts.add(
+        Weight::Moved,
+        format!(in alloc; "line {line}: {words}")?.as_str(),
+    )?;
+    report_changes(alloc, place, piece, conversion, &mut parts, report)
 }
 
-/// The report of a piece at the place: a line for each change of a card that was written, or a line
-/// for why the piece isn't carried.
-pub(crate) fn report_text(
+/// Reports a card that is the same as an earlier one.
+fn report_repeated<E: Write, T: Write>(
+    alloc: Global,
+    place: Place,
+    report: &mut Report<E, T>,
+) -> Result<(), ConversionFault> {
+    report.count(alloc, FormKind::SameCard, "")?;
+    let line = card_line(alloc, place, "an earlier card is the same")?;
+    report.list_line(alloc, line.as_str())
+}
+
+/// Reports a card that isn't carried, with the reason in words.
+fn report_refused<E: Write, T: Write>(
+    alloc: Global,
+    place: Place,
+    why: &str,
+    report: &mut Report<E, T>,
+) -> Result<(), ConversionFault> {
+    let words = format!(in alloc; "not carried: {why}")?;
+    let line = card_line(alloc, place, words.as_str())?;
+    report.tell_all(alloc, Weight::NotCarried, line.as_str())
+}
+
+/// Reports a text that is no card.
+fn report_other<E: Write, T: Write>(
+    alloc: Global,
+    place: Place,
+    report: &mut Report<E, T>,
+) -> Result<(), ConversionFault> {
+    let line = place.line;
+    let text = format!(in alloc; "line {line}: not carried: no card begins here")?;
+    report.tell_all(alloc, Weight::NotCarried, text.as_str())
+}
+
+/// Reports what became of a piece at the place.
+pub(crate) fn report_piece<E: Write, T: Write>(
     alloc: Global,
     place: Place,
     piece: &[u8],
     fate: &Fate,
-) -> Result<String, NoMemory> {
+    report: &mut Report<E, T>,
+) -> Result<(), ConversionFault> {
     match fate {
-        Fate::Blank => Ok(String::new(alloc)),
-        Fate::Other => {
-            let line = place.line;
-            Ok(format!(in alloc; "line {line}: not carried: no card begins here\n")?)
+        Fate::Blank => Ok(()),
+        Fate::Other => report_other(alloc, place, report),
+        Fate::Long => {
+            report_refused(
+                alloc,
+                place,
+                "the card has more than 8,388,608 octets",
+                report,
+            )
         }
-        Fate::Long => refused_report(alloc, place, "the card has more than 8,388,608 octets"),
+        Fate::Overfull => {
+            report_refused(
+                alloc,
+                place,
+                "the card has more than 65,536 semicolons",
+                report,
+            )
+        }
         Fate::Refused(fault) => {
             let why = format!(in alloc; "{fault}")?;
-            refused_report(alloc, place, why.as_str())
+            report_refused(alloc, place, why.as_str(), report)
         }
-        Fate::Repeated(_) => refused_report(alloc, place, "an earlier card has the same UID"),
-        Fate::Declined(_, why) => refused_report(alloc, place, why.as_str()),
-        Fate::Written(conversion) => changes_report(alloc, place, piece, conversion),
+        Fate::Repeated(_) => report_repeated(alloc, place, report),
+        Fate::Crowded(_) => {
+            report_refused(
+                alloc,
+                place,
+                "an earlier card has the same UID, and with another one the text is too long",
+                report,
+            )
+        }
+        Fate::Declined(_, why) => report_refused(alloc, place, why.as_str(), report),
+        Fate::Written(conversion) => {
+            let mut parts = Parts::new(alloc);
+            report_changes(alloc, place, piece, conversion, &mut parts, report)
+        }
+        Fate::Moved(conversion) => report_moved(alloc, place, piece, conversion, report),
     }
 }

@@ -1,31 +1,246 @@
-//! Writes the report.
+//! `Report`: what is said of a conversion, and where.
 
 use crate::fault::ConversionFault;
+use crate::form_changes::{FormChanges, FormKind};
 use crate::ledger::Summary;
+use base_types::{NoMemory, Text};
 use std::alloc::Global;
+use std::io;
 use std::io::Write;
 
-/// Writes a part of the report.
-pub(crate) fn report<E: Write>(errors: &mut E, text: &str) -> Result<(), ConversionFault> {
-    match errors.write_all(text.as_bytes()) {
+/// How much a line of the report matters, from the least on.
+#[derive(Clone, Copy, PartialEq, Eq)]
+pub(crate) enum Weight {
+    /// What a card says is kept, but not where it was.
+    Moved,
+    /// A part of a card is lost.
+    Lost,
+    /// A card isn't carried.
+    NotCarried,
+}
+
+impl Weight {
+    fn rank(self) -> u8 {
+        match self {
+            Weight::Moved => 1,
+            Weight::Lost => 2,
+            Weight::NotCarried => 3,
+        }
+    }
+
+    /// The heavier one.
+    pub(crate) fn max(self, other: Weight) -> Weight {
+        if other.rank() > self.rank() {
+            other
+        } else {
+            self
+        }
+    }
+}
+
+/// The first of the heaviest lines.
+#[derive(Drop)]
+struct FirstLine {
+    weight: Weight,
+    text: String,
+}
+
+/// The report of a conversion, of one file or of several.
+///
+/// Its reader gets a line for each card whose content changed or that isn't carried, and at the end
+/// a line for each kind of change of form, with its number. A file, if there is one, gets a line
+/// for each change. It keeps one number for each kind and name, and no lines but one.
+#[derive(Drop)]
+pub struct Report<E, T> {
+    reader: E,
+    /// What gets all lines, if it is wanted.
+    file: Option<T>,
+    /// The name of the file that is converted and a colon, if there are several; else empty.
+    source: String,
+    forms: FormChanges,
+    /// The number of cards of which a line or a cell is kept aside.
+    aside: u64,
+    first: Option<FirstLine>,
+}
+
+fn write_text<W: Write>(writer: &mut W, text: &str) -> Result<(), ConversionFault> {
+    match writer.write_all(text.as_bytes()) {
         Ok(()) => Ok(()),
         Err(_) => Err(ConversionFault::Report),
     }
 }
 
-/// Writes the last line of the report.
-pub(crate) fn report_summary<E: Write>(
+impl<E: Write, T: Write + Drop> Report<E, T> {
+    /// Gives all lines from now on to the file, too.
+    pub fn set_file(&mut self, file: Option<T>) {
+        self.file = file;
+    }
+}
+
+impl<E: Write, T: Write> Report<E, T> {
+    /// A report to a reader.
+    pub fn new(alloc: Global, reader: E) -> Report<E, T> {
+        Report {
+            reader,
+            file: None,
+            source: String::new(alloc),
+            forms: FormChanges::new(alloc),
+            aside: 0,
+            first: None,
+        }
+    }
+
+    /// Names the file that is converted from now on before each line.
+    pub fn set_source(&mut self, alloc: Global, name: &str) -> Result<(), NoMemory> {
+        self.source = format!(in alloc; "{name}: ")?;
+        Ok(())
+    }
+
+    /// What stands before each line.
+    pub(crate) fn source(&self) -> &str {
+        self.source.as_str()
+    }
+
+    /// Whether a file gets all lines.
+    pub(crate) fn has_file(&self) -> bool {
+        self.file.is_some()
+    }
+
+    /// Writes lines to the file alone.
+    pub(crate) fn list(&mut self, lines: &str) -> Result<(), ConversionFault> {
+        match &mut self.file {
+            Some(file) => write_text(file, lines),
+            None => Ok(()),
+        }
+    }
+
+    /// Writes lines to the reader and to the file.
+    pub fn say(&mut self, lines: &str) -> Result<(), ConversionFault> {
+        write_text(&mut self.reader, lines)?;
+        self.list(lines)
+    }
+
+    /// Writes a line to the reader alone, and keeps it if it is the first of its weight.
+    pub(crate) fn tell(
+        &mut self,
+        alloc: Global,
+        weight: Weight,
+        line: &str,
+    ) -> Result<(), ConversionFault> {
+        let source = self.source.as_str();
+        let text = format!(in alloc; "{source}{line}\n")?;
+        write_text(&mut self.reader, text.as_str())?;
+        let is_first = match &self.first {
+            Some(first) => weight.rank() > first.weight.rank(),
+            None => true,
+        };
+        if is_first {
+            self.first = Some(FirstLine { weight, text });
+        }
+        Ok(())
+    }
+
+    /// Writes a line to the reader and to the file.
+    pub(crate) fn tell_all(
+        &mut self,
+        alloc: Global,
+        weight: Weight,
+        line: &str,
+    ) -> Result<(), ConversionFault> {
+        self.tell(alloc, weight, line)?;
+        self.list_line(alloc, line)
+    }
+
+    /// Writes a line to the file alone.
+    pub(crate) fn list_line(&mut self, alloc: Global, line: &str) -> Result<(), ConversionFault> {
+        if !self.has_file() {
+            return Ok(());
+        }
+        let source = self.source.as_str();
+        let text = format!(in alloc; "{source}{line}\n")?;
+        self.list(text.as_str())
+    }
+
+    /// Counts a change of form of a line or a cell of this name.
+    pub(crate) fn count(
+        &mut self,
+        alloc: Global,
+        kind: FormKind,
+        name: &str,
+    ) -> Result<(), NoMemory> {
+        self.forms.count(alloc, kind, name)
+    }
+
+    /// Counts a card of which something is kept aside.
+    pub(crate) fn count_aside(&mut self) {
+        self.aside = self.aside.saturating_add(1);
+    }
+
+    /// Writes the end: the numbers of changes of form, the line to look at first, and the numbers
+    /// of cards. `files` is the number of files that were made, if the conversion made files.
+    pub fn finish(
+        &mut self,
+        alloc: Global,
+        summary: Summary,
+        files: Option<u64>,
+    ) -> Result<(), ConversionFault> {
+        let forms = self.forms.text(alloc)?;
+        self.say(forms.as_str())?;
+        let first = self.first_text(alloc)?;
+        self.say(first.as_str())?;
+        let numbers = summary_text(alloc, summary, self.aside, files)?;
+        self.say(numbers.as_str())
+    }
+
+    /// The line that says what to look at first. Empty if there is nothing.
+    fn first_text(&self, alloc: Global) -> Result<String, NoMemory> {
+        match &self.first {
+            Some(first) => {
+                let line = first.text.as_str();
+                Ok(format!(in alloc; "look first at: {line}")?)
+            }
+            None => Ok(String::new(alloc)),
+        }
+    }
+}
+
+/// The last line of the report.
+fn summary_text(
     alloc: Global,
     summary: Summary,
-    errors: &mut E,
-) -> Result<(), ConversionFault> {
+    aside: u64,
+    files: Option<u64>,
+) -> Result<String, NoMemory> {
     let Summary {
         written,
         changed,
         refused,
     } = summary;
-    let text = format!(in alloc;
-        "{written} cards written, {changed} changed, {refused} not carried\n"
+    let numbers = format!(in alloc;
+        "{written} cards written, {changed} changed, {aside} with parts kept aside, {refused} not \
+         carried"
     )?;
-    report(errors, text.as_str())
+    let numbers = numbers.as_str();
+    match files {
+        Some(files) => Ok(format!(in alloc; "{numbers}, {files} files made\n")?),
+        None => Ok(format!(in alloc; "{numbers}\n")?),
+    }
+}
+
+/// Writes to the reader and to the file.
+impl<E: Write, T: Write> Write for Report<E, T> {
+    fn write(&mut self, buf: &[u8]) -> io::Result<usize> {
+        let count = self.reader.write(buf)?;
+        if let Some(file) = &mut self.file {
+            file.write_all(buf.get(..count).unwrap_or(buf))?;
+        }
+        Ok(count)
+    }
+
+    fn flush(&mut self) -> io::Result<()> {
+        if let Some(file) = &mut self.file {
+            file.flush()?;
+        }
+        self.reader.flush()
+    }
 }

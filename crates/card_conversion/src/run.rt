@@ -1,45 +1,35 @@
 //! Converts all cards of a file.
-ghost use Rattle.std.specs.Prelude.{IfOk};
+ghost use Rattle.std.specs.Prelude.{ℕ, List, IfOk, OnOk};
 ghost use Rattle.card_conversion.specs.Accounts.{ConvertsAll};
+ghost use Rattle.card_conversion.specs.Courses.{ConvertsPieces, Knows};
 ghost use Rattle.card_conversion.specs.internal.States.{Takes};
 
+use crate::course::Course;
 use crate::fate::Fate;
 use crate::fault::ConversionFault;
-use crate::ledger::{Ledger, Summary};
+use crate::ledger::Summary;
 use crate::outlet::Outlet;
 use crate::piece_reader::PieceReader;
 use crate::pieces::take_piece;
-use crate::report::{Place, report_text};
-use crate::reporting::{report, report_summary};
+use crate::report::{Place, report_piece};
+use crate::reporting::Report;
 use base_types::TextMap;
 use std::alloc::Global;
 use std::io::{Read, Write};
 
-/// Writes the lines of the report for a piece at the place.
-fn report_piece<E: Write>(
-    alloc: Global,
-    place: Place,
-    piece: &[u8],
-    fate: &Fate,
-    errors: &mut E,
-) -> Result<(), ConversionFault> {
-    let text = report_text(alloc, place, piece, fate)?;
-    report(errors, text.as_str())
-}
-
 /// Converts a piece if it is a card, writes the card to the outlet, and reports what became of it.
-fn convert_piece<O: Outlet, E: Write>(
+fn convert_piece<O: Outlet, E: Write, T: Write>(
     alloc: Global,
     uids: &mut TextMap<()>,
     place: Place,
     piece: &[u8],
     outlet: &mut O,
-    errors: &mut E,
+    report: &mut Report<E, T>,
 ) -> Result<Fate, ConversionFault>
     ensures { IfOk result (Takes O.writes piece.now uids.old uids.new outlet.old outlet.new) }
 {
     let fate = take_piece(alloc, uids, place.card, piece, outlet)?;
-    match report_piece(alloc, place, piece, &fate, errors) {
+    match report_piece(alloc, place, piece, &fate, report) {
         Ok(()) => Ok(fate),
         Err(fault) => {
             drop(fate);
@@ -48,8 +38,39 @@ fn convert_piece<O: Outlet, E: Write>(
     }
 }
 
-/// Converts all cards of a file and writes them to the outlet, in order. Reports each change of a
-/// card, each card that can't be carried and each text that is no card, and at last their numbers.
+/// Converts all cards of one more file and writes them to the outlet, in order. Reports each change
+/// of a card, each card that can't be carried and each text that is no card.
+///
+/// The same card as one of an earlier file is passed, and another card under the same UID gets one
+/// of its own. Cards are counted on. An `Err` is as that of `convert_file`.
+pub fn convert_more_cards<R: Read + Drop, O: Outlet, E: Write, T: Write>(
+    alloc: Global,
+    course: &mut Course,
+    reader: R,
+    outlet: &mut O,
+    report: &mut Report<E, T>,
+) -> Result<(), ConversionFault>
+    ensures { OnOk result ((uids : List (List ℕ)) → Knows course.old uids → ConvertsPieces O.writes
+        (R.remaining reader) uids course.old course.new outlet.old outlet.new) }
+{
+    let mut pieces = PieceReader::new(alloc, reader);
+    course.ledger.begin_file();
+    for _piece in 0..u64::MAX {
+        let Some(len) = pieces.find_piece(alloc)? else {
+            return Ok(());
+        };
+        let piece = pieces.piece(len);
+        let place = course.ledger.place;
+        let fate = convert_piece(alloc, &mut course.uids, place, piece, outlet, report)?;
+        course.ledger.count(piece, &fate);
+        pieces.pass(len);
+    }
+    Err(ConversionFault::Input)
+}
+
+/// Converts all cards of a file and writes them to the outlet, in order. Reports each card whose
+/// content changed, each card that can't be carried and each text that is no card, and at last how
+/// often each change of form came, what to look at first, and the numbers of cards.
 pub fn convert_cards<R: Read + Drop, O: Outlet, E: Write>(
     alloc: Global,
     reader: R,
@@ -59,18 +80,10 @@ pub fn convert_cards<R: Read + Drop, O: Outlet, E: Write>(
     ensures { IfOk result (λ summary.
         ConvertsAll O.writes (R.remaining reader) outlet.old outlet.new summary) }
 {
-    let mut pieces = PieceReader::new(alloc, reader);
-    let mut uids = TextMap::new(alloc);
-    let mut ledger = Ledger::new();
-    for _piece in 0..u64::MAX {
-        let Some(len) = pieces.find_piece(alloc)? else {
-            report_summary(alloc, ledger.summary, errors)?;
-            return Ok(ledger.summary);
-        };
-        let piece = pieces.piece(len);
-        let fate = convert_piece(alloc, &mut uids, ledger.place, piece, outlet, errors)?;
-        ledger.count(piece, &fate);
-        pieces.pass(len);
-    }
-    Err(ConversionFault::Input)
+    let mut course = Course::new(alloc);
+    let mut report: Report<&mut E, Vec<u8>> = Report::new(alloc, errors);
+    convert_more_cards(alloc, &mut course, reader, outlet, &mut report)?;
+    let summary = course.summary();
+    report.finish(alloc, summary, None)?;
+    Ok(summary)
 }

@@ -3,7 +3,7 @@
 use Rattle.std.specs.Prelude.{ℕ, ◌≡◌, ◌≢◌, ◌-◌, ◌^◌, ◌/◌, ◌%◌, ◌==◌, ◌&&◌, ⊤, Bool, true, false}
 use Rattle.std.specs.Prelude.{List, [], Option}
 use Rattle.std.specs.Prelude.{Some, None, Result, Ok, Err, codes, find, option_map, option_and_then}
-use Rattle.std.specs.Prelude.{unwrap_or}
+use Rattle.std.specs.Prelude.{drop, unwrap_or}
 use Rattle.std.specs.Prelude.{if◌then◌else◌}
 use Rattle.std.specs.Str.{bytes_eq}
 use Rattle.std.specs.Str.Parse.{digits_value, without_leading_plus}
@@ -25,7 +25,7 @@ use Rattle.cli_args.specs.declared.order.Order.TheVariants.{Try, Init, Book, Ser
 use Rattle.cli_args.specs.declared.order.Order.TheVariants.{Import, Export, Tally, Forget, Mirror}
 use Rattle.cli_args.specs.declared.order.Order.TheVariants.{Expand, Migrate, Check, Books, Verify}
 use Rattle.cli_args.specs.declared.order.Order.TheVariants.{Run, Version, Convert, Copy}
-use Rattle.cli_args.specs.declared.order.Order.TheVariants.{Resync, Restore}
+use Rattle.cli_args.specs.declared.order.Order.TheVariants.{Resync, Restore, ExportCards}
 
 -- ---- the values of arguments and options
 
@@ -45,11 +45,23 @@ text_arg id rows = first_of id rows
 abbrev pub texts_arg : Text → List Row → List Text
 texts_arg id rows = unwrap_or (all_of id rows) []
 
+-- all values of an argument after the first one
+abbrev pub later_texts : Text → List Row → List Text
+later_texts id rows = drop 1 (texts_arg id rows)
+
 abbrev pub u64_arg : Text → List Row → Option ℕ
 u64_arg id rows = option_and_then (number_upto (2 ^ 64 - 1)) (one_of id rows)
 
 abbrev pub port_arg : List Row → Option ℕ
 port_arg rows = option_and_then (number_upto (2 ^ 16 - 1)) (one_of (codes "P") rows)
+
+-- whether the version of vCards is 3.0, and not 4.0
+abbrev pub older_of : Text → Option Bool
+older_of text = if bytes_eq text (codes "4.0") then Some false
+    else (if bytes_eq text (codes "3.0") then Some true else None)
+
+abbrev pub older_arg : List Row → Option Bool
+older_arg rows = option_and_then older_of (first_of (codes "V") rows)
 
 abbrev pub form_arg : List Row → Option Form
 form_arg rows = option_and_then form_of (first_of (codes "F") rows)
@@ -114,8 +126,21 @@ import_order rows = with_book (λ file book. option_and_then (λ key.
     option_map (Import file book key) (text_arg (codes "CSV") rows))
     (text_arg (codes "KEY") rows)) rows
 
+-- an export as vCards
+abbrev pub cards_order : List Row → Option Order
+cards_order rows =
+    with_book (λ file book. option_map (ExportCards file book) (older_arg rows)) rows
+
+-- an export as CSV
+abbrev pub rows_order : List Row → Option Order
+rows_order rows = with_book (λ file book. option_map (Export file book) (form_arg rows)) rows
+
+-- vCards have no form, and only they have a version
 abbrev pub export_order : List Row → Option Order
-export_order rows = with_book (λ file book. option_map (Export file book) (form_arg rows)) rows
+export_order rows =
+    if is_given (codes "vcf") rows && is_given (codes "F") rows then None
+    else (if is_given (codes "vcf") rows then cards_order rows
+    else (if is_given (codes "V") rows then None else rows_order rows))
 
 abbrev pub tally_order : List Row → Option Order
 tally_order = with_book (λ file book. Some (Tally file book))
@@ -158,9 +183,18 @@ restore_order rows = option_and_then (λ backup. with_file (λ file.
 abbrev pub check_order : List Row → Option Order
 check_order = with_file (λ file. Some (Check file))
 
+abbrev pub convert_order_of : List Row → Option Order
+convert_order_of rows = with_file (λ file. Some (Convert file (later_texts (codes "FILE") rows)
+    (text_arg (codes "DIR") rows)
+    (u64_arg (codes "ROWS") rows) (u64_arg (codes "OCTETS") rows)
+    (is_given (codes "day-first") rows) (is_given (codes "month-first") rows)
+    (text_arg (codes "COLUMNS") rows) (text_arg (codes "CHARSET") rows)
+    (text_arg (codes "REPORT") rows))) rows
+
+-- the day and the month don't both come first
 abbrev pub convert_order : List Row → Option Order
-convert_order rows = with_file (λ file. Some (Convert file (text_arg (codes "DIR") rows)
-    (u64_arg (codes "ROWS") rows) (u64_arg (codes "OCTETS") rows))) rows
+convert_order rows = if is_given (codes "day-first") rows && is_given (codes "month-first") rows
+    then None else convert_order_of rows
 
 abbrev pub books_order : List Row → Option Order
 books_order = with_file (λ file. Some (Books file))

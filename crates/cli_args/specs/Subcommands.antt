@@ -14,6 +14,10 @@ use Rattle.clap.specs.declared.builder.value_parser.ValueParser.TheVariants.{Uns
 abbrev pub argument : Text → Rule
 argument id = record (new_rule id) { required = true }
 
+-- an argument that is given once or more often
+abbrev pub repeated_argument : Text → Rule
+repeated_argument id = record (argument id) { action = Some Append }
+
 -- a required number from `least` to `most`
 abbrev pub number_arg : Text → ℕ → ℕ → Rule
 number_arg id least most = record (argument id) { parser = Some (Unsigned least most) }
@@ -128,7 +132,8 @@ import_command =
 
 abbrev pub export_command : Shape
 export_command = order_command (codes "export")
-    (file_arg ∷ book_arg ∷ option_arg (codes "F") (codes "form") (codes "cards") ∷ [])
+    (file_arg ∷ book_arg ∷ option_arg (codes "F") (codes "form") (codes "cards")
+    ∷ switch (codes "vcf") (codes "vcf") ∷ option_arg (codes "V") (codes "as") (codes "4.0") ∷ [])
 
 abbrev pub tally_command : Shape
 tally_command = order_command (codes "tally") (file_arg ∷ book_arg ∷ [])
@@ -172,9 +177,14 @@ check_command = order_command (codes "check") (file_arg ∷ [])
 
 abbrev pub convert_command : Shape
 convert_command = order_command (codes "convert")
-    (file_arg ∷ free_option (codes "DIR") (codes "to")
+    (repeated_argument (codes "FILE") ∷ free_option (codes "DIR") (codes "to")
     ∷ free_number_option (codes "ROWS") (codes "rows") 1 10000
-    ∷ free_number_option (codes "OCTETS") (codes "octets") 1 8388608 ∷ [])
+    ∷ free_number_option (codes "OCTETS") (codes "octets") 1 8388608
+    ∷ switch (codes "day-first") (codes "day-first")
+    ∷ switch (codes "month-first") (codes "month-first")
+    ∷ free_option (codes "COLUMNS") (codes "columns")
+    ∷ free_option (codes "CHARSET") (codes "charset")
+    ∷ free_option (codes "REPORT") (codes "report") ∷ [])
 
 abbrev pub books_command : Shape
 books_command = order_command (codes "books") (file_arg ∷ [])

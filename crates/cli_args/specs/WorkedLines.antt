@@ -43,10 +43,23 @@ WorkedFiles =
 abbrev pub WorkedConversions : Type 0
 WorkedConversions =
     (order_from (codes "convert" ∷ codes "a.vcf" ∷ [])
-    ≡ Some (order.Convert (codes "a.vcf") None None None))
+    ≡ Some (order.Convert (codes "a.vcf") [] None None None false false None None None))
     × (order_from (codes "convert" ∷ codes "a.vcf" ∷ codes "--to=b" ∷ codes "--rows=10000"
     ∷ codes "--octets" ∷ codes "8388608" ∷ [])
-    ≡ Some (order.Convert (codes "a.vcf") (Some (codes "b")) (Some 10000) (Some 8388608)))
+    ≡ Some (order.Convert (codes "a.vcf") [] (Some (codes "b")) (Some 10000) (Some 8388608) false
+    false None None None))
+    × (order_from (codes "convert" ∷ codes "a.csv" ∷ codes "--day-first" ∷ codes "--columns=N=fn"
+    ∷ codes "--charset=koi8-r" ∷ codes "--report" ∷ codes "r" ∷ [])
+    ≡ Some (order.Convert (codes "a.csv") [] None None None true false (Some (codes "N=fn"))
+    (Some (codes "koi8-r")) (Some (codes "r"))))
+    × (order_from (codes "convert" ∷ codes "a.csv" ∷ codes "--month-first" ∷ [])
+    ≡ Some (order.Convert (codes "a.csv") [] None None None false true None None None))
+    × (order_from (codes "convert" ∷ codes "a.csv" ∷ codes "--day-first" ∷ codes "--month-first"
+    ∷ []) ≡ None)
+    × (order_from (codes "convert" ∷ codes "a.vcf" ∷ codes "--report=r" ∷ codes "b.csv"
+    ∷ codes "c.vcf" ∷ [])
+    ≡ Some (order.Convert (codes "a.vcf") (codes "b.csv" ∷ codes "c.vcf" ∷ []) None None None false
+    false None None (Some (codes "r"))))
     × (order_from (codes "convert" ∷ codes "a.vcf" ∷ codes "--rows=10001" ∷ []) ≡ None)
     × (order_from (codes "convert" ∷ codes "a.vcf" ∷ codes "--octets=0" ∷ []) ≡ None)
     × (order_from (codes "convert" ∷ codes "a.vcf" ∷ codes "--octets=8388609" ∷ []) ≡ None)
@@ -145,6 +158,18 @@ WorkedForms =
     (order_from (over_book (codes "export") (codes "--form=columns" ∷ []))
     ≡ Some (order.Export db staff Columns))
     × (order_from (over_book (codes "export") (codes "--form=rows" ∷ [])) ≡ None)
+
+abbrev pub WorkedCards : Type 0
+WorkedCards =
+    (order_from (over_book (codes "export") (codes "--vcf" ∷ []))
+    ≡ Some (order.ExportCards db staff false))
+    × (order_from (over_book (codes "export") (codes "--vcf" ∷ codes "--as=3.0" ∷ []))
+    ≡ Some (order.ExportCards db staff true))
+    × (order_from (over_book (codes "export") (codes "--as" ∷ codes "4.0" ∷ codes "--vcf" ∷ []))
+    ≡ Some (order.ExportCards db staff false))
+    × (order_from (over_book (codes "export") (codes "--vcf" ∷ codes "--as=2.1" ∷ [])) ≡ None)
+    × (order_from (over_book (codes "export") (codes "--as=3.0" ∷ [])) ≡ None)
+    × (order_from (over_book (codes "export") (codes "--vcf" ∷ codes "--form=cards" ∷ [])) ≡ None)
 
 abbrev pub WorkedNumbers : Type 0
 WorkedNumbers =

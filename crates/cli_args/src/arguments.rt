@@ -13,6 +13,13 @@ pub(crate) fn argument<'a>(alloc: Global, id: &'a str, help: &'a str) -> Arg<'a>
     Arg::new(alloc, id).help(help).required(true)
 }
 
+/// An argument that is given once or more often.
+pub(crate) fn repeated_argument<'a>(alloc: Global, id: &'a str, help: &'a str) -> Arg<'a>
+    ensures { IsArgument (lines.repeated_argument id.entry.now) result }
+{
+    argument(alloc, id, help).action(ArgAction::Append)
+}
+
 /// A required number.
 pub(crate) fn number_arg<'a>(
     alloc: Global,

@@ -1,53 +1,150 @@
 //! The command line of `convert`.
-ghost use Rattle.std.specs.Prelude.{IfOk};
+ghost use Rattle.std.specs.Prelude.{IfOk, codes};
 ghost use Rattle.cli_args.specs.Subcommands as lines;
-ghost use Rattle.cli_args.specs.Subcommands.{IsOrderCommand};
+ghost use Rattle.cli_args.specs.Subcommands.{IsArgument, IsOrderCommand};
 
-use crate::arguments::{argument, free_number_option, free_option};
+use crate::arguments::{free_number_option, free_option, repeated_argument, switch};
 use crate::subcommands::order_command;
-use clap::Command;
+use clap::{Arg, Command};
 use std::alloc::{AllocError, Global};
 
-pub(crate) fn convert_command<'a>(alloc: Global) -> Result<Command<'a>, AllocError>
-    ensures { IfOk result (IsOrderCommand lines.convert_command) }
+fn source_arg<'a>(alloc: Global) -> Arg<'a>
+    ensures { IsArgument (lines.repeated_argument (codes "FILE")) result }
 {
-    let file = argument(
+    repeated_argument(
         alloc,
         "FILE",
-        "vCards of version 2.1, 3.0 or 4.0, CSV of Google or Outlook, or rows of `export`",
-    );
-    let folder = free_option(
+        "vCards of version 2.1, 3.0 or 4.0, a spreadsheet of contacts as CSV, or rows of `export`; \
+         several files become one output",
+    )
+}
+
+fn folder_option<'a>(alloc: Global) -> Arg<'a>
+    ensures { IsArgument (lines.free_option (codes "DIR") (codes "to")) result }
+{
+    free_option(
         alloc,
         "DIR",
         "to",
         "Existing folder to write files to: one `.vcf` file per card, or the CSV files of --rows \
          and --octets",
-    );
-    let rows = free_number_option(
+    )
+}
+
+fn rows_option<'a>(alloc: Global) -> Arg<'a>
+    ensures { IsArgument (lines.free_number_option (codes "ROWS") (codes "rows") 1 10000) result }
+{
+    free_number_option(
         alloc,
         "ROWS",
         "rows",
         1,
         10_000,
         "Write several CSV files, each with at most this number of rows, 1 to 10000",
-    );
-    let octets = free_number_option(
+    )
+}
+
+fn octets_option<'a>(alloc: Global) -> Arg<'a>
+    ensures { IsArgument
+        (lines.free_number_option (codes "OCTETS") (codes "octets") 1 8388608) result }
+{
+    free_number_option(
         alloc,
         "OCTETS",
         "octets",
         1,
         8_388_608,
         "Write several CSV files, each of at most this number of bytes, 1 to 8388608",
-    );
+    )
+}
+
+fn day_first_switch<'a>(alloc: Global) -> Arg<'a>
+    ensures { IsArgument (lines.switch (codes "day-first") (codes "day-first")) result }
+{
+    switch(
+        alloc,
+        "day-first",
+        "day-first",
+        "Dates such as 05/04/1980 have the day first",
+    )
+}
+
+fn month_first_switch<'a>(alloc: Global) -> Arg<'a>
+    ensures { IsArgument (lines.switch (codes "month-first") (codes "month-first")) result }
+{
+    switch(
+        alloc,
+        "month-first",
+        "month-first",
+        "Dates such as 05/04/1980 have the month first",
+    )
+}
+
+fn columns_option<'a>(alloc: Global) -> Arg<'a>
+    ensures { IsArgument (lines.free_option (codes "COLUMNS") (codes "columns")) result }
+{
+    free_option(
+        alloc,
+        "COLUMNS",
+        "columns",
+        "What columns of a spreadsheet become, as 'Name=fn,Mail=email;type=work,#3=-': a column's \
+         name, or # and its number, and one of fn, n.family, n.given, n.additional, n.prefix, \
+         n.suffix, nickname, org, org.unit, title, role, email, tel, adr, adr.street, adr.city, \
+         adr.region, adr.code, adr.country, adr.box, adr.extended, url, bday, anniversary, note, \
+         categories, uid, gender, lang, impp, or - to leave it out",
+    )
+}
+
+fn charset_option<'a>(alloc: Global) -> Arg<'a>
+    ensures { IsArgument (lines.free_option (codes "CHARSET") (codes "charset")) result }
+{
+    free_option(
+        alloc,
+        "CHARSET",
+        "charset",
+        "Character set of the file: UTF-8, UTF-16, ISO-8859-1 to -16, windows-1250 to -1258 or \
+         -874, KOI8-R or KOI8-U",
+    )
+}
+
+fn report_option<'a>(alloc: Global) -> Arg<'a>
+    ensures { IsArgument (lines.free_option (codes "REPORT") (codes "report")) result }
+{
+    free_option(
+        alloc,
+        "REPORT",
+        "report",
+        "New file for all lines of the report, one for each line of a card that was changed",
+    )
+}
+
+pub(crate) fn convert_command<'a>(alloc: Global) -> Result<Command<'a>, AllocError>
+    ensures { IfOk result (IsOrderCommand lines.convert_command) }
+{
     order_command(
         alloc,
         "convert",
         "Convert cards and contacts of other programs to vCard 4.0, as CSV for `import`",
         "Example:\n  contacts convert phone.vcf > people.csv\n\nNeeds no store file. Standard \
-         error gets a line for each line of a card that was changed, a line for each card that \
-         can't be carried over, and their numbers. The status is 1 if a card wasn't carried over. \
-         With --rows or --octets the files are named after FILE, `phone-1.csv`, `phone-2.csv` and so \
-         on, beside FILE or in the folder. No file is overwritten.",
-        Vec::from_array(alloc, [file, folder, rows, octets])?,
+         error gets a line for each card whose content changed or that can't be carried over, how \
+         often each other change came, and the numbers of cards. The status is 1 if a card wasn't \
+         carried over. With --rows or --octets the files are named after the first FILE, \
+         `phone-1.csv`, `phone-2.csv` and so on, beside it or in the folder. No file is \
+         overwritten, and nothing is written before each FILE is known to be one that is \
+         converted.",
+        Vec::from_array(
+            alloc,
+            [
+                source_arg(alloc),
+                folder_option(alloc),
+                rows_option(alloc),
+                octets_option(alloc),
+                day_first_switch(alloc),
+                month_first_switch(alloc),
+                columns_option(alloc),
+                charset_option(alloc),
+                report_option(alloc),
+            ],
+        )?,
     )
 }

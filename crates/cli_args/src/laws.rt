@@ -1,6 +1,7 @@
 //! Worked examples: the orders of some command lines, computed from the definitions. They are
 //! stated in `specs/WorkedLines.antt`.
 ghost use Rattle.cli_args.specs.WorkedLines.{WorkedConnections, WorkedConversions, WorkedDefaults};
+ghost use Rattle.cli_args.specs.WorkedLines.{WorkedCards};
 ghost use Rattle.cli_args.specs.WorkedLines.{WorkedFaults, WorkedFiles, WorkedForms, WorkedHolds};
 ghost use Rattle.cli_args.specs.WorkedLines.{WorkedLimits};
 ghost use Rattle.cli_args.specs.WorkedLines.{WorkedCopies, WorkedLogs};
@@ -30,6 +31,8 @@ ghost use Rattle.cli_args.specs.WorkedLines.{WorkedSockets, WorkedVersions};
 /// - `logs`: with `--log`, `run` prints a line for each request; given twice, with a value or after
 ///   another order it is invalid.
 /// - `forms`: `columns` is a form; `rows` is none.
+/// - `cards`: `export` with `--vcf`, alone and with 3.0 or 4.0; not with another version, nor with a
+///   form; and not with a version alone.
 /// - `numbers`: `forget` accepts 999999999999999, and not one more.
 /// - `pages`: `mirror` accepts a limit of 0 with 1000000 pages; not 1000001 or 0 pages, nor a limit
 ///   of 1000000000000000.
@@ -55,6 +58,7 @@ pub fn worked_lines_are_orders()
     ensures holds { WorkedHolds }
     ensures logs { WorkedLogs }
     ensures forms { WorkedForms }
+    ensures cards { WorkedCards }
     ensures numbers { WorkedNumbers }
     ensures pages { WorkedPages }
     ensures copies { WorkedCopies }

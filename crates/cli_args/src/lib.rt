@@ -4,6 +4,7 @@
 mod arguments;
 mod backup_orders;
 mod convert_command;
+mod export_command;
 mod fault;
 pub mod laws;
 mod matched_orders;

@@ -4,11 +4,12 @@ ghost use Rattle.cli_args.specs.ParsedOrders as parsed;
 ghost use Rattle.cli_args.specs.ParsedOrders.{ParsesTo};
 
 use crate::backup_orders::{copy_order, restore_order, resync_order};
+use crate::export_command::export_order;
 use crate::fault::LineFault;
 use crate::order::Order;
 use crate::values::{
-    form_arg, given_text, given_texts, given_u64, is_given, is_given_empty, port_arg, refuse,
-    refuse_socket_and_port, text_arg, u64_arg,
+    given_text, given_texts, given_u64, is_given, is_given_empty, later_texts, port_arg, refuse,
+    refuse_both_orders, refuse_socket_and_port, text_arg, u64_arg,
 };
 use clap::ArgMatches;
 use std::alloc::Global;
@@ -98,15 +99,6 @@ fn import_order(alloc: Global, matches: &ArgMatches<'_>) -> Result<Order, LineFa
     })
 }
 
-fn export_order(alloc: Global, matches: &ArgMatches<'_>) -> Result<Order, LineFault>
-    ensures { ParsesTo (parsed.export_order (rows_of (found_of matches.now))) result }
-{
-    let file = text_arg(alloc, matches, "FILE")?;
-    let book = text_arg(alloc, matches, "BOOK")?;
-    let form = form_arg(alloc, matches)?;
-    Ok(Order::Export { file, book, form })
-}
-
 fn tally_order(alloc: Global, matches: &ArgMatches<'_>) -> Result<Order, LineFault>
     ensures { ParsesTo (parsed.tally_order (rows_of (found_of matches.now))) result }
 {
@@ -162,19 +154,40 @@ fn check_order(alloc: Global, matches: &ArgMatches<'_>) -> Result<Order, LineFau
     Ok(Order::Check { file })
 }
 
-fn convert_order(alloc: Global, matches: &ArgMatches<'_>) -> Result<Order, LineFault>
-    ensures { ParsesTo (parsed.convert_order (rows_of (found_of matches.now))) result }
+fn convert_order_of(alloc: Global, matches: &ArgMatches<'_>) -> Result<Order, LineFault>
+    ensures { ParsesTo (parsed.convert_order_of (rows_of (found_of matches.now))) result }
 {
     let file = text_arg(alloc, matches, "FILE")?;
+    let more = later_texts(alloc, matches, "FILE")?;
     let folder = given_text(alloc, matches, "DIR")?;
     let rows = given_u64(matches, "ROWS");
     let octets = given_u64(matches, "OCTETS");
+    let columns = given_text(alloc, matches, "COLUMNS")?;
+    let charset = given_text(alloc, matches, "CHARSET")?;
+    let report = given_text(alloc, matches, "REPORT")?;
     Ok(Order::Convert {
         file,
+        more,
         folder,
         rows,
         octets,
+        day_first: is_given(matches, "day-first"),
+        month_first: is_given(matches, "month-first"),
+        columns,
+        charset,
+        report,
     })
+}
+
+/// The order `convert`, if the day and the month don't both come first.
+fn convert_order(alloc: Global, matches: &ArgMatches<'_>) -> Result<Order, LineFault>
+    ensures { ParsesTo (parsed.convert_order (rows_of (found_of matches.now))) result }
+{
+    if is_given(matches, "day-first") && is_given(matches, "month-first") {
+        refuse_both_orders(alloc)
+    } else {
+        convert_order_of(alloc, matches)
+    }
 }
 
 fn books_order(alloc: Global, matches: &ArgMatches<'_>) -> Result<Order, LineFault>

@@ -74,6 +74,15 @@ pub enum Order {
         /// The form of the rows.
         form: Form,
     },
+    /// Print the book's cards as vCards.
+    ExportCards {
+        /// The path of a store file.
+        file: Text,
+        /// The book's name.
+        book: Text,
+        /// Whether they are written as vCard 3.0, and not 4.0.
+        is_older: bool,
+    },
     /// Print the book's statistics.
     Tally {
         /// The path of a store file.
@@ -145,16 +154,28 @@ pub enum Order {
         /// The path of a file with rows, or with one card if its name ends in `.vcf`.
         file: Text,
     },
-    /// Convert a file of cards to rows or to files, without a store.
+    /// Convert files of cards to rows or to files, without a store.
     Convert {
-        /// The path of the file.
+        /// The path of the first file.
         file: Text,
+        /// The paths of the files after it.
+        more: Items<Text>,
         /// The folder for the files that are written, if it was given.
         folder: Option<Text>,
         /// The maximum number of rows of a file, 1 to 10,000, if it was given.
         rows: Option<u64>,
         /// The maximum number of octets of a file of rows, 1 to 8,388,608, if it was given.
         octets: Option<u64>,
+        /// Whether the day comes first in dates with slashes.
+        day_first: bool,
+        /// Whether the month comes first in them. Both aren't given.
+        month_first: bool,
+        /// What the columns of a spreadsheet become, if it was given.
+        columns: Option<Text>,
+        /// The name of the file's character set, if it was given.
+        charset: Option<Text>,
+        /// The path of a new file for the report, if it was given.
+        report: Option<Text>,
     },
     /// List the books.
     Books {

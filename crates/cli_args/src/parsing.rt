@@ -12,9 +12,12 @@ use base_types::Text;
 use clap::error::ErrorKind;
 use clap::{ArgMatches, Error};
 use std::alloc::{AllocError, Global};
+use std::fmt::Display;
 
-fn error_text(alloc: Global, error: &Error) -> Result<Text, AllocError> {
-    Ok(Text::new(format!(in alloc; "{error}")?))
+/// The text that the value is displayed as. (Over an error of `clap`, the prover would spell out what
+/// each error says.)
+fn text_of<T: Display>(alloc: Global, value: &T) -> Result<Text, AllocError> {
+    Ok(Text::new(format!(in alloc; "{value}")?))
 }
 
 /// The fault for an error of `clap`.
@@ -24,7 +27,7 @@ fn fault_of(alloc: Global, error: Error) -> LineFault
     if error.kind() == ErrorKind::OutOfMemory {
         return LineFault::Memory;
     }
-    match error_text(alloc, &error) {
+    match text_of(alloc, &error) {
         Ok(text) => LineFault::Bad { text },
         Err(_) => LineFault::Memory,
     }

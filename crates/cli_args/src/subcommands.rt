@@ -7,11 +7,12 @@ ghost use Rattle.cli_args.specs.Subcommands.{AreOrderCommands, AreArguments, IsA
 ghost use Rattle.cli_args.specs.Subcommands.{IsOrderCommand};
 
 use crate::arguments::{
-    argument, book_arg, file_arg, flag, free_option, number_arg, number_option, option_arg,
-    repeated_option, site_option, switch,
+    argument, book_arg, file_arg, flag, free_option, number_arg, number_option, repeated_option,
+    site_option, switch,
 };
 use crate::backup_orders::{copy_command, restore_command, resync_command};
 use crate::convert_command::convert_command;
+use crate::export_command::export_command;
 use clap::{Arg, Command};
 use std::alloc::{AllocError, Global};
 
@@ -258,25 +259,6 @@ fn import_command<'a>(alloc: Global) -> Result<Command<'a>, AllocError>
          `uid,fn,family,given,email,tel,org,note` for one property per column. Either all cards \
          are imported or none. A card may have up to 262,144 bytes, and a book up to 10,000 cards.",
         Vec::from_array(alloc, [file_arg(alloc), book_arg(alloc), key, csv])?,
-    )
-}
-
-fn export_command<'a>(alloc: Global) -> Result<Command<'a>, AllocError>
-    ensures { IfOk result (IsOrderCommand lines.export_command) }
-{
-    let form = option_arg(
-        alloc,
-        "F",
-        "form",
-        "cards",
-        "CSV format: `cards` for a UID and a vCard per row, `columns` for one property per column",
-    );
-    order_command(
-        alloc,
-        "export",
-        "Write the cards of a book to standard output as CSV",
-        "Example:\n  contacts export office.db staff --form columns > people.csv",
-        Vec::from_array(alloc, [file_arg(alloc), book_arg(alloc), form])?,
     )
 }
 

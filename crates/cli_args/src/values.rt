@@ -1,5 +1,5 @@
 //! The values of matched arguments and options.
-ghost use Rattle.std.specs.Prelude.{◌≡◌, [], IfOk, None, Some, bytes_eq, map};
+ghost use Rattle.std.specs.Prelude.{◌≡◌, [], IfOk, None, Some, bytes_eq, drop, map};
 ghost use Rattle.clap.specs.Words.{found_of, rows_of};
 ghost use Rattle.cli_args.specs.ParsedOrders as parsed;
 ghost use Rattle.cli_args.specs.ParsedOrders.{ParsesTo};
@@ -36,6 +36,20 @@ pub(crate) fn refuse_socket_and_port<T>(alloc: Global) -> Result<T, LineFault>
     ensures { ParsesTo None result }
 {
     let text = Text::copy_of(alloc, SOCKET_AND_PORT)?;
+    Err(LineFault::Bad { text })
+}
+
+/// The message for two options of `convert` that exclude each other, in the form of `clap`'s own
+/// messages.
+const BOTH_ORDERS: &str = "error: the argument '--day-first' cannot be used with \
+     '--month-first'\n\nUsage: contacts convert [OPTIONS] <FILE>...\n\nFor more information, try \
+     '--help'.\n";
+
+/// The fault for both orders of dates.
+pub(crate) fn refuse_both_orders<T>(alloc: Global) -> Result<T, LineFault>
+    ensures { ParsesTo None result }
+{
+    let text = Text::copy_of(alloc, BOTH_ORDERS)?;
     Err(LineFault::Bad { text })
 }
 
@@ -111,6 +125,30 @@ pub(crate) fn given_texts(
 {
     match matches.get_strs(id) {
         Some(texts) => Ok(copies_of(alloc, texts)?),
+        None => Ok(Items::new(alloc)),
+    }
+}
+
+/// Copies of these texts after the first one.
+fn later_copies(alloc: Global, texts: &[&str]) -> Result<Items<Text>, NoMemory>
+    ensures { IfOk result (λ copies. copies ≡ drop 1 (map (λ text. text.now) texts.now)) }
+{
+    match texts.split_first() {
+        Some((_, later)) => copies_of(alloc, later),
+        None => Ok(Items::new(alloc)),
+    }
+}
+
+/// The texts of an argument after the first one.
+pub(crate) fn later_texts(
+    alloc: Global,
+    matches: &ArgMatches<'_>,
+    id: &str,
+) -> Result<Items<Text>, LineFault>
+    ensures { ParsesTo (Some (parsed.later_texts id.now (rows_of (found_of matches.now)))) result }
+{
+    match matches.get_strs(id) {
+        Some(texts) => Ok(later_copies(alloc, texts)?),
         None => Ok(Items::new(alloc)),
     }
 }

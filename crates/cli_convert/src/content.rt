@@ -18,13 +18,13 @@ const READS_MAX: u32 = 1_000_000;
 
 /// What a file has.
 #[derive(Clone, Copy)]
-pub(crate) enum Content {
+pub(crate) enum Content<'a> {
     /// Cards, or what is no card.
     Cards,
     /// Rows `uid,vcard`.
     Export,
     /// Contacts with this header.
-    Contacts(Header),
+    Contacts(Header<'a>),
     /// Rows with another header.
     OtherRows,
 }
@@ -37,8 +37,14 @@ fn is_csv_path(path: &str) -> bool {
     }
 }
 
-/// What a file at the path has that begins with these octets.
-pub(crate) fn content_of(alloc: Global, path: &str, head: &[u8]) -> Result<Content, NoMemory>
+/// What a file at the path has that begins with these octets. `columns` says what its columns
+/// become, and may be empty.
+pub(crate) fn content_of<'a>(
+    alloc: Global,
+    path: &str,
+    head: &[u8],
+    columns: &'a str,
+) -> Result<Content<'a>, NoMemory>
     ensures { IfOk result (λ content. IsTrue (is_export head.now) → content ≡ Export) }
 {
     if is_export(head) {
@@ -48,7 +54,7 @@ pub(crate) fn content_of(alloc: Global, path: &str, head: &[u8]) -> Result<Conte
     if begins_with_word(text, b"BEGIN:VCARD") {
         return Ok(Content::Cards);
     }
-    if let Some(header) = find_header(alloc, head)? {
+    if let Some(header) = find_header(alloc, head, columns)? {
         return Ok(Content::Contacts(header));
     }
     if is_csv_path(path) {

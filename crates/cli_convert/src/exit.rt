@@ -4,7 +4,7 @@ ghost use Rattle.cli_convert.specs.Endings.{status_of};
 
 use base_types::{NoMemory, Text};
 use card_conversion::{ConversionFault, Summary};
-use contact_columns::unknown_columns;
+use contact_columns::{suggested_columns, unknown_columns};
 use std::alloc::Global;
 use std::io::Write;
 
@@ -17,6 +17,12 @@ pub(crate) enum ConvertStop {
     Device(Text),
     /// Standard error can't be written.
     Report,
+}
+
+impl From<std::alloc::AllocError> for ConvertStop {
+    fn from(_error: std::alloc::AllocError) -> ConvertStop {
+        ConvertStop::Memory
+    }
 }
 
 impl From<NoMemory> for ConvertStop {
@@ -53,9 +59,23 @@ fn header_words(alloc: Global, file: &str, head: &[u8]) -> Result<String, NoMemo
     Ok(format!(in alloc; "{file} has a header whose columns aren't known: {names}")?)
 }
 
+/// The same, with what to say of the columns to begin with.
+fn header_help(alloc: Global, file: &str, head: &[u8]) -> Result<String, NoMemory> {
+    let mut words = header_words(alloc, file, head)?;
+    let columns = suggested_columns(alloc, head)?;
+    let columns = columns.as_str();
+    if !columns.is_empty() {
+        let help = format!(in alloc;
+            "; say what its columns are, beginning with --columns '{columns}'"
+        )?;
+        words.push_str(help.as_str())?;
+    }
+    Ok(words)
+}
+
 /// The stop for a file of rows whose header isn't known. `head` is the beginning of the file.
 pub(crate) fn unknown_header(alloc: Global, file: &str, head: &[u8]) -> ConvertStop {
-    match header_words(alloc, file, head) {
+    match header_help(alloc, file, head) {
         Ok(words) => ConvertStop::Device(Text::new(words)),
         Err(_) => ConvertStop::Memory,
     }
@@ -64,6 +84,51 @@ pub(crate) fn unknown_header(alloc: Global, file: &str, head: &[u8]) -> ConvertS
 /// The stop for a file in a format that isn't converted, with words on the format.
 pub(crate) fn foreign_file(alloc: Global, file: &str, words: &str) -> ConvertStop {
     match format!(in alloc; "{file} is {words}") {
+        Ok(words) => ConvertStop::Device(Text::new(words)),
+        Err(_) => ConvertStop::Memory,
+    }
+}
+
+/// The stop for a file that should be new, and is there.
+pub(crate) fn existing_file(alloc: Global, path: &str) -> ConvertStop {
+    match format!(in alloc; "{path} exists") {
+        Ok(words) => ConvertStop::Device(Text::new(words)),
+        Err(_) => ConvertStop::Memory,
+    }
+}
+
+/// The stop for a file after the first one that isn't a file, as a pipe.
+pub(crate) fn no_second_reading(alloc: Global, file: &str) -> ConvertStop {
+    match format!(in alloc; "{file} can't be read twice; convert it alone, or first") {
+        Ok(words) => ConvertStop::Device(Text::new(words)),
+        Err(_) => ConvertStop::Memory,
+    }
+}
+
+/// The stop for a file with dates that may be two.
+pub(crate) fn open_dates(alloc: Global, file: &str) -> ConvertStop {
+    match format!(in alloc;
+        "{file} has dates that may be two, as 05/04/1980; say which number is the day, by \
+         --day-first or --month-first"
+    ) {
+        Ok(words) => ConvertStop::Device(Text::new(words)),
+        Err(_) => ConvertStop::Memory,
+    }
+}
+
+/// The stop for a character set that isn't known.
+pub(crate) fn unknown_charset(alloc: Global, file: &str, name: &str) -> ConvertStop {
+    match format!(in alloc;
+        "{name} is no character set that is known here; make UTF-8 of {file}, as by iconv -f {name}"
+    ) {
+        Ok(words) => ConvertStop::Device(Text::new(words)),
+        Err(_) => ConvertStop::Memory,
+    }
+}
+
+/// The stop for columns that the file doesn't have, or that can't be read, with words on them.
+pub(crate) fn wrong_columns(alloc: Global, file: &str, words: &str) -> ConvertStop {
+    match format!(in alloc; "{file}, --columns: {words}") {
         Ok(words) => ConvertStop::Device(Text::new(words)),
         Err(_) => ConvertStop::Memory,
     }

@@ -2,17 +2,19 @@
 #![tactic(auto)]
 
 mod card_files;
+mod charset_reader;
 mod content;
 mod create;
 mod exit;
-mod foreign;
 mod names;
 mod opening;
 mod row_files;
 mod run;
+mod several;
 mod sources;
 mod wanted;
 
 pub use card_conversion::RowsOutlet;
+pub use contact_columns::DateOrder;
 pub use run::run_convert;
 pub use wanted::Wanted;

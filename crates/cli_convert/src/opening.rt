@@ -1,9 +1,14 @@
 //! Opens the file that is converted, and finds what it has.
 
+use crate::charset_reader::{CharsetReader, Encoding, encoding_named};
 use crate::content::{Content, HEAD_OCTETS, HeadFault, content_of, read_head};
-use crate::exit::{ConvertStop, foreign_file, unknown_header, unreadable};
-use crate::foreign::foreign_format;
-use contact_columns::{Header, RowText, read_date_order};
+use crate::exit::{
+    ConvertStop, foreign_file, open_dates, unknown_charset, unknown_header, unreadable,
+    wrong_columns,
+};
+use crate::wanted::Wanted;
+use card_conversion::foreign_format;
+use contact_columns::{DateOrder, Header, RowText, read_date_order, wish_fault};
 use import_text::TextReader;
 use std::alloc::Global;
 use std::fs;
@@ -12,16 +17,6 @@ use std::io::{Chain, ErrorKind, Read};
 
 /// The number of octets from which the encoding of a file is known.
 const FRONT_OCTETS: usize = 4;
-
-/// The byte order mark that a file in UTF-16 begins with that has none, and that begins with ASCII.
-/// Empty for any other file.
-fn missing_mark(front: &[u8]) -> &'static [u8] {
-    match front {
-        [a, 0, b, 0] if *a != 0 && *b != 0 => b"\xFF\xFE",
-        [0, a, 0, b] if *a != 0 && *b != 0 => b"\xFE\xFF",
-        _ => b"",
-    }
-}
 
 /// The first octets of what is read from the path.
 fn head_of<R: Read>(
@@ -63,88 +58,138 @@ pub(crate) fn open_file<F: Files>(
     Ok((front, file))
 }
 
+/// A file's text in UTF-8, after its first octets, with the mark that it may lack.
+type FileText<'a, R> = TextReader<CharsetReader<Chain<Chain<&'a [u8], &'a [u8]>, R>>>;
+
 /// A reader of the text of a file that begins with the octets of `front`.
 pub(crate) fn text_after<'a, R: Read + Drop>(
     alloc: Global,
     path: &str,
+    encoding: Encoding,
     front: &'a [u8],
     file: R,
-) -> Result<TextReader<Chain<Chain<&'a [u8], &'a [u8]>, R>>, ConvertStop> {
-    let whole = missing_mark(front).chain(front).chain(file);
-    read_as_text(alloc, path, whole)
+) -> Result<FileText<'a, R>, ConvertStop> {
+    let whole = encoding.missing_mark(front).chain(front).chain(file);
+    let reader = CharsetReader {
+        alloc,
+        reader: whole,
+        charset: encoding.charset(),
+        text: String::new(alloc),
+        start: 0,
+    };
+    read_as_text(alloc, path, reader)
+}
+
+/// The encoding that is wanted.
+pub(crate) fn wanted_encoding(alloc: Global, wanted: Wanted<'_>) -> Result<Encoding, ConvertStop> {
+    match encoding_named(alloc, wanted.charset)? {
+        Some(encoding) => Ok(encoding),
+        None => Err(unknown_charset(alloc, wanted.file, wanted.charset.unwrap_or(""))),
+    }
+}
+
+/// Fails if columns are given that the file doesn't have, or that can't be read.
+fn check_columns(alloc: Global, wanted: Wanted<'_>, head: &[u8]) -> Result<(), ConvertStop> {
+    if wanted.columns.is_empty() {
+        return Ok(());
+    }
+    match wish_fault(alloc, head, wanted.columns)? {
+        Some(words) => Err(wrong_columns(alloc, wanted.file, words.as_str())),
+        None => Ok(()),
+    }
 }
 
 /// Reads the head of the file, and what the file has.
-pub(crate) fn read_content<R: Read>(
+pub(crate) fn read_content<'a, R: Read>(
     alloc: Global,
-    path: &str,
+    wanted: Wanted<'a>,
     reader: &mut R,
-) -> Result<(Vec<u8>, Content), ConvertStop> {
+) -> Result<(Vec<u8>, Content<'a>), ConvertStop> {
+    let path = wanted.file;
     let head = head_of(alloc, path, reader, HEAD_OCTETS)?;
     if let Some(words) = foreign_format(head.as_slice()) {
         return Err(foreign_file(alloc, path, words));
     }
-    match content_of(alloc, path, head.as_slice())? {
+    check_columns(alloc, wanted, head.as_slice())?;
+    match content_of(alloc, path, head.as_slice(), wanted.columns)? {
         Content::OtherRows => Err(unknown_header(alloc, path, head.as_slice())),
+        Content::Contacts(header) => Ok((head, Content::Contacts(header))),
+        _ if !wanted.columns.is_empty() => {
+            Err(wrong_columns(alloc, path, "the file has cards, and no columns"))
+        }
         content => Ok((head, content)),
     }
 }
 
 /// Whether there is a file at the path, which can be read twice.
-fn is_file<F: Files>(files: &F, path: &str) -> bool {
+pub(crate) fn is_file<F: Files>(files: &F, path: &str) -> bool {
     match fs::metadata(files, path) {
         Ok(found) => found.is_file(),
         Err(_) => false,
     }
 }
 
-/// The header, with the order of day and month in the dates of the file. `reader` reads the file
-/// from its beginning.
-fn header_with_dates<R: Read + Drop>(
+/// The order of day and month in the dates of a file, of which `reader` reads the text from its
+/// beginning.
+fn dates_in<R: Read + Drop>(
     alloc: Global,
     path: &str,
     reader: R,
-    header: Header,
-) -> Result<Header, ConvertStop> {
+    header: Header<'_>,
+) -> Result<DateOrder, ConvertStop> {
     let mut text = reader;
     let head = head_of(alloc, path, &mut text, HEAD_OCTETS)?;
     let rest = head.get(header.start..).unwrap_or(&[]);
     let rows = RowText::new(alloc, rest.chain(text), header.delimiter, header.width);
-    let dates = read_date_order(alloc, rows, header)?;
-    Ok(Header {
+    match read_date_order(alloc, rows, header)? {
+        Some(dates) => Ok(dates),
+        None => Err(open_dates(alloc, path)),
+    }
+}
+
+/// The same of a file that is opened once more.
+fn file_dates<F: Files>(
+    alloc: Global,
+    files: &F,
+    wanted: Wanted<'_>,
+    header: Header<'_>,
+) -> Result<DateOrder, ConvertStop> {
+    let path = wanted.file;
+    let encoding = wanted_encoding(alloc, wanted)?;
+    let (front, file) = open_file(alloc, files, path)?;
+    let text = text_after(alloc, path, encoding, front.as_slice(), file)?;
+    dates_in(alloc, path, text, header)
+}
+
+/// The header with this order of day and month.
+fn header_with(header: Header<'_>, dates: DateOrder) -> Header<'_> {
+    Header {
         start: header.start,
         lines: header.lines,
         delimiter: header.delimiter,
         width: header.width,
         dates,
-    })
-}
-
-/// The same of a file that is opened once more.
-fn date_header<F: Files>(
-    alloc: Global,
-    files: &F,
-    path: &str,
-    header: Header,
-) -> Result<Header, ConvertStop> {
-    let (front, file) = open_file(alloc, files, path)?;
-    let text = text_after(alloc, path, front.as_slice(), file)?;
-    header_with_dates(alloc, path, text, header)
-}
-
-/// What the file has, with the order of day and month in its dates, if it has contacts and can be
-/// read twice.
-pub(crate) fn with_dates<F: Files>(
-    alloc: Global,
-    files: &F,
-    path: &str,
-    content: Content,
-) -> Result<Content, ConvertStop> {
-    match content {
-        Content::Contacts(header) if is_file(files, path) => {
-            let header = date_header(alloc, files, path, header)?;
-            Ok(Content::Contacts(header))
-        }
-        _ => Ok(content),
+        wished: header.wished,
     }
+}
+
+/// What the file has. If it has contacts, with the order of day and month in its dates: the one that
+/// is wanted, or else the one that they show, if the file can be read twice.
+pub(crate) fn with_dates<'a, F: Files>(
+    alloc: Global,
+    files: &F,
+    wanted: Wanted<'a>,
+    content: Content<'a>,
+) -> Result<Content<'a>, ConvertStop> {
+    let Content::Contacts(header) = content else {
+        return Ok(content);
+    };
+    if let Some(dates) = wanted.dates {
+        return Ok(Content::Contacts(header_with(header, dates)));
+    }
+    if !is_file(files, wanted.file) {
+        return Ok(content);
+    }
+    let dates = file_dates(alloc, files, wanted, header)?;
+    Ok(Content::Contacts(header_with(header, dates)))
 }

@@ -25,7 +25,7 @@ pub(crate) struct RowFiles<'a, F: Files> {
     rows_max: u64,
     octets_max: u64,
     /// The number of files so far.
-    count: u64,
+    pub(crate) count: u64,
     current: Option<RowFile<F::File>>,
 }
 

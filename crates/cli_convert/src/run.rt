@@ -1,17 +1,20 @@
 //! Runs the order.
-ghost use Rattle.std.specs.Prelude.{◌≡◌, ◌⊎◌, ◌<◌, IfOk, IsTrue};
+ghost use Rattle.std.specs.Prelude.{◌≡◌, ◌⊎◌, ◌+◌, ◌<◌, IfOk, IsTrue, length};
 ghost use Rattle.cli_convert.specs.Endings.{Ends, Prints, prints_rows};
 
 use crate::card_files::CardFiles;
 use crate::content::Content;
-use crate::exit::{ConvertStop, end, stop_of};
+use crate::create::{Created, create_new};
+use crate::exit::{ConvertStop, end, existing_file, stop_of};
 use crate::names::rows_front;
-use crate::opening::{open_file, read_content, text_after, with_dates};
+use crate::opening::{open_file, read_content, text_after, wanted_encoding, with_dates};
 use crate::row_files::RowFiles;
-use crate::sources::{convert_to, convert_to_writer};
+use crate::several::{check_more, content_text, convert_all};
 use crate::wanted::Wanted;
 use base_types::Text;
-use card_conversion::{ConversionFault, RowsOutlet, Summary};
+use card_conversion::laws::{written_cards_differ, written_rows_are_read};
+use card_conversion::{ConversionFault, Report, RowsOutlet, Summary};
+use contact_columns::left_out_columns;
 use std::alloc::Global;
 use std::fs;
 use std::fs::Files;
@@ -48,103 +51,207 @@ fn check_folder<F: Files>(
     }
 }
 
-/// Converts a file that was opened.
+/// Creates the file for the report, if one is wanted.
+fn wanted_report<F: Files>(
+    alloc: Global,
+    files: &F,
+    wanted: Wanted<'_>,
+) -> Result<Option<F::File>, ConvertStop> {
+    let Some(path) = wanted.report else {
+        return Ok(None);
+    };
+    match create_new(alloc, files, path) {
+        Ok(Created::File(file)) => Ok(Some(file)),
+        Ok(Created::Exists) => Err(existing_file(alloc, path)),
+        Err(fault) => Err(stop_of(alloc, ConversionFault::from(fault), wanted.file)),
+    }
+}
+
+/// Tells once which columns are left out.
+fn tell_left_out<E: Write, T: Write>(
+    alloc: Global,
+    wanted: Wanted<'_>,
+    report: &mut Report<E, T>,
+) -> Result<(), ConvertStop> {
+    let names = left_out_columns(alloc, wanted.columns)?;
+    let names = names.as_str();
+    if names.is_empty() {
+        return Ok(());
+    }
+    let line = format!(in alloc; "columns left out: {names}\n")?;
+    match report.say(line.as_str()) {
+        Ok(()) => Ok(()),
+        Err(_) => Err(ConvertStop::Report),
+    }
+}
+
+/// Writes the end of the report. `files` is the number of files that were made, if the cards went
+/// to files.
+fn tell_end<E: Write, T: Write>(
+    alloc: Global,
+    wanted: Wanted<'_>,
+    summary: Summary,
+    files: Option<u64>,
+    report: &mut Report<E, T>,
+) -> Result<(), ConvertStop> {
+    match report.finish(alloc, summary, files) {
+        Ok(()) => Ok(()),
+        Err(fault) => Err(stop_of(alloc, fault, wanted.file)),
+    }
+}
+
+/// Converts the first file, whose text this is, and those after it to files of rows.
+fn convert_to_row_files<F: Files, R: Read + Drop, E: Write>(
+    alloc: Global,
+    files: &F,
+    wanted: Wanted<'_>,
+    content: Content<'_>,
+    text: R,
+    report: &mut Report<E, F::File>,
+) -> Result<Summary, ConvertStop> {
+    let front = rows_front(alloc, wanted.file, wanted.folder)?;
+    let rows_max = wanted.rows.unwrap_or(ROWS_MAX);
+    let octets_max = wanted.octets.unwrap_or(OCTETS_MAX);
+    let mut outlet = RowFiles::new(files, front, rows_max, octets_max);
+    let summary = convert_all(alloc, files, wanted, content, text, &mut outlet, report)?;
+    tell_end(alloc, wanted, summary, Some(outlet.count), report)?;
+    Ok(summary)
+}
+
+/// The same to a file for each card.
+fn convert_to_card_files<F: Files, R: Read + Drop, E: Write>(
+    alloc: Global,
+    files: &F,
+    wanted: Wanted<'_>,
+    folder: &str,
+    content: Content<'_>,
+    text: R,
+    report: &mut Report<E, F::File>,
+) -> Result<Summary, ConvertStop> {
+    let mut outlet = CardFiles { files, folder };
+    let summary = convert_all(alloc, files, wanted, content, text, &mut outlet, report)?;
+    tell_end(alloc, wanted, summary, Some(summary.written), report)?;
+    Ok(summary)
+}
+
+/// The same to rows on a writer.
+fn convert_to_writer<F: Files, R: Read + Drop, W: Write, E: Write>(
+    alloc: Global,
+    files: &F,
+    wanted: Wanted<'_>,
+    content: Content<'_>,
+    text: R,
+    rows: &mut RowsOutlet<W>,
+    report: &mut Report<E, F::File>,
+) -> Result<Summary, ConvertStop>
+    ensures { IfOk result (λ summary. Prints (length wanted.entry.more.now + 1)
+        (W.contents rows.old.writer) (W.contents rows.new.writer) summary) }
+{
+    // Laws: the cards of files have different UIDs, and rows of such cards are read back.
+    written_rows_are_read();
+    written_cards_differ();
+
+    if let Err(fault) = rows.start(alloc) {
+        return Err(stop_of(alloc, ConversionFault::from(fault), wanted.file));
+    }
+    let summary = convert_all(alloc, files, wanted, content, text, rows, report)?;
+    tell_end(alloc, wanted, summary, None, report)?;
+    Ok(summary)
+}
+
+/// Converts the first file, whose text this is, and those after it to what is wanted.
 fn convert_opened<F: Files, R: Read + Drop, W: Write, E: Write>(
     alloc: Global,
     files: &F,
     wanted: Wanted<'_>,
-    content: Content,
-    reader: R,
+    content: Content<'_>,
+    text: R,
     rows: &mut RowsOutlet<W>,
-    errors: &mut E,
-) -> Result<Summary, ConversionFault>
+    report: &mut Report<E, F::File>,
+) -> Result<Summary, ConvertStop>
     ensures { IfOk result (λ summary. IsTrue (prints_rows wanted.entry)
-        → Prints (W.contents rows.old.writer) (W.contents rows.new.writer) summary) }
+        → Prints (length wanted.entry.more.now + 1) (W.contents rows.old.writer)
+        (W.contents rows.new.writer) summary) }
 {
     if wanted.has_bounds() {
-        let front = rows_front(alloc, wanted.file, wanted.folder)?;
-        let rows_max = wanted.rows.unwrap_or(ROWS_MAX);
-        let octets_max = wanted.octets.unwrap_or(OCTETS_MAX);
-        let mut outlet = RowFiles::new(files, front, rows_max, octets_max);
-        return convert_to(alloc, content, reader, &mut outlet, errors);
+        return convert_to_row_files(alloc, files, wanted, content, text, report);
     }
     match wanted.folder {
         Some(folder) => {
-            let mut outlet = CardFiles { files, folder };
-            convert_to(alloc, content, reader, &mut outlet, errors)
+            convert_to_card_files(alloc, files, wanted, folder, content, text, report)
         }
-        None => convert_to_writer(alloc, content, reader, rows, errors),
+        None => convert_to_writer(alloc, files, wanted, content, text, rows, report),
     }
 }
 
-/// The number of octets before what is converted.
-fn start_of(content: Content) -> usize {
-    match content {
-        Content::Contacts(header) => header.start,
-        _ => 0,
-    }
-}
-
-/// Converts the text of a file that was opened.
+/// Converts the text of the first file, and the files after it, once all of them are known.
 fn convert_text<F: Files, R: Read + Drop, W: Write, E: Write>(
     alloc: Global,
     files: &F,
     wanted: Wanted<'_>,
     text: R,
     rows: &mut RowsOutlet<W>,
-    errors: &mut E,
+    report: &mut Report<E, F::File>,
 ) -> Result<Summary, ConvertStop>
     ensures { IfOk result (λ summary. IsTrue (prints_rows wanted.entry)
-        → Prints (W.contents rows.old.writer) (W.contents rows.new.writer) summary) }
+        → Prints (length wanted.entry.more.now + 1) (W.contents rows.old.writer)
+        (W.contents rows.new.writer) summary) }
 {
     let mut reader = text;
-    let (head, content) = read_content(alloc, wanted.file, &mut reader)?;
-    let content = with_dates(alloc, files, wanted.file, content)?;
-    let reader = head.get(start_of(content)..).unwrap_or(&[]).chain(reader);
-    match convert_opened(alloc, files, wanted, content, reader, rows, errors) {
-        Ok(summary) => Ok(summary),
-        Err(fault) => Err(stop_of(alloc, fault, wanted.file)),
-    }
+    let (head, content) = read_content(alloc, wanted, &mut reader)?;
+    let content = with_dates(alloc, files, wanted, content)?;
+    check_more(alloc, files, wanted)?;
+    report.set_file(wanted_report(alloc, files, wanted)?);
+    tell_left_out(alloc, wanted, report)?;
+    let text = content_text(head.as_slice(), content, reader);
+    convert_opened(alloc, files, wanted, content, text, rows, report)
 }
 
-/// Opens the file and converts it.
+/// Opens the first file, and converts it and those after it.
 fn convert<F: Files, W: Write, E: Write>(
     alloc: Global,
     files: &F,
     wanted: Wanted<'_>,
     rows: &mut RowsOutlet<W>,
-    errors: &mut E,
+    report: &mut Report<E, F::File>,
 ) -> Result<Summary, ConvertStop>
     ensures { IfOk result (λ summary. IsTrue (prints_rows wanted.entry)
-        → Prints (W.contents rows.old.writer) (W.contents rows.new.writer) summary) }
+        → Prints (length wanted.entry.more.now + 1) (W.contents rows.old.writer)
+        (W.contents rows.new.writer) summary) }
 {
+    let encoding = wanted_encoding(alloc, wanted)?;
     let (front, file) = open_file(alloc, files, wanted.file)?;
     check_folder(alloc, files, wanted.folder)?;
-    let text = text_after(alloc, wanted.file, front.as_slice(), file)?;
-    convert_text(alloc, files, wanted, text, rows, errors)
+    let text = text_after(alloc, wanted.file, encoding, front.as_slice(), file)?;
+    convert_text(alloc, files, wanted, text, rows, report)
 }
 
-/// Converts the cards or the contacts of a file. Writes their cards as rows to standard output, as
-/// rows to files, or as one file for each card.
+/// Converts the cards or the contacts of files, in order. Writes their cards as rows to standard
+/// output, as rows to files, or as one file for each card; and the report to `errors`, and to a new
+/// file if one is wanted. Nothing is written before each file was opened, and it is known what it
+/// has.
 ///
 /// Returns the exit status of the program: 0 if all was carried, 1 if something wasn't, and 3 if
 /// the conversion stopped: a file, a folder, standard output or standard error can't be used, or
 /// there is no memory. Of files, a folder and standard error this is only tested.
-pub fn run_convert<F: Files, W: Write, E: Write>(
+pub fn run_convert<F: Files, W: Write, E: Write + Drop>(
     alloc: Global,
     files: &F,
     wanted: Wanted<'_>,
     rows: &mut RowsOutlet<W>,
-    errors: &mut E,
+    errors: E,
 ) -> u8
     ensures status { (result ≡ 0) ⊎ ((result ≡ 1) ⊎ (result ≡ 3)) }
 
-    // A conversion to standard output that didn't stop wrote the header, and a row for each card
-    // that was carried. They are read back as these cards. The status is that of the summary, which
-    // counts what was carried and what wasn't.
+    // A conversion to standard output that didn't stop wrote one header, and a row for each card
+    // that was carried, of as many files as are given. They are read back as these cards, of which
+    // no two have one UID. The status is that of the summary, which counts what was carried and
+    // what wasn't.
     ensures printed { result < 3 → IsTrue (prints_rows wanted.entry)
-        → Ends (W.contents rows.old.writer) (W.contents rows.new.writer) result }
+        → Ends (length wanted.entry.more.now + 1) (W.contents rows.old.writer)
+        (W.contents rows.new.writer) result }
 {
-    let done = convert(alloc, files, wanted, rows, errors);
-    end(alloc, done, errors)
+    let mut report: Report<E, F::File> = Report::new(alloc, errors);
+    let done = convert(alloc, files, wanted, rows, &mut report);
+    end(alloc, done, &mut report)
 }

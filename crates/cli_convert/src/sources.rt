@@ -1,12 +1,11 @@
 //! Converts what a file has.
-ghost use Rattle.std.specs.Prelude.{IfOk};
+ghost use Rattle.std.specs.Prelude.{ℕ, List, IfOk, OnOk};
+ghost use Rattle.card_conversion.specs.Courses.{ConvertsPart, Knows, Part};
 ghost use Rattle.contact_csv.specs.Contacts.{IsReady};
-ghost use Rattle.cli_convert.specs.Endings.{Prints};
 
 use crate::content::Content;
 use card_conversion::{
-    ConversionFault, Outlet, RowsOutlet, Summary, convert_contacts, convert_contacts_to_rows,
-    convert_file, convert_to_rows,
+    ConversionFault, Course, Outlet, Report, convert_more_contacts, convert_more_file,
 };
 use contact_columns::RowText;
 use contact_csv::{ContactFault, ContactReader, Header};
@@ -18,7 +17,7 @@ use std::io::{Read, Write};
 fn read_contacts<R: Read + Drop>(
     alloc: Global,
     reader: R,
-    header: Header,
+    header: Header<'_>,
 ) -> Result<ContactReader<RowText<R>>, ConversionFault>
     ensures { IfOk result IsReady }
 {
@@ -30,41 +29,29 @@ fn read_contacts<R: Read + Drop>(
     }
 }
 
-/// Converts what a file has to an outlet.
-pub(crate) fn convert_to<R: Read + Drop, O: Outlet, E: Write>(
+/// Converts what one more file has to an outlet.
+pub(crate) fn convert_to<R: Read + Drop, O: Outlet, E: Write, T: Write>(
     alloc: Global,
-    content: Content,
+    course: &mut Course,
+    content: Content<'_>,
     reader: R,
     outlet: &mut O,
-    errors: &mut E,
-) -> Result<Summary, ConversionFault> {
-    match content {
-        Content::Export => convert_file(alloc, ExportText::new(alloc, reader), outlet, errors),
-        Content::Contacts(header) => {
-            let contacts = read_contacts(alloc, reader, header)?;
-            convert_contacts(alloc, contacts, outlet, errors)
-        }
-        Content::Cards | Content::OtherRows => convert_file(alloc, reader, outlet, errors),
-    }
-}
-
-/// Converts what a file has to rows on a writer.
-pub(crate) fn convert_to_writer<R: Read + Drop, W: Write, E: Write>(
-    alloc: Global,
-    content: Content,
-    reader: R,
-    outlet: &mut RowsOutlet<W>,
-    errors: &mut E,
-) -> Result<Summary, ConversionFault>
-    ensures { IfOk result (λ summary.
-        Prints (W.contents outlet.old.writer) (W.contents outlet.new.writer) summary) }
+    report: &mut Report<E, T>,
+) -> Result<(), ConversionFault>
+    ensures { OnOk result ((uids : List (List ℕ)) → Knows course.old uids → (part : Part)
+        × ConvertsPart O.writes part uids course.old course.new outlet.old outlet.new) }
 {
     match content {
-        Content::Export => convert_to_rows(alloc, ExportText::new(alloc, reader), outlet, errors),
+        Content::Export => {
+            let text = ExportText::new(alloc, reader);
+            convert_more_file(alloc, course, text, outlet, report)
+        }
         Content::Contacts(header) => {
             let contacts = read_contacts(alloc, reader, header)?;
-            convert_contacts_to_rows(alloc, contacts, outlet, errors)
+            convert_more_contacts(alloc, course, contacts, outlet, report)
         }
-        Content::Cards | Content::OtherRows => convert_to_rows(alloc, reader, outlet, errors),
+        Content::Cards | Content::OtherRows => {
+            convert_more_file(alloc, course, reader, outlet, report)
+        }
     }
 }

@@ -17,11 +17,12 @@ use Rattle.cli_orders.specs.declared.address.Address.{Address}
 use Rattle.cli_orders.specs.declared.stop.Stop.{Stop}
 use Rattle.cli_orders.specs.declared.stop.Stop.TheVariants.{Open, Device}
 use Rattle.cli_orders.proofs.StopLemmas.{kept_same}
-use Rattle.cli_host.specs.Hosts.{HostCall, Copies, Creates, Looks, Opens, FindsFault, Migrates, ReadsRows, Restores, Binds, Finishes, HasLog, IsBoundAs, LogsCalls, MakesCalls}
+use Rattle.cli_host.specs.Hosts.{HostCall, Copies, Creates, Looks, Opens, FindsFault, Migrates, ReadsRows, Restores, Binds, Finishes, IsBoundAs, LogsCalls, MakesCalls}
 use Rattle.cli_host.specs.OrdersOnHost.{ChecksFile, CopiesFile, DoesInFile, DoesStoreWork, GetsStore, ImportsRows, MakesStore, MigratesFile, RestoresFile, ServesAt, ServesStore, StopsAt, StopsChecking, StopsCopying, StopsInFile, StopsMaking, StopsMigrating, StopsOnImport, StopsReadingRows, StopsRestoring, StopsStore, StopsStoreWork, StopsUnbound, StopsUnopened, StopsVerifying, VerifiesFile}
+use Rattle.cli_export.specs.CardFiles.{StopsCards}
 use Rattle.cli_host.specs.Resyncs.{StopsResync}
 use Rattle.cli_host.specs.declared.work.StoreWork.{StoreWork}
-use Rattle.cli_host.specs.declared.work.StoreWork.TheVariants.{Resync}
+use Rattle.cli_host.specs.declared.work.StoreWork.TheVariants.{ExportCards, Resync}
 use Rattle.http_replies.specs.Replies.{head_fault_octets}
 use Rattle.http_requests.specs.HandlerRuns.{FaultReplies, HandlerRelation}
 use Rattle.hub_server.specs.EndpointRuns.{EndpointRelation}
@@ -41,9 +42,6 @@ unbound stop w (inr is) = inr (record { stop_is = is; unwritten = kept_same w })
 module _ {S P L H : Type 0} (calls : HostCall S P L → H → H → Type 0) where
   one_call : (old new : H) (call : HostCall S P L) (Holds : List (HostCall S P L) → Type 0) → calls call old new → Holds (call ∷ []) → LogsCalls calls old new Holds
   one_call old new call Holds made holds = record { log = call ∷ []; made = (new, made, refl); holds = holds }
-
-  pub log_of : (old new : H) (Holds : List (HostCall S P L) → Type 0) → LogsCalls calls old new Holds → HasLog Holds
-  log_of old new Holds calls_made = record { log = calls_made.log; holds = calls_made.holds }
 
   -- ---- a new store
 
@@ -189,6 +187,13 @@ module _ {S P L H : Type 0} (model : StoreModel S) (calls : HostCall S P L → H
       → IfErr result (λ stop. LogsCalls calls host host (StopsStoreWork model old (Resync pairs) stop before after new))
   resync_stopped (Ok done) host old new pairs before after s = tt
   resync_stopped (Err stop) host old new pairs before after s = record { log = []; made = refl; holds = (refl, s) }
+
+  -- ---- an export as vCards
+
+  pub export_stopped : (result : Result (Unit {0}) Stop) (host : H) (old new : S) (book : List ℕ) (is_older : Bool) (before after : Option (List ℕ)) → IfErr result (λ stop. StopsCards model old book is_older stop before after new)
+      → IfErr result (λ stop. LogsCalls calls host host (StopsStoreWork model old (ExportCards book is_older) stop before after new))
+  export_stopped (Ok done) host old new book is_older before after s = tt
+  export_stopped (Err stop) host old new book is_older before after s = record { log = []; made = refl; holds = (refl, s) }
 
   -- ---- verifying a file
 

@@ -14,7 +14,7 @@ use Rattle.cli_orders.specs.declared.stop.Stop.{Stop}
 use Rattle.cli_host.specs.Hosts.{HostCall, LogsCalls}
 use Rattle.cli_host.specs.OrdersOnHost.{HasRefusedFile, HasReportedDamage, KeepsWorkOutput, StopsAtDamage, StopsChecking, StopsCopying, StopsFolder, StopsInFile, StopsMaking, StopsMigrating, StopsRestoring, StopsRun, StopsStore, StopsStoreWork, StopsVerifying, StopsWork}
 use Rattle.cli_host.specs.declared.work.StoreWork.{StoreWork}
-use Rattle.cli_host.specs.declared.work.StoreWork.TheVariants.{Perform, ImportFile, ListBooks, MirrorBook, Resync}
+use Rattle.cli_host.specs.declared.work.StoreWork.TheVariants.{ExportCards, Perform, ImportFile, ListBooks, MirrorBook, Resync}
 use Rattle.cli_host.specs.declared.work.Work.{Work}
 use Rattle.cli_host.specs.declared.work.Work.TheVariants.{Nothing, PrintVersion, CheckFile, CopyFile, CreateFile, MigrateFile, RestoreFile, RunFile, ServeFile, UseFile, VerifyFile}
 use Rattle.cli_orders.specs.Announcements.{WritesListeningLine}
@@ -24,6 +24,7 @@ use Rattle.cli_orders.specs.Stops.{out_of_memory}
 use Rattle.cli_orders.proofs.CommandLemmas.{mirror_stop_leaves}
 use Rattle.cli_host.proofs.ListingLemmas.{listing_stop_leaves}
 use Rattle.cli_host.specs.Resyncs.{StopsResync}
+use Rattle.cli_export.specs.CardFiles.{StopsCards}
 use Rattle.cli_host.proofs.TurnLemmas.{turns_leave}
 use Rattle.cli_orders.proofs.StopLemmas.{keeps_leaves, output_kept_by_device, serving_stop_leaves, stop_leaves}
 
@@ -79,12 +80,17 @@ module _ {S : Type 0} (model : StoreModel S) where
     | inr cut ↦ output_kept_by_device stop before after cut.stop_is
   ]
 
+  export_leaves : (old new : S) (book : List ℕ) (is_older : Bool) (stop : Stop) (before after : Option (List ℕ)) → StopsCards model old book is_older stop before after new → KeepsOutput stop before after
+  export_leaves old new book is_older stop before after (inl s) = keeps_leaves stop before after s.unwritten
+  export_leaves old new book is_older stop before after (inr s) = output_kept_by_device stop before after s.stop_is
+
 module _ {S P L : Type 0} (model : StoreModel S) where
   store_work_leaves : (work : StoreWork) (old new : S) (stop : Stop) (before after : Option (List ℕ)) (log : List (HostCall S P L)) → StopsStoreWork model old work stop before after new log → KeepsOutput stop before after
   store_work_leaves (Perform command) old new stop before after log s = stop_leaves s.1.reply stop before after s.1.stops
   store_work_leaves (ImportFile book key csv) old new stop before after log (inl s) = keeps_leaves stop before after s.unwritten
   store_work_leaves (ImportFile book key csv) old new stop before after log (inr s) = stop_leaves s.stops.reply stop before after s.stops.stops
   store_work_leaves (MirrorBook book limit pages) old new stop before after log s = mirror_stop_leaves model old new book limit pages stop before after s.1
+  store_work_leaves (ExportCards book is_older) old new stop before after log s = export_leaves model old new book is_older stop before after s.1
   store_work_leaves (ListBooks what) old new stop before after log s = listing_stop_leaves model what old new stop before after s.1
   store_work_leaves (Resync pairs) old new stop before after log s = resync_leaves model old new pairs stop before after s.1
 

@@ -1,17 +1,10 @@
 -- The host that orders run on: the calls that are made of it. This project's own.
-use Rattle.std.specs.Prelude.{◌≡◌, ◌≢◌, ⊤, ℕ, Bool, List, [], ◌∷◌, Option, Result}
-use Rattle.std.specs.declared.net.ip_addr.IpAddr.{IpAddr}
-use Rattle.std.specs.declared.net.ip_addr.IpAddr.TheVariants.{V4}
-use Rattle.book_model.specs.Bounds.{Bounds}
+use Rattle.std.specs.Prelude.{◌≡◌, ◌≢◌, ℕ, Bool, List, [], ◌∷◌, Option, Result}
 use Rattle.cli_orders.specs.declared.address.Address.{Address}
 use Rattle.cli_orders.specs.declared.restore_output.Restored.{Restored}
 use Rattle.cli_orders.specs.declared.address.Address.TheVariants.{Port, Socket}
 use Rattle.cli_orders.specs.declared.stop.Stop.{Stop}
-use Rattle.cli_orders.specs.declared.stop.Stop.TheVariants.{Device}
-use Rattle.cli_orders.specs.Stops.{out_of_memory}
 use Rattle.site_files.specs.Sites.{SiteFile}
-use Rattle.socket_endpoint.specs.declared.bind_fault.BindFault.{BindFault}
-use Rattle.socket_endpoint.specs.declared.bind_fault.BindFault.TheVariants as bind
 use Rattle.store_check.specs.declared.faults.FaultyRow.{FaultyRow}
 use Rattle.store_schema.specs.declared.open_fault.OpenFault.{OpenFault}
 
@@ -61,36 +54,8 @@ module _ {S P L Host : Type 0} (calls : HostCall S P L → Host → Host → Typ
     pub made : MakesCalls old log new
     pub holds : Holds log
 
--- of some log of calls, this holds
-pub record HasLog {S P L : Type 0} (Holds : List (HostCall S P L) → Type 0) : Type 0 where
-  pub log : List (HostCall S P L)
-  pub holds : Holds log
-
--- nothing is known of a call
-abbrev pub IsAnyCall : {S P L Host : Type 0} → HostCall S P L → Host → Host → Type 0
-IsAnyCall call old new = ⊤
-
 -- what was requested at the first address listens at the second; port 0 is any port
 abbrev pub IsBoundAs : Address → Address → Type 0
 IsBoundAs (Port requested) (Port port) = requested ≢ 0 → port ≡ requested
 IsBoundAs (Socket requested) (Socket path) = path ≡ requested
 IsBoundAs _ _ = ⊥
-
--- 127.0.0.1, which only programs of the host can connect to
-abbrev pub loopback_ip : IpAddr
-loopback_ip = V4 (record { octets = 127 ∷ 0 ∷ 0 ∷ 1 ∷ [] })
-
--- the stop for an endpoint that couldn't be bound
-abbrev pub stop_of_binding : BindFault → Stop
-stop_of_binding bind.Memory = out_of_memory
-stop_of_binding bind.Device = Device
-
--- the limits of the stores that the program creates and opens
-abbrev pub standard_limits : Bounds
-standard_limits = record {
-  page_max = 100;
-  cards_max = 10000;
-  changes_max = 1000000000000;
-  books_max = 100;
-  keep = 10000;
-}

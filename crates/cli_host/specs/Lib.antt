@@ -2,7 +2,6 @@ pub mod OrderWork
 pub mod Waiting
 pub mod Progress
 pub mod Hosts
-pub mod Keeps
 pub mod Naming
 pub mod Resyncs
 pub mod Listings

@@ -3,6 +3,7 @@ use Rattle.std.specs.Prelude.{ℕ, ◌≡◌, List, [], ◌∷◌, ◌++◌, cod
 use Rattle.std.specs.Prelude.{Result, Ok, Err}
 use Rattle.std.specs.Io.KnownBytes.{Appends, Keeps}
 use Rattle.std.specs.List.{Contains}
+use Rattle.admin_store.specs.Keeps.{keep_step}
 use Rattle.base_types.specs.Octets.{line_feed}
 use Rattle.book_http.specs.Streams.{WritesPrefix}
 use Rattle.book_model.specs.BookQueries.{book_lines, tally_step}
@@ -14,7 +15,6 @@ use Rattle.book_model.specs.declared.denied.Denied.TheVariants.{Refused as WasRe
 use Rattle.book_model.specs.declared.denied.Denied.TheVariants.{Fault as WasFault}
 use Rattle.book_model.specs.declared.refusal.Refusal.{Refusal}
 use Rattle.book_service.specs.Faults.{IsOutOfMemoryOr}
-use Rattle.cli_host.specs.Keeps.{keep_step}
 use Rattle.cli_host.specs.declared.listing.Listing.{Listing}
 use Rattle.cli_host.specs.declared.listing.Listing.TheVariants as listing
 use Rattle.cli_orders.specs.declared.stop.Stop.{Stop}

@@ -5,7 +5,7 @@ use Rattle.cli_args.specs.declared.order.Order.{Order}
 use Rattle.cli_args.specs.declared.order.Order.TheVariants.{Try, Init, Book, Serve, Run, Import}
 use Rattle.cli_args.specs.declared.order.Order.TheVariants.{Export, Tally, Forget, Mirror, Expand}
 use Rattle.cli_args.specs.declared.order.Order.TheVariants.{Migrate, Check, Books, Verify, Copy}
-use Rattle.cli_args.specs.declared.order.Order.TheVariants.{Restore, Resync}
+use Rattle.cli_args.specs.declared.order.Order.TheVariants.{Restore, Resync, ExportCards}
 use Rattle.cli_orders.specs.declared.order_names.OrderKind.{OrderKind}
 use Rattle.cli_orders.specs.declared.order_names.OrderKind.TheVariants as kind
 use Rattle.cli_orders.specs.declared.order_names.OrderNames.{OrderNames}
@@ -62,6 +62,7 @@ names_of (Import file book key csv) = named kind.Import file false csv 0
 names_of (Check file) = named kind.Check [] false file 0
 names_of (Book file book) = named kind.Other file false [] 0
 names_of (Export file book form) = named kind.Other file false [] 0
+names_of (ExportCards file book is_older) = named kind.Other file false [] 0
 names_of (Tally file book) = named kind.Other file false [] 0
 names_of (Forget file book upto) = named kind.Other file false [] 0
 names_of (Mirror file book limit pages) = named kind.Other file false [] 0

@@ -10,6 +10,7 @@ use Rattle.cli_args.specs.declared.order.Order.TheVariants.{Import, Export, Tall
 use Rattle.cli_args.specs.declared.order.Order.TheVariants.{Expand, Migrate, Check, Books, Verify}
 use Rattle.cli_args.specs.declared.order.Order.TheVariants.{Run, Version, Copy, Restore}
 use Rattle.cli_args.specs.declared.order.Order.TheVariants.{Resync as ResyncFile}
+use Rattle.cli_args.specs.declared.order.Order.TheVariants.{ExportCards as ExportVcards}
 use Rattle.cli_orders.specs.declared.address.Address.{Address}
 use Rattle.cli_orders.specs.declared.address.Address.TheVariants.{Port, Socket}
 use Rattle.hub_server.specs.declared.limits.ServeLimits.{ServeLimits}
@@ -19,7 +20,7 @@ use Rattle.cli_host.specs.declared.work.Work.TheVariants.{CreateFile, MigrateFil
 use Rattle.cli_host.specs.declared.work.Work.TheVariants.{RestoreFile, RunFile, ServeFile, UseFile}
 use Rattle.cli_host.specs.declared.work.Work.TheVariants.{VerifyFile}
 use Rattle.cli_host.specs.declared.work.StoreWork.TheVariants.{Perform, ImportFile, MirrorBook}
-use Rattle.cli_host.specs.declared.work.StoreWork.TheVariants.{ListBooks, Resync}
+use Rattle.cli_host.specs.declared.work.StoreWork.TheVariants.{ExportCards, ListBooks, Resync}
 use Rattle.cli_host.specs.declared.listing.Listing.TheVariants as listing
 
 -- more connections than anybody makes, so that `run` serves until it is stopped
@@ -55,6 +56,7 @@ abbrev pub store_work_of : Order → Work
 store_work_of (Book file book) = UseFile file (Perform (CreateBook book))
 store_work_of (Import file book key csv) = UseFile file (ImportFile book key csv)
 store_work_of (Export file book form) = UseFile file (Perform (ExportRows book form))
+store_work_of (ExportVcards file book is_older) = UseFile file (ExportCards book is_older)
 store_work_of (Tally file book) = UseFile file (Perform (TallyOf book))
 store_work_of (Forget file book upto) = UseFile file (Perform (ForgetUpto book upto))
 store_work_of (Mirror file book limit pages) = UseFile file (MirrorBook book limit pages)

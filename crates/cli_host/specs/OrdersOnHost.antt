@@ -21,6 +21,7 @@ use Rattle.cli_orders.specs.declared.stop.Stop.{Stop}
 use Rattle.cli_orders.specs.declared.stop.Stop.TheVariants.{Open, Device}
 pub use Rattle.cli_host.specs.EarlyStops.{StopsAtDevice, StopsForMemory, StopsOverText}
 pub use Rattle.cli_host.specs.EarlyStops.{StopsUnopened}
+use Rattle.cli_export.specs.CardFiles.{PrintsCards, StopsCards}
 use Rattle.cli_host.specs.Hosts.{HostCall, Creates, Looks, Opens, FindsFault, Migrates}
 use Rattle.cli_host.specs.Hosts.{Copies, Restores, ReadsRows, ReadsSite, Binds, Finishes}
 use Rattle.cli_host.specs.Hosts.{IsBoundAs}
@@ -28,7 +29,7 @@ use Rattle.cli_host.specs.OrderWork.{work_of}
 use Rattle.cli_host.specs.OrdersInTurn.{ServesFile, StopsServe}
 use Rattle.cli_host.specs.declared.work.StoreWork.{StoreWork}
 use Rattle.cli_host.specs.declared.work.StoreWork.TheVariants.{Perform, ImportFile, MirrorBook}
-use Rattle.cli_host.specs.declared.work.StoreWork.TheVariants.{ListBooks, Resync}
+use Rattle.cli_host.specs.declared.work.StoreWork.TheVariants.{ExportCards, ListBooks, Resync}
 use Rattle.cli_host.specs.declared.work.Work.{Work}
 use Rattle.cli_host.specs.declared.work.Work.TheVariants.{Nothing, PrintVersion, CheckFile}
 use Rattle.cli_host.specs.declared.work.Work.TheVariants.{CreateFile, MigrateFile, CopyFile}
@@ -237,6 +238,8 @@ module _ {S P L : Type 0} (model : StoreModel S) where
       ImportsRows old book key csv before after new log
   DoesStoreWork old (MirrorBook book limit pages) before after new log =
       (log ≡ []) × PrintsMirror model old book limit pages before after new
+  DoesStoreWork old (ExportCards book is_older) before after new log =
+      (log ≡ []) × PrintsCards model old book is_older before after new
   DoesStoreWork old (ListBooks what) before after new log =
       (log ≡ []) × PrintsListing model what old before after new
   DoesStoreWork old (Resync pairs) before after new log =
@@ -252,6 +255,8 @@ module _ {S P L : Type 0} (model : StoreModel S) where
       ⊎ StopsOnImport old book key csv stop before after new log
   StopsStoreWork old (MirrorBook book limit pages) stop before after new log =
       (log ≡ []) × StopsMirror model old book limit pages stop before after new
+  StopsStoreWork old (ExportCards book is_older) stop before after new log =
+      (log ≡ []) × StopsCards model old book is_older stop before after new
   StopsStoreWork old (ListBooks what) stop before after new log =
       (log ≡ []) × StopsListing model what old stop before after new
   StopsStoreWork old (Resync pairs) stop before after new log =

@@ -10,11 +10,11 @@ ghost use Rattle.cli_orders.specs.Inputs.{read_octets_max};
 ghost use Rattle.cli_orders.specs.Stops.{out_of_memory, stop_line};
 ghost use Rattle.book_http.specs.Streams.{ReadsAtMost};
 
-use crate::admin_store::AdminStore;
 use crate::host::Host;
 use crate::naming::{names_to_say, site_of};
 use crate::running::run_on_host;
 use crate::words::say_why;
+use admin_store::AdminStore;
 use book_http::Listener;
 use cli_args::{LineFault, Order};
 use cli_orders::{Stop, run_try, write_out};

@@ -1,19 +1,13 @@
 //! Runs the orders of the command line on the files and ports of a host.
 #![tactic(auto)]
 
-mod admin_store;
 mod args;
-mod causes;
 mod copying;
 mod exit;
-mod file_care;
 mod host;
-mod keeping;
 mod listing;
-mod lost_numbers;
 mod naming;
 mod progress;
-mod restoring;
 mod resyncing;
 mod running;
 mod serving;
@@ -27,6 +21,6 @@ pub use args::order_of_args;
 pub use exit::{ProgramExit, run_and_report};
 pub use host::Host;
 pub use listing::{Listing, run_listing};
-pub use running::{run_on_host, run_order};
+pub use running::run_on_host;
 pub use waiting::note_waiting;
 pub use work::{StoreWork, Work, work_of};

@@ -7,7 +7,7 @@ ghost use Rattle.cli_host.specs.Listings.{book_row, last_line, listed_row, listi
 ghost use Rattle.cli_host.specs.internal.ListingSteps.{IsLineDenial, IsLinesDenial};
 ghost use Rattle.sync_core.specs.StoreModels.{KeepsBooks};
 
-use crate::admin_store::AdminStore;
+use admin_store::AdminStore;
 use cli_orders::{Stop, write_out};
 use std::alloc::Global;
 use std::io::Write;

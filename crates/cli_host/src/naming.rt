@@ -117,6 +117,7 @@ fn names_of(alloc: Global, order: &Order) -> Result<OrderNames, NoMemory>
         Order::Check { file } => named(alloc, OrderKind::Check, "", false, file.as_str(), 0),
         Order::Book { file, .. } => of_file(alloc, OrderKind::Other, file),
         Order::Export { file, .. } => of_file(alloc, OrderKind::Other, file),
+        Order::ExportCards { file, .. } => of_file(alloc, OrderKind::Other, file),
         Order::Tally { file, .. } => of_file(alloc, OrderKind::Other, file),
         Order::Forget { file, .. } => of_file(alloc, OrderKind::Other, file),
         Order::Mirror { file, .. } => of_file(alloc, OrderKind::Other, file),

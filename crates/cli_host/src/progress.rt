@@ -7,10 +7,10 @@ ghost use Rattle.cli_orders.specs.CommandRuns.{PrintsCommand, StopsCommand};
 use crate::host::Host;
 use base_types::NoMemory;
 use book_service::Command;
-use book_store::OpenFault;
 use cli_orders::{Stop, run_command};
 use std::alloc::Global;
 use std::io::Write;
+use store_schema::OpenFault;
 use sync_core::BookStore;
 
 /// The most lines of a file of rows that is imported without a word.
@@ -28,7 +28,7 @@ fn opening_text(alloc: Global, file: &str, octets: u64) -> Result<Vec<u8>, NoMem
 }
 
 /// What is said before a long import.
-fn begin_text(alloc: Global, lines: usize) -> Result<Vec<u8>, NoMemory>
+fn begin_text(alloc: Global, lines: u64) -> Result<Vec<u8>, NoMemory>
     ensures { IfOk result (λ text. text.items ≡ begin_line lines) }
 {
     Ok(format!(in alloc; "importing {lines} lines ..\n")?.into_bytes())
@@ -67,7 +67,7 @@ pub(crate) fn run_import<S: BookStore, P, L, M: Host<S, P, L>, W: Write>(
     if lines <= SILENT_LINES_MAX || !host.has_watcher() {
         return run_command(alloc, store, command, writer);
     }
-    say(host, begin_text(alloc, lines));
+    say(host, begin_text(alloc, lines as u64));
     let start = host.now();
     let done = run_command(alloc, store, command, writer);
     say(host, end_text(alloc, host.micros_since(start)));

@@ -2,7 +2,7 @@
 ghost use Rattle.std.specs.Prelude.{IfErr, OnOk};
 ghost use Rattle.cli_host.specs.Resyncs.{PrintsResync, StopsResync};
 
-use crate::admin_store::AdminStore;
+use admin_store::AdminStore;
 use cli_orders::{Stop, resync_text, write_out};
 use std::alloc::Global;
 use std::io::Write;

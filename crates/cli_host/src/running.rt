@@ -1,6 +1,6 @@
 //! Runs orders on a host.
 ghost use Rattle.std.specs.Prelude.{◌⊎◌, IfErr, OnOk};
-ghost use Rattle.cli_host.specs.Hosts.{HasLog, LogsCalls};
+ghost use Rattle.cli_host.specs.Hosts.{LogsCalls};
 ghost use Rattle.cli_host.specs.OrdersOnHost.{ChecksFile, DoesInFile, DoesStoreWork, DoesWork};
 ghost use Rattle.cli_host.specs.OrdersOnHost.{ImportsRows, StopsChecking};
 ghost use Rattle.cli_host.specs.OrdersOnHost.{KeepsOrderOutput, MakesStore, MigratesFile};
@@ -9,7 +9,6 @@ ghost use Rattle.cli_host.specs.OrdersOnHost.{StopsInFile, StopsMaking, StopsMig
 ghost use Rattle.cli_host.specs.OrdersOnHost.{StopsOnHost, StopsOnImport, StopsReadingRows};
 ghost use Rattle.cli_host.specs.OrdersOnHost.{StopsStoreWork, StopsWork};
 
-use crate::admin_store::AdminStore;
 use crate::copying::{run_copy, run_restore};
 use crate::host::Host;
 use crate::listing::run_listing;
@@ -18,21 +17,19 @@ use crate::resyncing::run_resync;
 use crate::serving::{run_file, run_serve};
 use crate::verifying::run_verify;
 use crate::work::{StoreWork, Work, work_of};
+use admin_store::AdminStore;
 use base_types::Text;
-use book_http::{Connection, Listener};
+use book_http::Listener;
 use book_service::Command;
-use book_store::FileBooks;
 use cli_args::Order;
+use cli_export::run_card_export;
 use cli_orders::{
     Stop, kind_of_file, line_feed_count, made_text, migrate_text, run_check, run_command,
     run_mirror, version_text, write_out,
 };
 use hub_server::Endpoint;
-use socket_endpoint::SocketEndpoint;
 use std::alloc::Global;
 use std::io::Write;
-use std::net::{TcpListener, TcpStream};
-use std::rt::HostRuntime;
 use sync_core::BookStore;
 
 /// Creates a store without books in the file, and prints `made`.
@@ -131,6 +128,9 @@ fn do_store_work<S: AdminStore, P, L, M: Host<S, P, L>, W: Write>(
         }
         StoreWork::MirrorBook { book, limit, pages } => {
             run_mirror(alloc, store, book.as_str(), limit, pages, writer)
+        }
+        StoreWork::ExportCards { book, is_older } => {
+            run_card_export(alloc, store, book.as_str(), is_older, writer)
         }
         StoreWork::ListBooks(what) => run_listing(alloc, store, what, writer),
         StoreWork::Resync { pairs } => run_resync(alloc, store, pairs, writer),
@@ -238,29 +238,4 @@ pub fn run_on_host<
         KeepsOrderOutput order stop (W.contents writer.old) (W.contents writer.new)) }
 {
     do_work(alloc, host, work_of(order), writer)
-}
-
-/// `run_on_host`, on the host that the program runs on.
-///
-/// No contract connects a store with a real file, or an endpoint or a listener with sockets. So the
-/// clauses only say that there are stores, endpoints and listeners with which this is the order's
-/// log.
-pub fn run_order<W: Write>(rt: &HostRuntime, order: Order, writer: &mut W) -> Result<(), Stop>
-    ensures done { OnOk result (HasLog (RunsOnHost ⟦<FileBooks as BookStore>⟧.model
-        ⟦<SocketEndpoint as Endpoint>⟧.calls ⟦<TcpStream as Connection>⟧.model
-        ⟦<TcpListener as Listener>⟧.coming order
-        (W.contents writer.old) (W.contents writer.new))) }
-    ensures stopped { IfErr result (λ stop. HasLog (StopsOnHost ⟦<FileBooks as BookStore>⟧.model
-        ⟦<SocketEndpoint as Endpoint>⟧.calls ⟦<TcpStream as Connection>⟧.model
-        ⟦<TcpListener as Listener>⟧.coming order stop
-        (W.contents writer.old) (W.contents writer.new))) }
-
-    // Nothing is written on a refusal, on a fault, or if the file can't be opened. But the order
-    // `run` may have announced its port before memory ran out, the order to check a file has
-    // written why it refuses the file, and the order to verify one which row is at fault.
-    ensures output_kept { IfErr result (λ stop.
-        KeepsOrderOutput order stop (W.contents writer.old) (W.contents writer.new)) }
-{
-    let mut host = *rt;
-    run_on_host(rt.alloc(), &mut host, order, writer)
 }

@@ -10,7 +10,6 @@ use crate::host::Host;
 use crate::progress::open_watched;
 use base_types::{Items, Text};
 use book_http::{Listener, Service};
-use book_store::OpenFault;
 use cli_orders::{Address, Stop, announce_and_serve, announce_and_serve_in_turn};
 use http_requests::{Guarded, Handler};
 use hub_server::{Endpoint, ServeLimits};
@@ -18,6 +17,7 @@ use request_log::{LoggedEndpoint, LoggedHandler};
 use site_files::{Site, WithSite};
 use std::alloc::Global;
 use std::io::Write;
+use store_schema::OpenFault;
 use sync_core::BookStore;
 
 /// The log, if it is on.

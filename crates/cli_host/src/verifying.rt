@@ -3,15 +3,15 @@ ghost use Rattle.std.specs.Prelude.{IfErr, OnOk};
 ghost use Rattle.cli_host.specs.Hosts.{LogsCalls};
 ghost use Rattle.cli_host.specs.OrdersOnHost.{StopsVerifying, VerifiesFile};
 
-use crate::admin_store::AdminStore;
 use crate::host::Host;
 use crate::listing::{Listing, run_listing};
 use crate::progress::open_watched;
+use admin_store::AdminStore;
 use base_types::Text;
-use book_store::OpenFault;
 use cli_orders::{Stop, report_damage};
 use std::alloc::Global;
 use std::io::Write;
+use store_schema::OpenFault;
 
 /// Opens the store in the file, which tests all its rows, and lists its books and their number. If
 /// the file is damaged, it prints which row is at fault, and why.

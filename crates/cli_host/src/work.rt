@@ -118,6 +118,13 @@ pub enum StoreWork {
         /// The most pages.
         pages: u64,
     },
+    /// Exports the cards of a book as vCards.
+    ExportCards {
+        /// The book's name.
+        book: Text,
+        /// Whether they are written as vCard 3.0, and not 4.0.
+        is_older: bool,
+    },
     /// Lists the books.
     ListBooks(Listing),
     /// Makes every device start again.
@@ -189,6 +196,11 @@ fn store_work_of(order: Order) -> Work
         } => use_in(file, StoreWork::MirrorBook { book, limit, pages }),
         Order::Book { file, book } => perform_in(file, Command::CreateBook { book }),
         Order::Export { file, book, form } => perform_in(file, Command::Export { book, form }),
+        Order::ExportCards {
+            file,
+            book,
+            is_older,
+        } => use_in(file, StoreWork::ExportCards { book, is_older }),
         Order::Tally { file, book } => perform_in(file, Command::TallyOf { book }),
         Order::Forget { file, book, upto } => perform_in(file, Command::Forget { book, upto }),
         Order::Expand { file, book, uid } => perform_in(file, Command::People { book, uid }),

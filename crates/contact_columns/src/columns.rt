@@ -8,7 +8,8 @@ use crate::known_names::{Program, known_name};
 use crate::meaning::{Meaning, Part};
 use crate::numbered_names::numbered_name;
 use crate::outlook::outlook_meaning;
-use crate::slots::{Slot, add_column};
+use crate::slots::{Slot, add_column, add_slot, has_place};
+use crate::wishes::{Wish, chosen_wishes, have_columns, read_wishes};
 use csv::ByteRecord;
 use std::alloc::Global;
 use vcard_text::{Items, NoMemory, Text};
@@ -18,11 +19,14 @@ use vcard_text::{Items, NoMemory, Text};
 pub struct Column {
     /// The name, as the header has it.
     pub name: Text,
-    /// The name that Google or Outlook has for it in English. The name itself if none is known.
+    /// The name that Google or Outlook has for it in English, or the user's word for what it becomes.
+    /// The name itself if none is known.
     pub known: Text,
     /// The name of the property that holds its cells. `X-ABLABEL` for labels, which become types
     /// where vCard 4.0 has them. Empty for a column that has no property.
     pub property: Text,
+    /// Whether the user leaves it out.
+    pub is_left_out: bool,
 }
 
 /// The columns of a file of contacts, in order.
@@ -86,7 +90,7 @@ fn column_property(
 }
 
 /// The names of the columns that a header row has.
-fn column_names(alloc: Global, header: &ByteRecord) -> Result<Items<Text>, NoMemory> {
+pub(crate) fn column_names(alloc: Global, header: &ByteRecord) -> Result<Items<Text>, NoMemory> {
     let mut names = Items::new(alloc);
     for place in 0..header.len() {
         let name = cell_text(alloc, row_field(header, place))?;
@@ -116,21 +120,98 @@ fn program_of(names: &[Text]) -> Program {
     }
 }
 
-/// The columns of these names, and what they give.
-fn columns_of(alloc: Global, names: &[Text]) -> Result<ContactColumns, NoMemory> {
+/// Adds columns to the slots of their properties. `chosen` has the index of the wish for each.
+fn add_wished(
+    alloc: Global,
+    slots: &mut Vec<Slot>,
+    chosen: &[usize],
+    wishes: &[Wish<'_>],
+) -> Result<(), NoMemory> {
+    for place in 0..chosen.len() {
+        if let Some(wish) = wishes.get(chosen[place]) {
+            add_wish(alloc, slots, place, wish)?;
+        }
+    }
+    Ok(())
+}
+
+/// Adds a column to the slot of its property, if the wish gives it to one that has lines.
+fn add_wish(
+    alloc: Global,
+    slots: &mut Vec<Slot>,
+    place: usize,
+    wish: &Wish<'_>,
+) -> Result<(), NoMemory> {
+    if wish.leaves_out() || wish.target.property == "UID" {
+        return Ok(());
+    }
+    if wish.target.is_single {
+        let _is_added = add_column(alloc, slots, place, wish.meaning())?;
+        return Ok(());
+    }
+    add_slot(alloc, slots, place, wish.meaning())
+}
+
+/// A column for which there is a wish. It has no property if another column has its place there.
+fn wished_column(
+    alloc: Global,
+    slots: &[Slot],
+    place: usize,
+    name: &str,
+    wish: &Wish<'_>,
+) -> Result<Column, NoMemory> {
+    let property = wish.target.property;
+    let is_placed = property == "UID" || has_place(slots, place);
+    let known = wish.target.known;
+    Ok(Column {
+        name: Text::copy_of(alloc, name)?,
+        known: Text::copy_of(alloc, if known.is_empty() { wish.word } else { known })?,
+        property: Text::copy_of(alloc, if is_placed { property } else { "" })?,
+        is_left_out: wish.leaves_out(),
+    })
+}
+
+/// A column that is known by its name, if it is.
+fn known_column(
+    alloc: Global,
+    slots: &mut Vec<Slot>,
+    place: usize,
+    name: &str,
+    program: Program,
+) -> Result<Column, NoMemory> {
+    let known = Text::new(english_name(alloc, program, name)?);
+    let property = if known.as_str() == "UID" {
+        Text::copy_of(alloc, "UID")?
+    } else {
+        column_property(alloc, slots, place, known.as_str(), name)?
+    };
+    Ok(Column {
+        name: Text::copy_of(alloc, name)?,
+        known,
+        property,
+        is_left_out: false,
+    })
+}
+
+/// The columns of these names, and what they give. Those of wishes have the first choice.
+pub(crate) fn columns_of(
+    alloc: Global,
+    names: &[Text],
+    wishes: &[Wish<'_>],
+) -> Result<ContactColumns, NoMemory> {
     let program = program_of(names);
     let mut columns = Items::new(alloc);
     let mut slots = Vec::new(alloc);
+    let chosen = chosen_wishes(alloc, names, wishes)?;
+    add_wished(alloc, &mut slots, chosen.as_slice(), wishes)?;
     for place in 0..names.len() {
         let name = names[place].as_str();
-        let known = Text::new(english_name(alloc, program, name)?);
-        let property = column_property(alloc, &mut slots, place, known.as_str(), name)?;
-        let name = Text::copy_of(alloc, name)?;
-        columns.push(Column {
-            name,
-            known,
-            property,
-        })?;
+        let index = chosen.get(place).copied().unwrap_or(wishes.len());
+        let column = match wishes.get(index) {
+            Some(wish) => wished_column(alloc, slots.as_slice(), place, name, wish)?,
+            None => known_column(alloc, &mut slots, place, name, program)?,
+        };
+        columns.push(column)?;
     }
     Ok(ContactColumns {
         columns,
@@ -143,6 +224,11 @@ fn has_slot(slots: &[Slot], property: &str) -> bool {
     slots.iter().any(|slot| slot.property.as_str() == property)
 }
 
+/// Whether one of the properties is there that name a person or an organization.
+pub(crate) fn has_names(slots: &[Slot]) -> bool {
+    has_slot(slots, "N") || has_slot(slots, "FN") || has_slot(slots, "ORG")
+}
+
 /// Whether one of the properties is there by which a person is reached.
 fn reaches(slots: &[Slot]) -> bool {
     has_slot(slots, "EMAIL") || has_slot(slots, "TEL")
@@ -151,12 +237,11 @@ fn reaches(slots: &[Slot]) -> bool {
 /// Whether the slots are those of contacts: of names or organizations, and of addresses of
 /// electronic mail, telephones or categories.
 fn are_of_contacts(slots: &[Slot]) -> bool {
-    let has_name = has_slot(slots, "N") || has_slot(slots, "FN") || has_slot(slots, "ORG");
-    has_name && (reaches(slots) || has_slot(slots, "CATEGORIES"))
+    has_names(slots) && (reaches(slots) || has_slot(slots, "CATEGORIES"))
 }
 
 /// The text in lower case, where it is ASCII.
-fn lower(alloc: Global, text: &str) -> Result<String, NoMemory> {
+pub(crate) fn lower(alloc: Global, text: &str) -> Result<String, NoMemory> {
     let mut lower = String::new(alloc);
     for c in text.chars() {
         lower.push(c.to_ascii_lowercase())?;
@@ -191,20 +276,35 @@ fn unread_names(alloc: Global, columns: &[Column]) -> Result<String, NoMemory> {
     Ok(names)
 }
 
+/// Whether the columns are those of contacts. They aren't if all columns that should have addresses
+/// or numbers by their names have no property.
+fn are_contacts(alloc: Global, read: &ContactColumns) -> Result<bool, NoMemory> {
+    let slots = read.slots.as_slice();
+    if !are_of_contacts(slots) {
+        return Ok(false);
+    }
+    Ok(reaches(slots) || unread_names(alloc, read.columns.as_slice())?.is_empty())
+}
+
 /// The columns that a header row of contacts names: those of a name or an organization, and of
 /// addresses of electronic mail, telephones or categories. `None` for any other row, and if all
-/// columns that should have addresses or numbers by their names have no property. The only `Err` is
-/// out of memory.
+/// columns that should have addresses or numbers by their names have no property.
+///
+/// `wished` says what columns become, as `Name=fn,#7=-`, and may be empty. If it isn't, any row with
+/// these columns names them, and the others are known by their names. The only `Err` is out of
+/// memory.
 pub fn read_columns(
     alloc: Global,
     header: &ByteRecord,
+    wished: &str,
 ) -> Result<Option<ContactColumns>, NoMemory> {
     let names = column_names(alloc, header)?;
-    let read = columns_of(alloc, names.as_slice())?;
-    if !are_of_contacts(read.slots.as_slice()) {
+    let wishes = read_wishes(alloc, wished)?;
+    if !have_columns(alloc, wishes.as_slice(), names.as_slice())? {
         return Ok(None);
     }
-    if !reaches(read.slots.as_slice()) && !unread_columns(alloc, header)?.is_empty() {
+    let read = columns_of(alloc, names.as_slice(), wishes.as_slice())?;
+    if wishes.is_empty() && !are_contacts(alloc, &read)? {
         return Ok(None);
     }
     Ok(Some(read))
@@ -212,8 +312,8 @@ pub fn read_columns(
 
 /// The names of the columns of a header that should have addresses of electronic mail or numbers of
 /// telephones, and that aren't known, with commas between them. The only `Err` is out of memory.
-pub fn unread_columns(alloc: Global, header: &ByteRecord) -> Result<String, NoMemory> {
+pub(crate) fn unread_columns(alloc: Global, header: &ByteRecord) -> Result<String, NoMemory> {
     let names = column_names(alloc, header)?;
-    let read = columns_of(alloc, names.as_slice())?;
+    let read = columns_of(alloc, names.as_slice(), &[])?;
     unread_names(alloc, read.columns.as_slice())
 }

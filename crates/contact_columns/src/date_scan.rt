@@ -46,23 +46,25 @@ fn places_in_header<R: Read>(
     alloc: Global,
     rows: &mut Reader<R>,
     row: &mut ByteRecord,
+    wished: &str,
 ) -> Result<Vec<usize>, NoMemory> {
     if !read_row(rows, row)? {
         return Ok(Vec::new(alloc));
     }
-    match read_columns(alloc, row)? {
+    match read_columns(alloc, row, wished)? {
         Some(columns) => date_places(alloc, &columns),
         None => Ok(Vec::new(alloc)),
     }
 }
 
 /// Whether the day or the month comes first in the dates of a file, by all its rows. `source` begins
-/// with the header. The only `Err` is out of memory.
+/// with the header. `None` if there are dates that may be two, and none says which they are, or some
+/// say the one and some the other. The only `Err` is out of memory.
 pub fn read_date_order<R: Read + Drop>(
     alloc: Global,
     source: R,
-    header: Header,
-) -> Result<DateOrder, NoMemory> {
+    header: Header<'_>,
+) -> Result<Option<DateOrder>, NoMemory> {
     let mut rows = ReaderBuilder::new()
         .has_headers(false)
         .flexible(true)
@@ -70,9 +72,9 @@ pub fn read_date_order<R: Read + Drop>(
         .from_reader(alloc, source);
     let mut row = ByteRecord::new(alloc);
     let mut signs = DateSigns::new();
-    let places = places_in_header(alloc, &mut rows, &mut row)?;
+    let places = places_in_header(alloc, &mut rows, &mut row, header.wished)?;
     if places.is_empty() {
-        return Ok(DateOrder::Unknown);
+        return Ok(Some(DateOrder::Unknown));
     }
     for _row in 0..u64::MAX {
         if !read_row(&mut rows, &mut row)? {

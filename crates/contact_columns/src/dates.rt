@@ -19,6 +19,8 @@ pub enum DateOrder {
 pub struct DateSigns {
     has_day_first: bool,
     has_month_first: bool,
+    /// Whether a date may be two.
+    has_open: bool,
 }
 
 /// A date, perhaps without its year.
@@ -281,25 +283,29 @@ impl DateSigns {
         DateSigns {
             has_day_first: false,
             has_month_first: false,
+            has_open: false,
         }
     }
 
-    /// Takes the sign of a date: a number that is no month.
+    /// Takes the sign of a date: a number that is no month, or two different months.
     pub fn note(&mut self, text: &str) {
         if let Some(Parsed::Numbers(first, second, year)) = parse(text) {
             let day_first = valid_date(Some(year), second, first).is_some();
             let month_first = valid_date(Some(year), first, second).is_some();
             self.has_day_first = self.has_day_first || day_first && !month_first;
             self.has_month_first = self.has_month_first || month_first && !day_first;
+            let is_open = day_first && month_first && first != second;
+            self.has_open = self.has_open || is_open;
         }
     }
 
-    /// The order of the dates.
-    pub fn order(&self) -> DateOrder {
+    /// The order of the dates. `None` if one may be two, and the others don't say which it is.
+    pub fn order(&self) -> Option<DateOrder> {
         match (self.has_day_first, self.has_month_first) {
-            (true, false) => DateOrder::DayFirst,
-            (false, true) => DateOrder::MonthFirst,
-            _ => DateOrder::Unknown,
+            (true, false) => Some(DateOrder::DayFirst),
+            (false, true) => Some(DateOrder::MonthFirst),
+            _ if self.has_open => None,
+            _ => Some(DateOrder::Unknown),
         }
     }
 }

@@ -8,7 +8,7 @@ use vcard_text::{NoMemory, Text};
 
 /// The header of a file of contacts.
 #[derive(Clone, Copy)]
-pub struct Header {
+pub struct Header<'a> {
     /// The number of octets before it: those of a mark, of a line `sep=;` or of notes.
     pub start: usize,
     /// The number of line feeds before it.
@@ -19,13 +19,22 @@ pub struct Header {
     pub width: usize,
     /// The order of day and month in the dates below it, if it was found.
     pub dates: DateOrder,
+    /// What the user says of its columns (see `read_columns`); empty for nothing.
+    pub wished: &'a str,
 }
+
+/// The delimiters between cells that are tried.
+pub(crate) const DELIMITERS: [u8; 4] = [b',', b';', b'\t', b'|'];
 
 /// The lines among which the header is looked for.
 const LINES_MAX: u64 = 5;
 
 /// The first row of the octets, with this delimiter.
-fn first_row(alloc: Global, octets: &[u8], delimiter: u8) -> Result<ByteRecord, NoMemory> {
+pub(crate) fn first_row(
+    alloc: Global,
+    octets: &[u8],
+    delimiter: u8,
+) -> Result<ByteRecord, NoMemory> {
     let mut reader = ReaderBuilder::new()
         .has_headers(false)
         .flexible(true)
@@ -39,15 +48,17 @@ fn first_row(alloc: Global, octets: &[u8], delimiter: u8) -> Result<ByteRecord, 
 }
 
 /// The delimiter with which the octets begin with a header of contacts, and the number of its
-/// cells.
-fn header_at(alloc: Global, octets: &[u8]) -> Result<Option<(u8, usize)>, NoMemory> {
-    for delimiter in [b',', b';', b'\t', b'|'] {
+/// cells. Of several the one with the most cells.
+fn header_at(alloc: Global, octets: &[u8], wished: &str) -> Result<Option<(u8, usize)>, NoMemory> {
+    let mut found: Option<(u8, usize)> = None;
+    for delimiter in DELIMITERS {
         let row = first_row(alloc, octets, delimiter)?;
-        if read_columns(alloc, &row)?.is_some() {
-            return Ok(Some((delimiter, row.len())));
+        let most = found.map_or(0, |it| it.1);
+        if row.len() > most && read_columns(alloc, &row, wished)?.is_some() {
+            found = Some((delimiter, row.len()));
         }
     }
-    Ok(None)
+    Ok(found)
 }
 
 /// The number of octets of the first line.
@@ -60,19 +71,24 @@ fn line_len(octets: &[u8]) -> usize {
 
 /// Finds the header of a file of contacts: in the first line, or after up to four other lines. Its
 /// cells have a comma, a semicolon, a tab or a vertical bar between them. `None` if there is none.
-/// `head` is the beginning of the file, at least to the end of the header. The only `Err` is out of
-/// memory.
-pub fn find_header(alloc: Global, head: &[u8]) -> Result<Option<Header>, NoMemory> {
+/// `head` is the beginning of the file, at least to the end of the header. `wished` says what its
+/// columns become, and may be empty (see `read_columns`). The only `Err` is out of memory.
+pub fn find_header<'a>(
+    alloc: Global,
+    head: &[u8],
+    wished: &'a str,
+) -> Result<Option<Header<'a>>, NoMemory> {
     let mut start: usize = 0;
     for lines in 0..LINES_MAX {
         let rest = head.get(start..).unwrap_or(&[]);
-        if let Some((delimiter, width)) = header_at(alloc, rest)? {
+        if let Some((delimiter, width)) = header_at(alloc, rest, wished)? {
             return Ok(Some(Header {
                 start,
                 lines,
                 delimiter,
                 width,
                 dates: DateOrder::Unknown,
+                wished,
             }));
         }
         start = start.saturating_add(line_len(rest));
@@ -84,7 +100,7 @@ pub fn find_header(alloc: Global, head: &[u8]) -> Result<Option<Header>, NoMemor
 /// telephones by their names, and that aren't known. The only `Err` is out of memory.
 pub fn unknown_columns(alloc: Global, head: &[u8]) -> Result<Text, NoMemory> {
     let mut names = String::new(alloc);
-    for delimiter in [b',', b';', b'\t', b'|'] {
+    for delimiter in DELIMITERS {
         let row = first_row(alloc, head, delimiter)?;
         if names.is_empty() && row.len() > 1 {
             names = unread_columns(alloc, &row)?;

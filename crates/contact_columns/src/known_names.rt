@@ -51,6 +51,7 @@ const PERSONS: &[KnownName] = &[
     ("fullname", "Name"),
     ("display name", "Name"),
     ("displayname", "Name"),
+    ("fn", "Name"),
     ("contact name", "Name"),
     ("anzeigename", "Name"),
     ("nom complet", "Name"),
@@ -59,6 +60,7 @@ const PERSONS: &[KnownName] = &[
     ("firstname", "First Name"),
     ("first", "First Name"),
     ("given name", "Given Name"),
+    ("given", "First Name"),
     ("vorname", "First Name"),
     ("prénom", "First Name"),
     ("middle name", "Middle Name"),
@@ -71,6 +73,7 @@ const PERSONS: &[KnownName] = &[
     ("last", "Last Name"),
     ("surname", "Last Name"),
     ("family name", "Family Name"),
+    ("family", "Last Name"),
     ("nachname", "Last Name"),
     ("familienname", "Last Name"),
     ("nom de famille", "Last Name"),
@@ -121,6 +124,7 @@ const WORK: &[KnownName] = &[
     ("company", "Company"),
     ("company name", "Company"),
     ("organization", "Company"),
+    ("org", "Company"),
     ("organisation", "Company"),
     ("firma", "Company"),
     ("unternehmen", "Company"),
@@ -383,6 +387,17 @@ const HOME_PLACES: &[KnownName] = &[
     ("other address", "Other Address"),
 ];
 
+/// What tells a contact from others in its program: its UID, and other identifiers.
+const IDENTIFIERS: &[KnownName] = &[
+    ("uid", "UID"),
+    ("id", "Id"),
+    ("object id", "Id"),
+    ("objectid", "Id"),
+    ("record id", "Id"),
+    ("contact id", "Id"),
+    ("kontakt-id", "Id"),
+];
+
 /// The name for one in a table, if the table has it, in any case.
 pub(crate) fn name_in(table: &[KnownName], name: &str) -> Option<&'static str> {
     for (known, english) in table {
@@ -416,6 +431,7 @@ pub(crate) fn known_name(program: Program, name: &str) -> &str {
         PLACES,
         WORK_PLACES,
         HOME_PLACES,
+        IDENTIFIERS,
     ] {
         if let Some(english) = name_in(table, name) {
             return english;

@@ -33,11 +33,13 @@ struct RowScan {
 
 /// Where the row at the front of some octets ends.
 #[derive(Clone, Copy, PartialEq, Eq)]
-pub(crate) enum RowEnd {
+pub enum RowEnd {
     /// After this many octets.
     At(usize),
     /// A quote isn't closed, or not before text; the line in which it stands has this many octets.
     Broken(usize),
+    /// A quote isn't closed so far. If it stays so, the line in which it stands has this many octets.
+    Open(usize),
     /// A quote isn't closed, or not before text, and no line ends after it.
     Endless,
     /// It doesn't end.
@@ -140,8 +142,9 @@ impl RowScan {
     }
 }
 
-/// Where the row at the front of the octets ends. `width` is the number of cells of the header.
-pub(crate) fn row_end(delimiter: u8, width: usize, octets: &[u8]) -> RowEnd {
+/// Where the row at the front of the octets ends, as `RowText` cuts rows: `Open`, `Endless` and
+/// `Unended` are so only if no octets follow. `width` is the number of cells of the header.
+pub fn row_end(delimiter: u8, width: usize, octets: &[u8]) -> RowEnd {
     let mut scan = RowScan::new();
     let mut after: usize = 0;
     for octet in octets {
@@ -155,8 +158,9 @@ pub(crate) fn row_end(delimiter: u8, width: usize, octets: &[u8]) -> RowEnd {
         }
         scan.take(delimiter, octet, after);
     }
-    if scan.place == Place::Quoted {
-        return scan.broken_end(octets, after);
+    match scan.cell_line {
+        _ if scan.place != Place::Quoted => RowEnd::Unended,
+        Some(end) => RowEnd::Open(end),
+        None => RowEnd::Endless,
     }
-    RowEnd::Unended
 }

@@ -159,6 +159,7 @@ impl<R: Read + Drop> RowText<R> {
             RowEnd::At(end) => self.ready = end,
             RowEnd::Broken(end) => self.break_row(end)?,
             _ if !is_last => return Ok(false),
+            RowEnd::Open(end) => self.break_row(end)?,
             RowEnd::Endless => {
                 self.break_row(len)?;
                 self.mode = Mode::DropsLine;

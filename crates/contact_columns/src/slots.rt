@@ -89,3 +89,30 @@ pub(crate) fn add_column(
     slot.columns.push(SlotColumn { place, part })?;
     Ok(true)
 }
+
+/// Adds a slot of its own for a column, unless there are too many slots.
+pub(crate) fn add_slot(
+    alloc: Global,
+    slots: &mut Vec<Slot>,
+    place: usize,
+    meaning: Meaning<'_>,
+) -> Result<(), NoMemory> {
+    if slots.len() >= SLOTS_MAX {
+        return Ok(());
+    }
+    let mut slot = Slot::new(alloc, meaning)?;
+    let part = meaning.part;
+    slot.columns.push(SlotColumn { place, part })?;
+    slots.push(slot)?;
+    Ok(())
+}
+
+/// Whether a slot has the column at the index.
+pub(crate) fn has_place(slots: &[Slot], place: usize) -> bool {
+    slots.iter().any(|slot| {
+        slot.columns
+            .as_slice()
+            .iter()
+            .any(|column| column.place == place)
+    })
+}

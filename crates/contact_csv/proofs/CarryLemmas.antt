@@ -5,7 +5,7 @@ use Rattle.std.proofs.lemmas.List.Elements.{Contains-append_left}
 use Rattle.std.proofs.lemmas.List.Folds.{list_any-append}
 use Rattle.vcard_lines.specs.declared.line.Line.{Line}
 use Rattle.vcard_import.specs.declared.change.Change.{Change}
-use Rattle.contact_csv.specs.Carrying.{IsPartHeld, ArePartsHeld, IsLabelHeld, IsCarried, void_part, whole_part, starred_part, last_part, next_part, as_types, as_name, as_text, no_value, in_component, whole, in_parts, as_label, as_date, kept_aside}
+use Rattle.contact_csv.specs.Carrying.{IsPartHeld, ArePartsHeld, IsLabelHeld, IsCarried, void_part, whole_part, starred_part, last_part, next_part, as_types, as_name, as_text, left_out, no_value, in_component, whole, in_parts, as_label, as_date, kept_aside}
 use Rattle.contact_columns.specs.declared.columns.Column.{Column}
 
 pub any_stays : {X : Type 0} (p : X → Bool) (xs ys : List X) → list_any p xs ≡ true → list_any p (xs ++ ys) ≡ true
@@ -26,6 +26,7 @@ label_stays label lines more (as_name line has name) = as_name line (Contains-ap
 label_stays label lines more (as_text held) = as_text (any_stays _ lines more held)
 
 pub carried_stays : (column : Column) (place : ℕ) (text : List ℕ) (lines more : List Line) (changes further : List Change) → IsCarried column place text lines changes → IsCarried column place text (lines ++ more) (changes ++ further)
+carried_stays column place text lines more changes further (left_out is) = left_out is
 carried_stays column place text lines more changes further (no_value void) = no_value void
 carried_stays column place text lines more changes further (in_component index is held) = in_component index is (any_stays _ lines more held)
 carried_stays column place text lines more changes further (whole none held) = whole none (any_stays _ lines more held)

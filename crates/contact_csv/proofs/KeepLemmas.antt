@@ -8,7 +8,7 @@ use Rattle.std.proofs.lemmas.Bool.Decides.{nat_tests}
 use Rattle.std.proofs.lemmas.List.{map-append, append-nil, get_or-map}
 use Rattle.contact_columns.specs.Cells.{cell_text}
 use Rattle.contact_csv.specs.Contacts.{IsContact}
-use Rattle.contact_csv.specs.RowUids.{row_uid}
+use Rattle.contact_csv.specs.RowUids.{IsRowUid}
 use Rattle.std.proofs.lemmas.List.Elements.{Contains-append_right}
 use Rattle.vcard_import.specs.declared.change.Change.{Change}
 use Rattle.vcard_lines.specs.declared.line.Line.{Line}
@@ -111,10 +111,10 @@ aside_keeps column place text old new kept = record {
 }
 
 -- the contact of a row
-pub row_kept : (uid : List ℕ) (columns : List Column) (row : List (List ℕ)) (made : Kept) → uid ≡ row_uid columns (map cell_text row) → Keeps uid columns (map cell_text row) (length row) made → IsContact columns row made.lines made.changes
+pub row_kept : (uid : List ℕ) (columns : List Column) (row : List (List ℕ)) (made : Kept) → IsRowUid columns (map cell_text row) uid → Keeps uid columns (map cell_text row) (length row) made → IsContact columns row made.lines made.changes
 row_kept uid columns row made is keeps = record {
   cells = λ place small. subst (λ text. IsCarried (column_at columns place) place text made.lines made.changes) (get_or-map cell_text row place [] [] small) (keeps.cells place small);
-  uid = ap uid_of keeps.begins.lines_are ∙ is;
+  uid = subst (IsRowUid columns (map cell_text row)) (sym (ap uid_of keeps.begins.lines_are)) is;
 }
 
 -- fewer cells

@@ -1,7 +1,7 @@
 -- How a card carries a cell: which line has its text, or which change reports it (RFC 6350,
 -- sections 3.3 and 5; RFC 6868). This project's own.
-use Rattle.std.specs.Prelude.{ℕ, ◌≡◌, ◌⊎◌, Bool, true, ◌||◌, ◌&&◌, ◌==◌, List, [], ◌∷◌, ◌++◌}
-use Rattle.std.specs.Prelude.{codes, bytes_eq, flat_map, map, get_or, Option, Some, None}
+use Rattle.std.specs.Prelude.{ℕ, ◌≡◌, ◌⊎◌, Bool, true, false, ◌||◌, ◌&&◌, ◌==◌, List, [], ◌∷◌}
+use Rattle.std.specs.Prelude.{◌++◌, codes, bytes_eq, flat_map, map, get_or, Option, Some, None}
 use Rattle.std.specs.Prelude.{if◌then◌else◌}
 use Rattle.std.specs.List.{list_any, Contains}
 use Rattle.std.specs.Str.{chars, encode_utf8_all, str_to_ascii_lowercase}
@@ -117,6 +117,8 @@ component_in column = component_of column.property column.known
 -- The card carries the text of the cell at the index of the row, in the column.
 pub data IsCarried (column : Column) (place : ℕ) (text : List ℕ) (lines : List Line)
     (changes : List Change) : Type 0 where
+  -- the user leaves its column out
+  left_out : column.is_left_out ≡ true → IsCarried column place text lines changes
   -- it has no value
   no_value : is_void text ≡ true → IsCarried column place text lines changes
   -- its column has a component, and a line of the property has the text in this component
@@ -146,7 +148,12 @@ pub data IsCarried (column : Column) (place : ℕ) (text : List ℕ) (lines : Li
 
 -- the column of cells to which the header gives none
 abbrev pub extra_column : Column
-extra_column = record { name = codes "COLUMN"; known = codes "COLUMN"; property = [] }
+extra_column = record {
+  name = codes "COLUMN";
+  known = codes "COLUMN";
+  property = [];
+  is_left_out = false;
+}
 
 -- the column at the index
 abbrev pub column_at : List Column → ℕ → Column

@@ -16,20 +16,20 @@ use Rattle.vcard_import.specs.declared.conversion.Conversion.{Conversion}
 use Rattle.contact_csv.specs.Carrying.{IsCarried, column_at}
 use Rattle.contact_columns.specs.Cells.{cell_text}
 use Rattle.contact_csv.specs.RowFaults.{has_nul, has_width, is_broken, is_empty_row}
-use Rattle.contact_csv.specs.RowUids.{row_uid}
+use Rattle.contact_csv.specs.RowUids.{IsRowUid}
 use Rattle.contact_csv.specs.declared.row_fault.RowFault.{RowFault}
 use Rattle.contact_csv.specs.declared.row_fault.RowFault.TheVariants as row
 use Rattle.contact_columns.specs.declared.columns.Column.{Column}
 use Rattle.contact_csv.specs.declared.rows.ContactReader.{ContactReader}
 
--- The lines carry the text of each cell of the row, or a change reports the cell; their UID is that
--- of the row's cells.
+-- The lines carry the text of each cell of the row, or a change reports the cell; their UID is one
+-- of the row.
 pub record IsContact (columns : List Column) (fields : List (List ℕ)) (lines : List Line)
     (changes : List Change) : Type 0 where
   pub cells : (place : ℕ) → place < length fields
       → IsCarried (column_at columns place) place (cell_text (get_or fields place [])) lines
       changes
-  pub uid : uid_of lines ≡ row_uid columns (map cell_text fields)
+  pub uid : IsRowUid columns (map cell_text fields) (uid_of lines)
 
 -- The row's contact has lines that are no card, and the fault is the first of these lines.
 pub record IsRefused (columns : List Column) (fields : List (List ℕ)) (fault : CardFault) : Type 0

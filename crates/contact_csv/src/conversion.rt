@@ -1,17 +1,20 @@
 //! Converts one row.
-ghost use Rattle.std.specs.Prelude.{◌≡◌, ◌≢◌, IfOk, IfErr, map};
+ghost use Rattle.std.specs.Prelude.{◌≡◌, ◌≢◌, IfOk, IfErr, false, map};
 ghost use Rattle.csv.specs.Records.{fields_of};
 ghost use Rattle.vcard_lines.specs.declared.fault.CardFault.TheVariants.{Memory};
+ghost use Rattle.vcard_text.specs.Cards.{uid_of};
 ghost use Rattle.vcard_text.specs.Making.{upper_lines};
 ghost use Rattle.contact_columns.specs.Cells.{cell_text};
 ghost use Rattle.contact_csv.specs.Contacts.{IsContact, IsRefused};
+ghost use Rattle.contact_csv.specs.RowUids.{row_uid};
 
 use crate::entries::push_lines;
+use crate::exchange::push_shown_addresses;
 use crate::keeping::{Kept, extra_column, keep_cells};
 use crate::names::push_missing_name;
 use crate::row_fault::are_void;
 use crate::row_lines::RowLines;
-use crate::uid::row_uid;
+use crate::uid::chosen_uid;
 use contact_columns::{ContactColumns, cell_text, row_field};
 use csv::ByteRecord;
 use std::alloc::Global;
@@ -43,6 +46,7 @@ fn draft_lines(
     for slot in &columns.slots {
         push_lines(alloc, &mut made, slot, cells)?;
     }
+    push_shown_addresses(alloc, &mut made, columns.columns.as_slice(), cells)?;
     push_missing_name(alloc, &mut made)?;
     Ok(made)
 }
@@ -52,9 +56,12 @@ fn contact_lines(
     alloc: Global,
     columns: &ContactColumns,
     row: &ByteRecord,
+    may_own: bool,
 ) -> Result<Kept, NoMemory>
     ensures contact { IfOk result (λ made. IsContact columns.now.columns (fields_of row.now)
         made.lines made.changes) }
+    ensures computed { IfOk result (λ made. may_own ≡ false
+        → uid_of made.lines ≡ row_uid columns.now.columns (map cell_text (fields_of row.now))) }
     ensures upper { IfOk result (λ made. upper_lines made.lines ≡ made.lines) }
 {
     let cells = row_cells(alloc, row)?;
@@ -62,11 +69,14 @@ fn contact_lines(
     let draft = draft_lines(alloc, columns, texts)?;
     let extra = extra_column(alloc)?;
     let names = columns.columns.as_slice();
-    let uid = row_uid(alloc, names, &extra, texts)?;
+    let uid = chosen_uid(alloc, names, &extra, texts, may_own)?;
     keep_cells(alloc, names, &extra, uid, texts, draft)
 }
 
 /// Converts a row of a file of contacts to a card of vCard 4.0.
+///
+/// `may_own` says whether the card may have the UID that the row has of its own; if not, or if it has
+/// none, the UID is computed from its cells.
 ///
 /// Each cell's text is in the card, or a change has the cell's index, from 0, as its `place`. Only
 /// tested: there are no other changes, and they are in the order of their cells; `Rewritten` is a
@@ -79,17 +89,22 @@ pub fn convert_row(
     alloc: Global,
     columns: &ContactColumns,
     row: &ByteRecord,
+    may_own: bool,
 ) -> Result<Conversion, CardFault>
-    // The card carries the text of each cell, or a change reports the cell; the card's UID is that
-    // of the row's cells.
+    // The card carries the text of each cell, or a change reports the cell; the card's UID is one
+    // of the row.
     ensures contact { IfOk result (λ made. IsContact columns.now.columns (fields_of row.now)
         made.card made.changes) }
+
+    // If the card may not have the row's own UID, its UID is that of the row's cells.
+    ensures computed { IfOk result (λ made. may_own ≡ false
+        → uid_of made.card ≡ row_uid columns.now.columns (map cell_text (fields_of row.now))) }
 
     // An `Err` is the first fault of such lines, unless memory ran out.
     ensures refused { IfErr result (λ fault. fault ≢ Memory
         → IsRefused columns.now.columns (fields_of row.now) fault) }
 {
-    let Kept { lines, changes } = contact_lines(alloc, columns, row)?;
+    let Kept { lines, changes } = contact_lines(alloc, columns, row, may_own)?;
     let card = card_of_lines(alloc, lines.into_vec())?;
     Ok(Conversion { card, changes })
 }

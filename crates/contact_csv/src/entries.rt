@@ -3,6 +3,7 @@
 use crate::labels::label_types;
 use crate::lines::{label_param, make_param, type_param};
 use crate::row_lines::RowLines;
+use crate::values::{gender_value, takes_text};
 use contact_columns::{DateOrder, Part, Slot, basic_date, component_count, is_void};
 use std::alloc::Global;
 use vcard_text::{Items, Line, NoMemory, Param, Part as Copied, Text, escape};
@@ -100,9 +101,9 @@ fn separator_of(property: &str, cell: &str) -> &'static str {
     }
 }
 
-/// Whether the property's value is a URI, in which nothing is escaped.
+/// Whether the property's value is a URI or a language tag, in which nothing is escaped.
 fn is_uri_property(property: &str) -> bool {
-    matches!(property, "URL" | "PHOTO" | "FBURL")
+    matches!(property, "URL" | "PHOTO" | "FBURL" | "IMPP" | "LANG")
 }
 
 fn is_date_property(property: &str) -> bool {
@@ -130,6 +131,10 @@ fn set_value(alloc: Global, line: &mut Line, text: &str, order: DateOrder) -> Re
         line.value = Text::copy_of(alloc, text)?;
         return Ok(());
     }
+    if line.name.as_str() == "GENDER" {
+        line.value = Text::new(gender_value(alloc, text)?);
+        return Ok(());
+    }
     if line.name.as_str() == "RELATED" {
         line.params.push(make_param(alloc, "VALUE", "text")?)?;
     }
@@ -142,20 +147,27 @@ fn push_part(alloc: Global, made: &mut RowLines, model: &Line, part: &str) -> Re
     if is_void(part) {
         return Ok(());
     }
-    let mut line = model.try_copy()?;
     let text = part.strip_prefix("* ").unwrap_or(part);
+    if !takes_text(model.name.as_str(), text) {
+        return Ok(());
+    }
+    let mut line = model.try_copy()?;
     set_value(alloc, &mut line, text, made.dates)?;
     made.push(alloc, line)
 }
 
-/// Appends a line for each value of the cell.
+/// Appends a line for each value of the cell. A cell that the property can't have is kept aside.
 fn push_parts(
     alloc: Global,
     made: &mut RowLines,
     model: &Line,
     cell: &str,
 ) -> Result<(), NoMemory> {
-    let separator = separator_of(model.name.as_str(), cell);
+    let property = model.name.as_str();
+    if !takes_text(property, cell) {
+        return Ok(());
+    }
+    let separator = separator_of(property, cell);
     if separator.is_empty() {
         let mut line = model.try_copy()?;
         set_value(alloc, &mut line, cell, made.dates)?;

@@ -13,6 +13,7 @@ use crate::carried::{
     holds_component, holds_label, holds_parts, holds_text, is_date_text, is_dated,
 };
 use crate::row_lines::RowLines;
+use crate::uid::is_uid_column;
 use contact_columns::{Column, component_of, is_void};
 use std::alloc::Global;
 use vcard_import::{Change, ChangeKind};
@@ -78,6 +79,9 @@ fn is_carried(
     ensures { IfOk result (λ carried. IsTrue carried → (place : ℕ) (changes : List Change)
         → IsCarried column.now place text.now lines.now changes) }
 {
+    if column.is_left_out {
+        return Ok(true);
+    }
     if is_void(text) {
         return Ok(true);
     }
@@ -181,11 +185,15 @@ pub(crate) fn extra_column(alloc: Global) -> Result<Column, NoMemory>
         name: Text::copy_of(alloc, "COLUMN")?,
         known: Text::copy_of(alloc, "COLUMN")?,
         property: Text::copy_of(alloc, "")?,
+        is_left_out: false,
     })
 }
 
-/// The index of the line that should hold the cell, after the UID.
-fn home_of(homes: &[usize], place: usize) -> usize {
+/// The index of the line that should hold the cell of the column: that of the UID, or one after it.
+fn home_of(homes: &[usize], column: &Column, place: usize) -> usize {
+    if is_uid_column(column) {
+        return 0;
+    }
     match homes.get(place) {
         Some(home) => home.saturating_add(1),
         None => 0,
@@ -229,7 +237,7 @@ pub(crate) fn keep_cells(
     };
     for place in 0..cells.len() {
         let column = column_at(columns, place, extra);
-        let home = home_of(homes.as_slice(), place);
+        let home = home_of(homes.as_slice(), column, place);
         made.keep_cell(alloc, column, place, cells[place].as_str(), home)?;
     }
     Ok(made)

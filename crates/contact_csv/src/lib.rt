@@ -5,15 +5,18 @@
 mod carried;
 mod conversion;
 mod entries;
+mod exchange;
 mod fault;
 mod keeping;
 mod labels;
 mod lines;
 mod names;
+mod owners;
 mod row_fault;
 mod row_lines;
 mod rows;
 mod uid;
+mod values;
 
 pub use contact_columns::{
     Column, ContactColumns, DateOrder, Header, find_header, read_columns, read_date_order,

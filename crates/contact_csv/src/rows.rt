@@ -7,6 +7,7 @@ ghost use Rattle.contact_csv.specs.Contacts.{rows_of, columns_of, delimiter_of};
 
 use crate::conversion::{convert_row, row_cells};
 use crate::fault::ContactFault;
+use crate::owners::Owners;
 use crate::row_fault::{RowFault, fault_of_row};
 use contact_columns::{ContactColumns, Header, read_columns, row_field};
 use csv::{ByteRecord, Error, ErrorKind, Reader, ReaderBuilder};
@@ -21,6 +22,7 @@ pub struct ContactReader<R> {
     rows: Reader<R>,
     row: ByteRecord,
     columns: ContactColumns,
+    owners: Owners,
     /// The number of lines that the library counts late, and of those before the header.
     late: u64,
 }
@@ -59,13 +61,17 @@ impl<R: Read + Drop> ContactReader<R> {
     ///
     /// An `Err` is `UnknownHeader` if `read_columns` knows no columns in the first row,
     /// `Unreadable` if the source fails, or `Memory`.
-    pub fn new(alloc: Global, source: R, header: Header) -> Result<ContactReader<R>, ContactFault>
+    pub fn new(
+        alloc: Global,
+        source: R,
+        header: Header<'_>,
+    ) -> Result<ContactReader<R>, ContactFault>
         // The reader has read the first record, and goes on after it.
         ensures header { IfOk result (λ reader. HasReadHeader R.remaining source reader) }
 
         // It takes the fields of each record as they are, with the delimiter between them.
         ensures ready { IfOk result (λ reader. IsReady reader) }
-        ensures delimiter { IfOk result (λ reader. delimiter_of reader ≡ header.delimiter) }
+        ensures delimiter { IfOk result (λ reader. delimiter_of reader ≡ header.entry.delimiter) }
     {
         let mut rows = ReaderBuilder::new()
             .has_headers(false)
@@ -76,19 +82,21 @@ impl<R: Read + Drop> ContactReader<R> {
         if let Err(error) = rows.read_byte_record(&mut row) {
             return Err(fault_of(error));
         }
-        match read_columns(alloc, &row)? {
+        match read_columns(alloc, &row, header.wished)? {
             Some(read) => {
                 let columns = ContactColumns {
                     columns: read.columns,
                     slots: read.slots,
                     dates: header.dates,
                 };
+                let owners = Owners::new(alloc, columns.columns.as_slice());
                 let late = late_lines(&row, rows.position().line());
                 let late = late.saturating_add(header.lines);
                 Ok(ContactReader {
                     rows,
                     row,
                     columns,
+                    owners,
                     late,
                 })
             }
@@ -124,13 +132,17 @@ impl<R: Read + Drop> ContactReader<R> {
     }
 
     /// The contact of the last row that was read, or its fault.
-    fn contact(&self, alloc: Global) -> Result<Result<Conversion, RowFault>, ContactFault>
+    fn contact(
+        &self,
+        alloc: Global,
+        may_own: bool,
+    ) -> Result<Result<Conversion, RowFault>, ContactFault>
         ensures { IfOk result (Becomes (columns_of self.now) (fields_of self.now.row)) }
     {
         if let Some(fault) = self.row_fault(alloc)? {
             return Ok(Err(fault));
         }
-        match convert_row(alloc, &self.columns, &self.row) {
+        match convert_row(alloc, &self.columns, &self.row, may_own) {
             Ok(made) => Ok(Ok(made)),
             Err(fault) => match fault {
                 CardFault::Memory => Err(ContactFault::Memory),
@@ -176,6 +188,7 @@ impl<R: Read + Drop> ContactReader<R> {
         if !self.read_row()? {
             return Ok(None);
         }
-        Ok(Some(self.contact(alloc)?))
+        let may_own = self.owners.admit(alloc, &self.columns, &self.row)?;
+        Ok(Some(self.contact(alloc, may_own)?))
     }
 }

@@ -6,11 +6,15 @@
 mod streams;
 
 use base_types::Text;
+use book_http::Listener;
 use cli_args::{LineFault, Order};
-use cli_convert::{RowsOutlet, Wanted, run_convert};
-use cli_host::{note_waiting, order_of_args, run_and_report};
+use cli_convert::{DateOrder, RowsOutlet, Wanted, run_convert};
+use cli_host::{AdminStore, Host, note_waiting, order_of_args, run_and_report};
+use file_host::FileHost;
+use hub_server::Endpoint;
+use std::alloc::Global;
 use std::env;
-use std::io::IsTerminal;
+use std::io::{IsTerminal, Read, Write};
 use std::process::ExitCode;
 use streams::hold_streams;
 
@@ -22,24 +26,97 @@ fn given(text: &Option<Text>) -> Option<&str> {
     }
 }
 
+/// The order of day and month in dates with slashes, if one was given.
+fn date_order(day_first: bool, month_first: bool) -> Option<DateOrder> {
+    if day_first {
+        Some(DateOrder::DayFirst)
+    } else if month_first {
+        Some(DateOrder::MonthFirst)
+    } else {
+        None
+    }
+}
+
 /// What to convert, if that is the order.
 fn conversion_of(order: &Result<Order, LineFault>) -> Option<Wanted<'_>> {
     match order {
         Ok(
             Order::Convert {
                 file,
+                more,
                 folder,
                 rows,
                 octets,
+                day_first,
+                month_first,
+                columns,
+                charset,
+                report,
             },
         ) => Some(Wanted {
             file: file.as_str(),
+            more: more.as_slice(),
             folder: given(folder),
             rows: *rows,
             octets: *octets,
+            dates: date_order(*day_first, *month_first),
+            columns: given(columns).unwrap_or(""),
+            charset: given(charset),
+            report: given(report),
         }),
         _ => None,
     }
+}
+
+/// Runs the order on the host, reports a stop, and returns the exit status. (Over the files
+/// and sockets of the system the prover would spell out the whole contract of `run_and_report`.)
+fn run_on<
+    S: AdminStore + Drop,
+    P: Endpoint,
+    L: Listener + Drop,
+    M: Host<S, P, L>,
+    R: Read,
+    W: Write,
+    E: Write,
+>(
+    alloc: Global,
+    host: &mut M,
+    order: Result<Order, LineFault>,
+    reader: &mut R,
+    writer: &mut W,
+    errors: &mut E,
+) -> u8 {
+    run_and_report(alloc, host, order, reader, writer, errors).status
+}
+
+/// Converts, and returns the exit status.
+fn convert(rt: &HostRuntime, wanted: Wanted<'_>) -> u8 {
+    let mut rows = RowsOutlet {
+        writer: rt.stdout(),
+    };
+    run_convert(rt.alloc(), rt, wanted, &mut rows, rt.stderr())
+}
+
+/// Runs the order on the host and the streams of the system, and returns the exit status. (One body
+/// that names both the host of the program and its streams is more than the prover takes.)
+fn run_on_streams<S: AdminStore + Drop, P: Endpoint, L: Listener + Drop, M: Host<S, P, L>>(
+    rt: &HostRuntime,
+    host: &mut M,
+    order: Result<Order, LineFault>,
+) -> u8 {
+    run_on(
+        rt.alloc(),
+        host,
+        order,
+        &mut rt.stdin(),
+        &mut rt.stdout(),
+        &mut rt.stderr(),
+    )
+}
+
+/// Runs another order on the files and ports of the system, and returns the exit status.
+fn run(rt: &HostRuntime, order: Result<Order, LineFault>) -> u8 {
+    run_on_streams(rt, &mut FileHost::new(*rt), order)
 }
 
 fn main(rt: HostRuntime) -> ExitCode {
@@ -47,22 +124,9 @@ fn main(rt: HostRuntime) -> ExitCode {
     hold_streams(&rt);
     let order = order_of_args(rt.alloc(), env::args(&rt));
     if let Some(wanted) = conversion_of(&order) {
-        let mut rows = RowsOutlet {
-            writer: rt.stdout(),
-        };
-        let status = run_convert(rt.alloc(), &rt, wanted, &mut rows, &mut rt.stderr());
-        return ExitCode::from(status);
+        return ExitCode::from(convert(&rt, wanted));
     }
     // Nothing depends on this line, so a standard error that fails changes nothing.
     let _noted = note_waiting(rt.stdin().is_terminal(), &order, &mut rt.stderr());
-    let mut host = rt;
-    let exit = run_and_report(
-        rt.alloc(),
-        &mut host,
-        order,
-        &mut rt.stdin(),
-        &mut rt.stdout(),
-        &mut rt.stderr(),
-    );
-    ExitCode::from(exit.status)
+    ExitCode::from(run(&rt, order))
 }

@@ -135,12 +135,6 @@ fitting_within most slots before place old slot found is at fits within =
 abbrev pub IsPartAt : HubValue → ℕ → ℕ → Type 0
 IsPartAt hub place part = (slot : Slot) → IsAt hub place slot → part ≡ large_part (load_of slot.link)
 
-pub part_within : (sum part place : ℕ) (hub : HubValue) (slot : Slot) → sum ≡ large_total hub.slots → IsAt hub place slot → IsPartAt hub place part → part ≤ sum
-part_within sum part place hub slot sum_is at part_is =
-    let within = part_of_total hub.slots place (Some slot) at in
-    let own = part_is slot at in
-    omega (arith, sum_is, own, within)
-
 -- the others have the rest
 pub others_of : (sum part place : ℕ) (hub : HubValue) → sum ≡ large_total hub.slots → IsPartAt hub place part → (slot : Slot) → IsAt hub place slot
     → large_total hub.slots ≡ (sum - part) + large_at (Some slot)

@@ -14,12 +14,6 @@ use Rattle.http_requests.specs.internal.Progress.{AwaitsBody, IsClosed, MatchesS
 use Rattle.http_requests.proofs.EndLemmas.{none_ended, whole_more}
 use Rattle.http_requests.proofs.RunLemmas.{begins_on}
 
--- a closed session awaits no body
-pub closed_awaits_none : (at : Stage) → IsClosed at → AwaitsBody at → ⊥
-closed_awaits_none (stage.Head state) is awaits = is
-closed_awaits_none (stage.Body start end) is awaits = is
-closed_awaits_none stage.Closed is awaits = awaits
-
 -- octets that start with a head start with no other
 same_start : (octets : List ℕ) (one other : RequestHead) (rest left : List ℕ) → StartsWithHead octets one rest → StartsWithHead octets other left → one ≡ other
 same_start octets one other rest left a b = (request_unique octets one other rest left a.0 b.0).0

@@ -98,12 +98,6 @@ waiting_more held x start end wait short = record { holds = body_more held x sta
 
 -- ---- a head that is parsed again, once its body is complete
 
--- the head's text stands before the body
-pub text_before : (held : List ℕ) (start end : ℕ) (is : HoldsBody held start end) → take start held ≡ print_request is.has_head.whole_head
-text_before held start end is =
-    let p = print_request is.has_head.whole_head in
-    ap (λ n. take n held) is.has_head.start_is ∙ ap (take (length p)) is.has_head.begins.0.1 ∙ take-append_seam p is.body
-
 -- the head that is parsed again is the same
 pub same_head : (held : List ℕ) (start end : ℕ) (is : HoldsBody held start end) (h : RequestHead) → StartsWithHead (take start held) h [] → h ≡ is.has_head.whole_head
 same_head held start end is h begins =

@@ -27,11 +27,6 @@ act_places limits (WritesTo place serial offered count) a b done = ap (λ (s : S
 act_places limits (FindsNoOutput place serial offered) a b done = ap (λ (s : ServerValue). length s.seats) done.after_is ∙ set_length a.seats place (seat_asleep done.seat)
 act_places limits (ClosesAt place serial cause) a b done = ap (λ (s : ServerValue). length s.seats) done.after_is ∙ set_length a.seats place new_seat
 
-act_run_places : (limits : ServeLimits) (xs : List ServerAct) (a b : ServerValue) → ActRuns limits a xs b → length b.seats ≡ length a.seats
-unfolding ActRuns
-act_run_places limits [] a b same = ap (λ (s : ServerValue). length s.seats) (sym same)
-act_run_places limits (x ∷ xs) a b (between, done, rest) = act_run_places limits xs between b rest ∙ act_places limits x a between done
-
 module _ {S : Type 0} (does : HandlerRelation S) (fault_reply : FaultReplies) where
   step_places : (limits : ServeLimits) (x : ServerStep) (a b : ServerValue) (w v : S) → DoesServerStep does fault_reply limits a w x v b → length b.seats ≡ length a.seats
   step_places limits (Acts act) a b w v done = act_places limits act a b done.1

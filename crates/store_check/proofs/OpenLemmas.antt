@@ -116,7 +116,7 @@ module _ (a b c : State) (ours : HasCleanDisk b → IsCurrentSchema a.now) (kept
   nothing_then before = record {
     mode = λ h. after.mode (before.mode h);
     was_open = λ clean up. before.was_open (early clean) (after.was_open clean up);
-    survives = survives_then a b c _ _ _ (λ _ db none. none) (λ clean db h. h (still clean)) before.survives after.survives;
+    survives = survives_then a b c _ _ _ (λ _ db none. none) (λ _ db none. none) before.survives after.survives;
     same = λ clean up settled.
         let was = kept (early clean) in
         let later = after.same clean (still clean) up (λ _. was.0.now_is ∙ settled was.0.was_open ∙ sym was.0.committed_is) in

@@ -82,10 +82,6 @@ module _ {X : Type 0} (R : X → X → Type 0) (swapped : (a b : X) → R a b �
 count_permuted : {X : Type 0} (p : X → Bool) (xs ys : List X) → IsPermutation xs ys → count_by p xs ≡ count_by p ys
 count_permuted p xs ys h = sym (length-filter p xs) ∙ sym (length_permutation _ _ (IsPermutation-filter p xs ys h)) ∙ length-filter p ys
 
-not_true : (b : Bool) → not b ≡ true → b ≡ false
-not_true true h = sym h
-not_true false h = refl
-
 -- ---- the items of one book
 
 -- the items of the book `id` get the new id of the book `own` only if they are its items; this

@@ -1,6 +1,7 @@
 pub mod KeyedEntries
 pub mod RowLemmas
 pub mod HeldRows
+pub mod ApartLemmas
 pub mod LookupLemmas
 pub mod MemberLemmas
 pub mod WriteLemmas
@@ -15,3 +16,4 @@ pub mod AddedLemmas
 pub mod OpenLemmas
 pub mod StripLemmas
 pub mod FoldStripLemmas
+pub mod TablesLemmas

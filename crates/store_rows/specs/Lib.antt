@@ -10,4 +10,5 @@ pub mod ForgetLaws
 pub mod ReadLaws
 pub mod AddLaws
 pub mod OpenLaws
+pub mod TablesOfBooks
 pub mod internal

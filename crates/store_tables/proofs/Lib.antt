@@ -3,6 +3,7 @@ pub mod Texts
 pub mod Picks
 pub mod Cells
 pub mod ReturningLemmas
+pub mod SelectLemmas
 pub mod Lookups
 pub mod FindLemmas
 pub mod KeyedRows

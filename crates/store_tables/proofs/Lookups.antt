@@ -23,7 +23,7 @@ use Rattle.sqlite.specs.Schema.{Schema}
 use Rattle.sqlite_schema.specs.declared.program.Program.{Program}
 use Rattle.sqlite_trees.specs.declared.error.StoreError.{StoreError}
 use Rattle.sqlite_trees.specs.declared.error.StoreError.TheVariants as broken
-use Rattle.sqlite.proofs.Callers.{IsPlain, command_of, first_as, reads_as, never_commits}
+use Rattle.sqlite.proofs.Callers.{IsPlain, command_of, first_as, reads_as}
 use Rattle.sqlite.proofs.StateLemmas.{survives_weaker, survives_then}
 use Rattle.std.proofs.Common.{arith, IfErr}
 use Rattle.sqlite.specs.State.{Fails}
@@ -37,6 +37,7 @@ use Rattle.store_tables.specs.StatementEffects.{KeepsState, HasNoPendingWrites, 
 use Rattle.store_tables.proofs.Picks.{passes, shows, picked}
 use Rattle.store_tables.proofs.Cells.{shaped}
 use Rattle.store_tables.proofs.ReturningLemmas.{fails_as, shown_open}
+use Rattle.store_tables.proofs.SelectLemmas.{IsSelectText, select_never_commits}
 
 store_fault : (cause : StoreError) → QueryReturnedNoRows ≡ store_error cause → ⊥
 store_fault broken.OutOfMemory h = absurd cc
@@ -146,15 +147,15 @@ row_open sql params old new (Err e) (inr h) up = shown_open sql params old new [
 pub plain_under : (sql : List ℕ) (s : State) (schema : Schema) → s.now.schema ≡ schema → IsPlain (understood schema sql) → IsPlain (understood s.now.schema sql)
 plain_under sql s schema has plain = subst (λ k. IsPlain (understood k sql)) (sym has) plain
 
-pub commits_nothing : (sql : List ℕ) (params : Row) (old new : State) → IsPlain (understood book_schema sql) → Survives old new (CommitsShowing sql params old) → Survives old new (λ _. ¬ (old.now.schema ≡ book_schema))
-commits_nothing sql params old new plain = survives_weaker old new _ _ (λ _ db commits has. never_commits sql params old db (plain_under sql old book_schema has plain) commits)
+pub commits_nothing : (sql : List ℕ) (params : Row) (old new : State) → IsSelectText sql → Survives old new (CommitsShowing sql params old) → Survives old new (λ _. ⊥)
+commits_nothing sql params old new select = survives_weaker old new _ _ (λ _ db commits. select_never_commits sql params old db select commits)
 
-pub only_reads : (sql : List ℕ) (params : Row) (old new : State) (r : Result Row Error) → IsPlain (understood book_schema sql) → (HasCleanDisk new → QueriesRow sql params old new r)
+pub only_reads : (sql : List ℕ) (params : Row) (old new : State) (r : Result Row Error) → IsSelectText sql → IsPlain (understood book_schema sql) → (HasCleanDisk new → QueriesRow sql params old new r)
     → (old.in_transaction ≡ false → new.in_transaction ≡ false) → Survives old new (CommitsShowing sql params old) → OnlyReads old new
-only_reads sql params old new r plain row mode survives = record {
+only_reads sql params old new r select plain row mode survives = record {
   mode = mode;
   was_open = λ clean up. row_open sql params old new r (row clean) up;
-  survives = commits_nothing sql params old new plain survives;
+  survives = commits_nothing sql params old new select survives;
   same = λ clean has up settled. leaves_as old new settled (row_leaves sql params old new r (plain_under sql old book_schema has plain) (row clean)) up;
 }
 
@@ -186,21 +187,21 @@ moved_leaves mid new (Ok x) ok err = inl ok
 moved_leaves mid new (Err e) ok (inl fails) = inr fails.3
 moved_leaves mid new (Err e) ok (inr same) = inl same
 
-pub refused_reads : (sql : List ℕ) (params : Row) (old new : State) (e : Error) → IsPlain (understood book_schema sql)
+pub refused_reads : (sql : List ℕ) (params : Row) (old new : State) (e : Error) → IsSelectText sql → IsPlain (understood book_schema sql)
     → (HasCleanDisk new → FailsToQuery sql params old new e) → (old.in_transaction ≡ false → new.in_transaction ≡ false) → Survives old new (CommitsShowing sql params old) → OnlyReads old new
-refused_reads sql params old new e plain err mode survives = record {
+refused_reads sql params old new e select plain err mode survives = record {
   mode = mode;
   was_open = λ clean up. left_open old new (fails_as sql params old new e (err clean)) up;
-  survives = commits_nothing sql params old new plain survives;
+  survives = commits_nothing sql params old new select survives;
   same = λ clean has up settled. leaves_as old new settled (fails_as sql params old new e (err clean)) up;
 }
 
-pub begun_reads : (sql : List ℕ) (params : Row) (old new : State) → IsPlain (understood book_schema sql) → (HasCleanDisk new → IsTrue old.is_open) → (HasCleanDisk new → old.now.schema ≡ book_schema → IsUnchanged old new) → (old.in_transaction ≡ false → new.in_transaction ≡ false)
+pub begun_reads : (sql : List ℕ) (params : Row) (old new : State) → IsSelectText sql → IsPlain (understood book_schema sql) → (HasCleanDisk new → IsTrue old.is_open) → (HasCleanDisk new → old.now.schema ≡ book_schema → IsUnchanged old new) → (old.in_transaction ≡ false → new.in_transaction ≡ false)
     → Survives old new (CommitsShowing sql params old) → OnlyReads old new
-begun_reads sql params old new plain opened same mode survives = record {
+begun_reads sql params old new select plain opened same mode survives = record {
   mode = mode;
   was_open = λ clean up. opened clean;
-  survives = commits_nothing sql params old new plain survives;
+  survives = commits_nothing sql params old new select survives;
   same = λ clean has up settled. leaves_as old new settled (inl (same clean has)) up;
 }
 
@@ -209,7 +210,7 @@ pub reads_then : (a b c : State) → OnlyReads a b → (HasCleanDisk b → a.now
 reads_then a b c before same after = record {
   mode = λ h. after.mode (before.mode h);
   was_open = λ clean up. before.was_open (omega (arith, after.survives.clean)) (after.was_open clean up);
-  survives = survives_then a b c _ _ _ (λ _ db h. h) (λ clean db h. λ has. h (ap (λ (d : Database). d.schema) (same (omega (arith, after.survives.clean)) has).0.now_is ∙ has)) before.survives after.survives;
+  survives = survives_then a b c _ _ _ (λ _ db none. none) (λ _ db none. none) before.survives after.survives;
   same = λ clean has up settled.
       let kept = same (omega (arith, after.survives.clean)) has in
       let later = after.same clean (ap (λ (d : Database). d.schema) kept.0.now_is ∙ has) up (λ _. kept.0.now_is ∙ settled kept.0.was_open ∙ sym kept.0.committed_is) in
@@ -217,16 +218,16 @@ reads_then a b c before same after = record {
 }
 
 -- all rows at once
-pub all_reads : (sql : List ℕ) (params : Row) (old new : State) (r : Result (Vec Row Global) Error) → IsPlain (understood book_schema sql)
+pub all_reads : (sql : List ℕ) (params : Row) (old new : State) (r : Result (Vec Row Global) Error) → IsSelectText sql → IsPlain (understood book_schema sql)
     → (HasCleanDisk new → IfOk r (λ rows. Shown sql params old new rows.items)) → (HasCleanDisk new → IfErr r (FailsToQuery sql params old new))
     → (old.in_transaction ≡ false → new.in_transaction ≡ false) → Survives old new (CommitsShowing sql params old) → OnlyReads old new
-all_reads sql params old new (Ok rows) plain ok err mode survives = record {
+all_reads sql params old new (Ok rows) select plain ok err mode survives = record {
   mode = mode;
   was_open = λ clean up. shown_open sql params old new rows.items (ok clean);
-  survives = commits_nothing sql params old new plain survives;
+  survives = commits_nothing sql params old new select survives;
   same = λ clean has up settled. leaves_as old new settled (inl (plain_shown sql params old new rows.items (plain_under sql old book_schema has plain) (ok clean))) up;
 }
-all_reads sql params old new (Err e) plain ok err mode survives = refused_reads sql params old new e plain err mode survives
+all_reads sql params old new (Err e) select plain ok err mode survives = refused_reads sql params old new e select plain err mode survives
 
 pub all_unchanged : (sql : List ℕ) (params : Row) (old new : State) (r : Result (Vec Row Global) Error) → IsPlain (understood book_schema sql) → old.now.schema ≡ book_schema
     → IfOk r (λ rows. Shown sql params old new rows.items) → OnOk r (IsUnchanged old new)

@@ -4,10 +4,12 @@ use Rattle.sqlite.specs.Command.TheVariants.{Select, Update, Delete}
 use Rattle.sqlite_tied.specs.Compute.{everything}
 use Rattle.sqlite.specs.Listing.{understood, reads_listing}
 use Rattle.sqlite.proofs.Callers.{IsPlain, command_of}
+use Rattle.sqlite_resolve.specs.Compile.{first}
 use Rattle.sqlite_resolve.specs.declared.compiled.Compiled.{Compiled}
 use Rattle.sqlite_resolve.specs.declared.error.CompileError.{CompileError}
 use Rattle.sqlite_schema.specs.declared.command.Returning.{Returning}
 use Rattle.store_tables.specs.Tables.{book_schema}
+use Rattle.store_tables.proofs.SelectLemmas.{IsSelectText}
 use Rattle.store_tables.proofs.Queries.{put_text, put_command, add_member_text, add_member_command, change_text, change_query, find_text, find_query, due_text, due_query, book_text, book_query, forget_text, forget_query, count_text, count_query, update_text, update_query, number_names, books_count_text, books_count_query, import_text, import_query, keep_text, keep_query, removed_text, removed_query, members_text, members_query, add_import_text, add_import_command, add_book_text, add_book_command, add_keep_text, add_schema_text, add_schema_command, add_keep_command, picks, books_text, books_query, all_members_text, all_members_terms, all_imports_text, all_imports_terms, all_keeps_text, all_keeps_terms, meta_text, meta_terms}
 
 abbrev pub returning_of : Result Compiled CompileError → Option Returning
@@ -109,3 +111,61 @@ all_keeps_is = (refl, refl, (refl, refl))
 pub meta_is : (command_of (understood book_schema meta_text) ≡ Select (record { lets = []; body = picks 0 [] meta_terms }) (codes "name" ∷ codes "val" ∷ [])) × (reads_listing book_schema meta_text ≡ false) × IsPlain (understood book_schema meta_text)
 unfolding understood everything
 meta_is = (refl, refl, (refl, refl))
+
+-- ---- the texts that are a SELECT
+
+pub find_selects : IsSelectText find_text
+unfolding first everything
+find_selects = refl
+
+pub due_selects : IsSelectText due_text
+unfolding first everything
+due_selects = refl
+
+pub count_selects : IsSelectText count_text
+unfolding first everything
+count_selects = refl
+
+pub book_selects : IsSelectText book_text
+unfolding first everything
+book_selects = refl
+
+pub books_count_selects : IsSelectText books_count_text
+unfolding first everything
+books_count_selects = refl
+
+pub import_selects : IsSelectText import_text
+unfolding first everything
+import_selects = refl
+
+pub keep_selects : IsSelectText keep_text
+unfolding first everything
+keep_selects = refl
+
+pub removed_selects : IsSelectText removed_text
+unfolding first everything
+removed_selects = refl
+
+pub members_selects : IsSelectText members_text
+unfolding first everything
+members_selects = refl
+
+pub books_selects : IsSelectText books_text
+unfolding first everything
+books_selects = refl
+
+pub all_members_selects : IsSelectText all_members_text
+unfolding first everything
+all_members_selects = refl
+
+pub all_imports_selects : IsSelectText all_imports_text
+unfolding first everything
+all_imports_selects = refl
+
+pub all_keeps_selects : IsSelectText all_keeps_text
+unfolding first everything
+all_keeps_selects = refl
+
+pub meta_selects : IsSelectText meta_text
+unfolding first everything
+meta_selects = refl

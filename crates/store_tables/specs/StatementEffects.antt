@@ -45,13 +45,13 @@ pub record KeepsState (old new : State) : Type 0 where
   pub now_is : new.now ≡ old.now
   pub committed_is : new.committed ≡ old.committed
 
--- The effect of a read, on success and on error. It begins no transaction. Over the declared tables
--- it commits nothing, so a crash leaves what it could leave before. If no write was pending and the
--- connection is still open, its state is unchanged.
+-- The effect of a read, on success and on error. It begins no transaction, and commits nothing
+-- whatever tables are declared, so a crash leaves what it could leave before. If no write was
+-- pending over the declared tables and the connection is still open, its state is unchanged.
 pub record OnlyReads (old new : State) : Type 0 where
   pub mode : old.in_transaction ≡ false → new.in_transaction ≡ false
   pub was_open : HasCleanDisk new → IsTrue new.is_open → IsTrue old.is_open
-  pub survives : Survives old new (λ _. ¬ (old.now.schema ≡ book_schema))
+  pub survives : Survives old new (λ _. ⊥)
   pub same : HasCleanDisk new → old.now.schema ≡ book_schema
       → IsTrue new.is_open → HasNoPendingWrites old → KeepsState old new
 

@@ -164,7 +164,7 @@ module _ {A : Type 0} (H : TableRows → A → Database → Type 0) (step : Book
       let held : stored_books old ≡ books_of rows = books_held old.now rows was.sound.holds was.sound.sound in
       let returned = λ (clean : HasCleanDisk new). found rows (clean_before _ mid new survives clean) was.sound.holds was.sound.sound in
       survives_if old new (HoldBooksAfter (step (stored_books old))) (survives_then old mid new _ _ (λ _. ⊤) (λ _ db none. tt) (λ _ db none. tt) left.survives survives)
-      (λ clean. survives_then old mid new _ _ (HoldBooksAfter (step (stored_books old))) (λ _ db none. absurd (none was.sound.holds.schema))
+      (λ clean. survives_then old mid new _ _ (HoldBooksAfter (step (stored_books old))) (λ _ db none. absurd none)
       (λ _ db made. subst (λ (books : Books). HoldBooksAfter (step books) db) (sym held) (holds rows (returned clean) db made))
       left.survives (crash rows (holds_still old mid new same survives clean was) was.sound.sound (returned clean)))
 

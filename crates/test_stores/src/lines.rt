@@ -2,10 +2,12 @@
 
 use crate::stop::Stop;
 use base_types::NoMemory;
-use book_service::{Command, Event, Mirrored, Reply, drive, mirror, perform};
+use book_service::{Command, Event, Mirrored, Reply};
 use std::alloc::Global;
 use sync_core::{BookStore, Denied, Device};
-use test_support::scripts::{format_device, format_reply, parse_event};
+use test_support::scripts::{
+    format_device, format_reply, mirror_of, parse_event, replies_to_events, reply_to,
+};
 
 /// `device BOOK` adds a new device of the book.
 fn add_device(alloc: Global, devices: &mut Vec<Device>, book: &str) -> Result<String, Stop> {
@@ -48,7 +50,7 @@ fn run_mirror<B: BookStore>(alloc: Global, store: &mut B, words: &str) -> Result
     let (limit, pages) = numbers.split_once(' ').unwrap_or((numbers, ""));
     let limit = limit.parse::<u64>().unwrap_or(0);
     let pages = pages.parse::<u64>().unwrap_or(0);
-    match mirror(alloc, store, book, limit, pages) {
+    match mirror_of(alloc, store, book, limit, pages) {
         Ok(mirrored) => {
             let output = format_mirrored(alloc, &mirrored);
             drop(mirrored);
@@ -73,11 +75,7 @@ fn drive_events<B: BookStore>(
     devices: &mut Vec<Device>,
     events: &[Event],
 ) -> Result<String, Stop> {
-    let count = devices.len();
-    if !events.iter().all(|event| event.is_within(count)) {
-        return Err(Stop::Line);
-    }
-    let replies = drive(alloc, store, devices, events)?;
+    let replies = replies_to_events(alloc, store, devices, events)?;
     let output = format_first(alloc, replies.as_slice());
     drop(replies);
     output
@@ -103,7 +101,7 @@ fn perform_command<B: BookStore>(
     store: &mut B,
     command: &Command,
 ) -> Result<String, NoMemory> {
-    let reply = perform(alloc, store, command);
+    let reply = reply_to(alloc, store, command);
     let output = format_reply(alloc, &reply);
     drop(reply);
     output

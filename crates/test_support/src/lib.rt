@@ -1,8 +1,14 @@
 //! What the test programs share: the format of their rows, commands as lines of text, calls with
-//! little memory, and lists of commands for a disk that stops.
+//! little memory, and lists of commands for a disk that stops. Also the rows that need no service
+//! over HTTP and no tables: lines and cards, limits and pages.
 #![tactic(auto)]
 
+mod cards;
 pub mod crash_plans;
+mod formats;
 pub mod oom;
 pub mod rows;
 pub mod scripts;
+
+pub use cards::check_cards;
+pub use formats::check_formats;

@@ -8,5 +8,4 @@
 mod fields;
 mod lines;
 
-pub use fields::{decode_field, encode_field};
-pub use lines::{Row, TestCalls, check_rows, parse_row, report_row};
+pub use lines::{TestCalls, check_rows};

@@ -13,4 +13,4 @@ pub use devices::format_device;
 pub use events::parse_event;
 pub use failing_store::FailingStore;
 pub use replies::format_reply;
-pub use running::run_script;
+pub use running::{mirror_of, replies_to_events, reply_to, run_script};

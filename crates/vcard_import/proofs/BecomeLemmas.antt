@@ -4,10 +4,11 @@ use Rattle.std.proofs.lemmas.List.{append-nil}
 use Rattle.import_text.specs.declared.raw_line.RawLine.{RawLine}
 use Rattle.vcard_lines.specs.declared.line.Line.{Line}
 use Rattle.vcard_import.specs.declared.change.Change.{Change}
-use Rattle.vcard_property.specs.Kinds.{fits_kind}
 use Rattle.vcard_property.specs.SameLines.{AreLine}
 use Rattle.vcard_import.specs.Conversions.{Become}
 use Rattle.vcard_import.specs.Delimiters.{is_delimiter}
+use Rattle.vcard_import.specs.Labels.{fits}
+use Rattle.vcard_import.specs.LeftOut.{may_go}
 
 more : (raws : List RawLine) (raw : RawLine) (line : List Line) (change : List Change) → Become (raw ∷ []) line change → (card : List Line) (changes : List Change) → Become raws card changes → Become (raws ++ raw ∷ []) (card ++ line) (changes ++ change)
 more [] raw line change last card changes b = rw (b.0, b.1) last
@@ -19,7 +20,15 @@ more (first ∷ raws) raw line change last card changes (inr (inl k)) = inr (inl
   same = k.same;
   rest = more raws raw line change last k.others changes k.rest;
 }))
-more (first ∷ raws) raw line change last card changes (inr (inr k)) = inr (inr (record {
+more (first ∷ raws) raw line change last card changes (inr (inr (inr g))) = inr (inr (inr (record {
+  change = g.change;
+  more = g.more ++ change;
+  changes_are = ap (λ c. c ++ change) g.changes_are;
+  place = g.place;
+  may_go = g.may_go;
+  rest = more raws raw line change last card g.more g.rest;
+})))
+more (first ∷ raws) raw line change last card changes (inr (inr (inl k))) = inr (inr (inl (record {
   line = k.line;
   others = k.others ++ line;
   card_is = ap (λ c. c ++ line) k.card_is;
@@ -30,7 +39,7 @@ more (first ∷ raws) raw line change last card changes (inr (inr k)) = inr (inr
   place = k.place;
   kind = k.kind;
   rest = more raws raw line change last k.others k.more k.rest;
-}))
+})))
 
 pub left_out : (raws : List RawLine) (raw : RawLine) (card : List Line) (changes : List Change) → is_delimiter raw.octets ≡ true → Become raws card changes → Become (raws ++ raw ∷ []) card changes
 left_out raws raw card changes d b =
@@ -42,6 +51,11 @@ pub kept : (raws : List RawLine) (raw : RawLine) (card : List Line) (changes : L
 kept raws raw card changes line same b = subst (λ c. Become (raws ++ raw ∷ []) (card ++ line ∷ []) c) (append-nil changes)
     (more raws raw (line ∷ []) [] (inr (inl (record { line = line; others = []; card_is = refl; same = same; rest = (refl, refl) }))) card changes b)
 
-pub changed : (raws : List RawLine) (raw : RawLine) (card : List Line) (changes : List Change) (line : Line) (change : Change) → (AreLine raw.octets line → ⊥) → change.place ≡ raw.place → fits_kind change.kind line.name ≡ true → Become raws card changes → Become (raws ++ raw ∷ []) (card ++ line ∷ []) (changes ++ change ∷ [])
+pub changed : (raws : List RawLine) (raw : RawLine) (card : List Line) (changes : List Change) (line : Line) (change : Change) → (AreLine raw.octets line → ⊥) → change.place ≡ raw.place → fits change.kind line ≡ true → Become raws card changes → Become (raws ++ raw ∷ []) (card ++ line ∷ []) (changes ++ change ∷ [])
 changed raws raw card changes line change differs place kind b =
-    more raws raw (line ∷ []) (change ∷ []) (inr (inr (record { line = line; others = []; card_is = refl; differs = differs; change = change; more = []; changes_are = refl; place = place; kind = kind; rest = (refl, refl) }))) card changes b
+    more raws raw (line ∷ []) (change ∷ []) (inr (inr (inl (record { line = line; others = []; card_is = refl; differs = differs; change = change; more = []; changes_are = refl; place = place; kind = kind; rest = (refl, refl) })))) card changes b
+
+pub gone : (raws : List RawLine) (raw : RawLine) (card : List Line) (changes : List Change) (change : Change) → change.place ≡ raw.place → may_go change.kind raw ≡ true → Become raws card changes → Become (raws ++ raw ∷ []) card (changes ++ change ∷ [])
+gone raws raw card changes change place may b =
+    subst (λ c. Become (raws ++ raw ∷ []) c (changes ++ change ∷ [])) (append-nil card)
+    (more raws raw [] (change ∷ []) (inr (inr (inr (record { change = change; more = []; changes_are = refl; place = place; may_go = may; rest = (refl, refl) })))) card changes b)

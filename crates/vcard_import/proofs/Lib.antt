@@ -1,5 +1,7 @@
 pub mod BecomeLemmas
-pub mod MissingLemmas
+mod FoldLemmas
+pub mod LeftOutLemmas
+mod MissingLemmas
 pub mod RefusedLemmas
 pub mod ResultLemmas
 pub mod RuleLemmas

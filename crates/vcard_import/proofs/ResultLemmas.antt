@@ -6,8 +6,9 @@ use Rattle.vcard_lines.specs.declared.fault.CardFault.{CardFault}
 use Rattle.vcard_lines.specs.declared.fault.CardFault.TheVariants.{Memory}
 use Rattle.vcard_lines.specs.declared.line.Line.{Line}
 use Rattle.vcard_text.specs.Spelling.{Spells}
-use Rattle.vcard_import.specs.Conversions.{IsConverted}
+use Rattle.vcard_import.specs.Conversions.{IsConverted, IsTooLong, LeavesOutIfLong}
 use Rattle.vcard_import.specs.declared.conversion.Conversion.{Conversion}
+use Rattle.vcard_import.specs.declared.fault.ImportFault.{ImportFault}
 
 abbrev tells_ok : Result (List Line) CardFault → Bool
 tells_ok (Ok lines) = true
@@ -32,6 +33,6 @@ err_is_no_ok fault lines e = absurd (false≢true (ap tells_ok e))
 pub same_ok : (a b : List Line) → ok_lines a ≡ ok_lines b → a ≡ b
 same_ok a b e = ap lines_in e
 
-pub ok_either : (octets : List ℕ) (made : Result Conversion CardFault) → IfOk made (λ m. IsConverted octets m.card m.changes) → IfOk made (λ m. Spells octets m.card ⊎ IsConverted octets m.card m.changes)
+pub ok_either : (octets : List ℕ) (made : Result Conversion ImportFault) → IfOk made (λ m. IsConverted octets m.card m.changes) → IfOk made (λ m. (Spells octets m.card × (m.changes ≡ [])) ⊎ IsConverted octets m.card m.changes)
 ok_either octets (Ok m) q = inr q
 ok_either octets (Err fault) q = tt

@@ -2,7 +2,7 @@
 use Rattle.std.proofs.Common.{◌≡◌, Bool, true, false, cond, ◌||◌, List, [], ◌∷◌, ◌++◌, ◌<◌, ◌+◌, length, take, drop, get_or, ℕ, codes, find, Option, None, Some, refl, sym, ap, subst, ◌∙◌, append_assoc, true≢false}
 use Rattle.std.specs.List.{AllByRecursion, list_any}
 use Rattle.std.specs.Option.{option_or}
-use Rattle.std.proofs.lemmas.List.{append-nil, take_more, drop_more, take-append-drop}
+use Rattle.std.proofs.lemmas.List.{drop_more, take-append-drop}
 use Rattle.std.proofs.lemmas.List.Folds.{find-append}
 use Rattle.import_text.specs.declared.raw_line.RawLine.{RawLine}
 use Rattle.vcard_lines.specs.declared.line.Line.{Line}
@@ -15,8 +15,12 @@ use Rattle.vcard_import.specs.Delimiters.{is_delimiter}
 use Rattle.vcard_import.specs.declared.card_lines.CardLines.{CardLines}
 use Rattle.vcard_import.specs.declared.rules.Reading.{Reading}
 use Rattle.vcard_import.specs.Conversions.{Become}
-use Rattle.vcard_import.specs.internal.Steps.{ArePassed, Extends, Makes, breaks_rule, found_uid}
-use Rattle.vcard_import.proofs.BecomeLemmas.{left_out}
+use Rattle.vcard_import.specs.internal.Steps.{ArePassed, Extends, Makes, breaks_rule, found_uid, has_joined}
+use Rattle.vcard_import.specs.Labels.{is_joined}
+use Rattle.vcard_import.specs.LeftOut.{has_left_out, is_left_out, may_go}
+use Rattle.vcard_import.specs.declared.change.Change.{Change}
+use Rattle.vcard_import.proofs.BecomeLemmas.{gone, left_out}
+use Rattle.vcard_import.proofs.LeftOutLemmas.{none_more}
 use Rattle.vcard_import.proofs.RuleLemmas.{body_is_free, is_no_uid, is_no_member, line_is_free, uid_is_allowed}
 
 pub all_more : (lines : List Line) (line : Line) → AllByRecursion IsProperLine lines → IsProperLine line → AllByRecursion IsProperLine (lines ++ line ∷ [])
@@ -37,7 +41,7 @@ find_skips p (first ∷ lines) line e = ap (λ f. cond (p first) (Some first) f)
 pub find_finds : (p : Line → Bool) (lines : List Line) (line : Line) → find p lines ≡ None → p line ≡ true → find p (lines ++ line ∷ []) ≡ Some line
 find_finds p lines line n e = find-append p lines (line ∷ []) ∙ ap (λ f. option_or f (find p (line ∷ []))) n ∙ ap (λ t. cond t (Some line) None) e
 
-pub any_more : (p : Line → Bool) (lines : List Line) (line : Line) → list_any p (lines ++ line ∷ []) ≡ (list_any p lines || p line)
+pub any_more : {A : Type 0} (p : A → Bool) (lines : List A) (line : A) → list_any p (lines ++ line ∷ []) ≡ (list_any p lines || p line)
 any_more p [] line = both (p line)
   where
     both : (t : Bool) → (t || false) ≡ (false || t)
@@ -81,11 +85,13 @@ made_more before raw start end line become is u k p e m = record {
 both_false : (a b : Bool) → a ≡ false → b ≡ false → (a || b) ≡ false
 both_false a b x y = rw (x, y) refl
 
-pub pushed : (reading : Reading) (raw : RawLine) (start end : CardLines) (line : Line) → end.lines ≡ start.lines ++ line ∷ [] → end.seen.uid ≡ (start.seen.uid || line_is_named (codes "UID") line) → end.seen.kind ≡ (start.seen.kind || line_is_named (codes "KIND") line) → ((before : List RawLine) → Become before start.lines start.changes → Become (before ++ raw ∷ []) (start.lines ++ line ∷ []) end.changes) → IsProperLine line → breaks_rule start.seen reading line ≡ false → Extends reading (raw ∷ []) start end
-pushed reading raw start end line is u k become p h = record {
+pub pushed : (reading : Reading) (raw : RawLine) (start end : CardLines) (line : Line) → end.lines ≡ start.lines ++ line ∷ [] → end.seen.uid ≡ (start.seen.uid || line_is_named (codes "UID") line) → end.seen.kind ≡ (start.seen.kind || line_is_named (codes "KIND") line) → ((before : List RawLine) → Become before start.lines start.changes → Become (before ++ raw ∷ []) (start.lines ++ line ∷ []) end.changes) → IsProperLine line → breaks_rule start.seen reading line ≡ false → (has_left_out start.changes ≡ false → has_left_out end.changes ≡ false) → (has_joined start.changes ≡ false → has_joined end.changes ≡ false) → Extends reading (raw ∷ []) start end
+pushed reading raw start end line is u k become p h stays unjoined = record {
   makes = λ before m. made_more before raw start end line (become before m.become) is u k p (line_is_free start.lines line p (body_is_free start.lines start.seen reading line m.seen h)) m;
   uid = λ t. ap found_uid is ∙ find_skips (line_is_named (codes "UID")) start.lines line (is_no_uid start.seen reading line t h);
   members = λ t none. ap (has_line_named (codes "MEMBER")) is ∙ any_more (line_is_named (codes "MEMBER")) start.lines line ∙ both_false (has_line_named (codes "MEMBER") start.lines) (line_is_named (codes "MEMBER") line) none (is_no_member start.seen reading line t h);
+  whole = λ t none. stays none;
+  unjoined = λ t none. unjoined none;
 }
 
 pub skipped : (reading : Reading) (raw : RawLine) (start : CardLines) → is_delimiter raw.octets ≡ true → Extends reading (raw ∷ []) start start
@@ -93,6 +99,27 @@ skipped reading raw start d = record {
   makes = λ before m. record { become = left_out before raw start.lines start.changes d m.become; proper = m.proper; passed = m.passed; seen = m.seen };
   uid = λ t. refl;
   members = λ t none. none;
+  whole = λ t none. none;
+  unjoined = λ t none. none;
+}
+
+-- the logical line has no line of its own, and a change says why
+pub left : (reading : Reading) (raw : RawLine) (start end : CardLines) (change : Change) → change.place ≡ raw.place → may_go change.kind raw ≡ true → (reading.leaves_out ≡ false → is_left_out change ≡ false) → (reading.joins ≡ false → is_joined change ≡ false) → end.lines ≡ start.lines → end.seen ≡ start.seen → end.changes ≡ start.changes ++ change ∷ [] → Extends reading (raw ∷ []) start end
+left reading raw start end change place may stays unjoined lines seen changes = record {
+  makes = λ before m. record {
+    become = subst (λ c. Become (before ++ raw ∷ []) end.lines c) (sym changes)
+        (subst (λ l. Become (before ++ raw ∷ []) l (start.changes ++ change ∷ [])) (sym lines) (gone before raw start.lines start.changes change place may m.become));
+    proper = subst (AllByRecursion IsProperLine) (sym lines) m.proper;
+    passed = subst ArePassed (sym lines) m.passed;
+    seen = record {
+      uid = ap (λ s. s.uid) seen ∙ m.seen.uid ∙ ap (has_line_named (codes "UID")) (sym lines);
+      kind = ap (λ s. s.kind) seen ∙ m.seen.kind ∙ ap (has_line_named (codes "KIND")) (sym lines);
+    };
+  };
+  uid = λ t. ap found_uid lines;
+  members = λ t none. ap (has_line_named (codes "MEMBER")) lines ∙ none;
+  whole = λ t none. subst (λ c. has_left_out c ≡ false) (sym changes) (none_more is_left_out start.changes change (stays t) none);
+  unjoined = λ t none. subst (λ c. has_joined c ≡ false) (sym changes) (none_more is_joined start.changes change (unjoined t) none);
 }
 
 -- ---- the logical lines of a card
@@ -105,9 +132,11 @@ pub record WithUid (reading : Reading) (raws : List RawLine) (line : Line) (made
   pub makes : Makes raws made
   pub uid : found_uid made.lines ≡ Some line
   pub members : reading.keeps_members ≡ false → has_line_named (codes "MEMBER") made.lines ≡ false
+  pub whole : reading.leaves_out ≡ false → has_left_out made.changes ≡ false
+  pub unjoined : reading.joins ≡ false → has_joined made.changes ≡ false
 
-pub with_uid : (others reading : Reading) (raws : List RawLine) (index : ℕ) (raw : RawLine) (line : Line) (start a b end : CardLines) → others.takes_uid ≡ false → reading.takes_uid ≡ true → others.keeps_members ≡ reading.keeps_members → index < length raws → raw ≡ get_or raws index raw → IsUidLine line → Makes [] start → found_uid start.lines ≡ None → has_line_named (codes "MEMBER") start.lines ≡ false → Extends others (take index raws) start a → (IsProperLine line → breaks_rule a.seen reading line ≡ false → Extends reading (raw ∷ []) a b) → b.lines ≡ a.lines ++ line ∷ [] → Extends others (drop (index + 1) raws) b end → WithUid reading raws line end
-with_uid others reading raws index raw line start a b end none takes keeps l is u made found members before push lines after =
+pub with_uid : (others reading : Reading) (raws : List RawLine) (index : ℕ) (raw : RawLine) (line : Line) (start a b end : CardLines) → others.takes_uid ≡ false → reading.takes_uid ≡ true → others.keeps_members ≡ reading.keeps_members → others.leaves_out ≡ reading.leaves_out → others.joins ≡ reading.joins → index < length raws → raw ≡ get_or raws index raw → IsUidLine line → Makes [] start → found_uid start.lines ≡ None → has_line_named (codes "MEMBER") start.lines ≡ false → has_left_out start.changes ≡ false → has_joined start.changes ≡ false → Extends others (take index raws) start a → (IsProperLine line → breaks_rule a.seen reading line ≡ false → Extends reading (raw ∷ []) a b) → b.lines ≡ a.lines ++ line ∷ [] → Extends others (drop (index + 1) raws) b end → WithUid reading raws line end
+with_uid others reading raws index raw line start a b end none takes keeps leaves joins l is u made found members whole unjoined before push lines after =
     let at : Makes (take index raws) a = before.makes [] made in
     let unfound : found_uid a.lines ≡ None = before.uid none ∙ found in
     let unseen : a.seen.uid ≡ false = at.seen.uid ∙ none_found (line_is_named (codes "UID")) a.lines unfound in
@@ -116,4 +145,6 @@ with_uid others reading raws index raw line start a b end none takes keeps l is 
       makes = subst (λ r. Makes r end) (append_assoc (take index raws) (raw ∷ []) (drop (index + 1) raws) ∙ split_whole raws index raw l is) (after.makes (take index raws ++ raw ∷ []) (pushed.makes (take index raws) at));
       uid = after.uid none ∙ ap found_uid lines ∙ find_finds (line_is_named (codes "UID")) a.lines line unfound u.named;
       members = λ k. after.members (keeps ∙ k) (pushed.members k (before.members (keeps ∙ k) members));
+      whole = λ k. after.whole (leaves ∙ k) (pushed.whole k (before.whole (leaves ∙ k) whole));
+      unjoined = λ k. after.unjoined (joins ∙ k) (pushed.unjoined k (before.unjoined (joins ∙ k) unjoined));
     }

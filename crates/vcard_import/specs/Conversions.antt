@@ -1,24 +1,31 @@
 -- Which card the logical lines of another program's card become, and which changes are reported.
 -- What a changed line becomes is not defined. This project's own.
-use Rattle.std.specs.Prelude.{ℕ, ◌≡◌, true, List, [], ◌∷◌, ◌++◌, map, codes, Some, ◌⊎◌}
+use Rattle.std.specs.Prelude.{ℕ, ◌≡◌, Bool, true, false, List, [], ◌∷◌, ◌++◌, map, codes, Some, ◌⊎◌}
 use Rattle.std.specs.Prelude.{if◌then◌else◌}
-use Rattle.import_text.specs.RawLines.{raw_lines}
+use Rattle.std.specs.List.{list_any}
+use Rattle.import_text.specs.RawLines.{raw_lines, is_encoded_as}
 use Rattle.import_text.specs.declared.raw_line.RawLine.{RawLine}
-use Rattle.vcard_lines.specs.declared.fault.CardFault.{CardFault}
-use Rattle.vcard_lines.specs.declared.fault.CardFault.TheVariants.{TooLong}
 use Rattle.vcard_lines.specs.declared.line.Line.{Line}
 use Rattle.vcard_text.specs.Cards.{has_line_named, uid_of}
 use Rattle.vcard_text.specs.Making.{upper_lines, AreTooLongCardLines}
 use Rattle.vcard_text.specs.Spelling.{without_bom}
-use Rattle.vcard_property.specs.Kinds.{fits_kind}
 use Rattle.vcard_property.specs.Lines.{plain_line}
-use Rattle.vcard_property.specs.SameLines.{AreLine}
+use Rattle.vcard_property.specs.SameLines.{AreLine, has_encoding}
 use Rattle.vcard_property.specs.declared.change_kind.ChangeKind.TheVariants.{Added}
 use Rattle.vcard_import.specs.Delimiters.{is_delimiter}
 use Rattle.vcard_import.specs.DerivedUid.{derived_uid}
 use Rattle.vcard_import.specs.FirstUid.{first_uid}
-use Rattle.vcard_import.specs.Versions.{version_of, folding_of}
+use Rattle.vcard_import.specs.Labels.{HaveAddresses, fits}
+use Rattle.vcard_import.specs.LeftOut.{has_left_out, may_go}
+use Rattle.vcard_import.specs.Folds.{folding_of}
+use Rattle.vcard_import.specs.Versions.{version_of}
 use Rattle.vcard_import.specs.declared.change.Change.{Change}
+use Rattle.vcard_import.specs.declared.fault.ImportFault.{ImportFault}
+use Rattle.vcard_import.specs.declared.fault.ImportFault.TheVariants.{Memory, TooLong, Charset}
+
+-- one of the lines says how its value is encoded
+abbrev pub has_encodings : List Line → Bool
+has_encodings lines = list_any has_encoding lines
 
 -- ---- the logical lines
 
@@ -31,8 +38,8 @@ pub record IsKept (octets : List ℕ) (Rest : List Line → Type 0) (card : List
   pub rest : Rest others
 
 -- The first line of the card isn't what the octets of the logical line spell, and the first change
--- is at the place of that logical line, of a kind that fits the line's name. The rest holds for the
--- other lines and changes.
+-- is at the place of that logical line, of a kind that fits the line. The rest holds for the other
+-- lines and changes.
 pub record IsChanged (raw : RawLine) (Rest : List Line → List Change → Type 0)
     (card : List Line) (changes : List Change) : Type 0 where
   pub line : Line
@@ -43,18 +50,30 @@ pub record IsChanged (raw : RawLine) (Rest : List Line → List Change → Type 
   pub more : List Change
   pub changes_are : changes ≡ change ∷ more
   pub place : change.place ≡ raw.place
-  pub kind : fits_kind change.kind line.name ≡ true
+  pub kind : fits change.kind line ≡ true
   pub rest : Rest others more
 
+-- The logical line is a label, a picture or a sound without a line of its own. The first change is
+-- at its place and says what became of it. The rest holds for the other changes.
+pub record IsGone (raw : RawLine) (Rest : List Change → Type 0) (changes : List Change)
+    : Type 0 where
+  pub change : Change
+  pub more : List Change
+  pub changes_are : changes ≡ change ∷ more
+  pub place : change.place ≡ raw.place
+  pub may_go : may_go change.kind raw ≡ true
+  pub rest : Rest more
+
 -- Each logical line becomes one line of the card, in order; only one that begins or ends a card or
--- gives its version may be left out. The changes are those of the logical lines that don't spell
--- the line that they became, in order.
+-- gives its version may be missing, and one that the changes call joined to another or left out.
+-- The changes are those of the logical lines that don't spell the line that they became, in order.
 abbrev pub Become : List RawLine → List Line → List Change → Type 0
 Become [] card changes = (card ≡ []) × (changes ≡ [])
 Become (raw ∷ raws) card changes =
     ((is_delimiter raw.octets ≡ true) × Become raws card changes)
     ⊎ (IsKept raw.octets (λ others. Become raws others changes) card
-    ⊎ IsChanged raw (λ others more. Become raws others more) card changes)
+    ⊎ (IsChanged raw (λ others more. Become raws others more) card changes
+    ⊎ IsGone raw (λ more. Become raws card more) changes))
 
 -- ---- the lines that are added
 
@@ -78,26 +97,48 @@ addition line = record { place = 0; kind = Added }
 -- the logical lines of the octets; how they are folded depends on the version, and a byte order
 -- mark is no part of the first
 abbrev pub card_raw_lines : List ℕ → List RawLine
-card_raw_lines octets = raw_lines (folding_of (version_of octets)) (without_bom octets)
+card_raw_lines octets = raw_lines (folding_of octets) (without_bom octets)
 
 -- The lines are those that the logical lines of the octets become, and then the FN and the UID that
--- they lack. The changes are those of these lines, and then one for each line that was added. The
--- first legal UID that a logical line spells is the card's UID, if one does.
+-- they lack. The changes are those of these lines, and then one for each line that was added. For
+-- each label that is joined an address got one. The first legal UID that a logical line spells is
+-- the card's UID, if one does.
 pub record IsConverted (octets : List ℕ) (card : List Line) (changes : List Change) : Type 0 where
   pub lines : List Line
   pub reported : List Change
   pub become : Become (card_raw_lines octets) lines reported
+  pub labels : HaveAddresses reported
   pub name : List ℕ
   pub card_is : card ≡ lines ++ missing_lines octets name lines
   pub changes_are : changes ≡ reported ++ map addition (missing_lines octets name lines)
   pub uid : (line : Line) → first_uid (version_of octets) (card_raw_lines octets) ≡ Some line
       → uid_of card ≡ line.value
 
--- The fault is TooLong: the octets are converted to lines that would be a card if their canonical
--- text weren't too long.
-pub record IsRefused (octets : List ℕ) (fault : CardFault) : Type 0 where
-  pub fault_is : fault ≡ TooLong
+-- The octets are converted to lines that would be a card if their canonical text weren't too long,
+-- though none of them is left out for that.
+pub record IsTooLong (octets : List ℕ) : Type 0 where
   pub lines : List Line
   pub changes : List Change
   pub converted : IsConverted octets lines changes
+  pub whole : has_left_out changes ≡ false
   pub too_long : AreTooLongCardLines (upper_lines lines)
+
+-- a line is left out only of a card that would be too long with it
+abbrev pub LeavesOutIfLong : List ℕ → List Change → Type 0
+LeavesOutIfLong octets changes = has_left_out changes ≡ true → IsTooLong octets
+
+-- the head of the logical line has the word CHARSET
+abbrev pub has_charset : RawLine → Bool
+has_charset raw = is_encoded_as (codes "CHARSET") raw.octets
+
+-- a logical line of the octets names a character set, as the fault says
+abbrev pub HasCharset : List ℕ → ImportFault → Type 0
+HasCharset octets Memory = ⊥
+HasCharset octets TooLong = ⊥
+HasCharset octets (Charset name) = list_any has_charset (card_raw_lines octets) ≡ true
+
+-- The octets have the fault: they are too long, or they name a character set.
+abbrev pub IsRefused : List ℕ → ImportFault → Type 0
+IsRefused octets Memory = ⊥
+IsRefused octets TooLong = IsTooLong octets
+IsRefused octets (Charset name) = HasCharset octets (Charset name)

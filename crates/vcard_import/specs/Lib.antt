@@ -2,6 +2,9 @@ pub mod Conversions
 pub mod Delimiters
 pub mod DerivedUid
 pub mod FirstUid
+pub mod Folds
+pub mod Labels
+pub mod LeftOut
 pub mod Versions
 pub mod WholeCards
 pub mod internal

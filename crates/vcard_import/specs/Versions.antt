@@ -1,12 +1,10 @@
--- Which version of vCard a card says it has, as far as its folding depends on it (RFC 2426, section
--- 3.6.9; RFC 6350, section 6.7.9). This project's own.
+-- Which version of vCard a card says it has (RFC 2426, section 3.6.9; RFC 6350, section 6.7.9).
+-- This project's own.
 use Rattle.std.specs.Prelude.{ℕ, ◌==◌, List, codes, find, slice_index_or, Option}
 use Rattle.std.specs.Prelude.{Some, None, if◌then◌else◌}
 use Rattle.std.specs.List.{slice_split}
 use Rattle.base_types.specs.Octets.{line_feed}
 use Rattle.import_text.specs.RawLines.{begins_with_word}
-use Rattle.import_text.specs.declared.lines.Folding.{Folding}
-use Rattle.import_text.specs.declared.lines.Folding.TheVariants.{KeepsSpace, DropsSpace}
 use Rattle.vcard_property.specs.declared.version.Version.{Version}
 use Rattle.vcard_property.specs.declared.version.Version.TheVariants.{Old, Third, Fourth}
 
@@ -26,9 +24,3 @@ version_of_line (Some line) = version_by (slice_index_or line 8 0)
 
 abbrev pub version_of : List ℕ → Version
 version_of octets = version_of_line (version_line octets)
-
--- vCard 2.1 keeps the white space of continuation lines
-abbrev pub folding_of : Version → Folding
-folding_of Old = KeepsSpace
-folding_of Third = DropsSpace
-folding_of Fourth = DropsSpace

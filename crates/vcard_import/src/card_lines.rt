@@ -3,19 +3,26 @@ ghost use Rattle.std.specs.Prelude.{◌≡◌, ◌∷◌, ◌++◌, [], true, fa
 ghost use Rattle.std.specs.Prelude.{◌<◌, codes, length, None};
 ghost use Rattle.vcard_lines.specs.declared.line.Line.{Line};
 ghost use Rattle.vcard_text.specs.Cards.{IsProperLine, has_line_named};
-ghost use Rattle.vcard_property.specs.Kinds.{fits_kind};
 ghost use Rattle.vcard_property.specs.Lines.{IsUidLine};
 ghost use Rattle.vcard_import.specs.FirstUid.{first_uid};
+ghost use Rattle.vcard_import.specs.Labels.{HaveAddresses, fits, says_joined};
+ghost use Rattle.vcard_import.specs.LeftOut.{has_left_out, may_go, says_left_out};
 ghost use Rattle.vcard_import.specs.internal.Steps.{Makes, Extends, breaks_rule, found_uid};
-ghost use Rattle.vcard_import.specs.internal.Steps.{has_stray_members};
+ghost use Rattle.vcard_import.specs.internal.Steps.{has_joined, has_stray_members};
 
 use crate::change::Change;
 use crate::delimiters::{begins_card, is_delimiter};
 use crate::first_uid::{UidLine, first_uid};
+use crate::joined::have_addresses;
+use crate::labels::{Labelling, is_label, labels_of};
+use crate::left_out::may_be_left_out;
+use crate::parsed_name::{is_empty_name, name_for_empty};
 use crate::rules::{Reading, Seen, breaks_rule, has_stray_members};
 use import_text::{RawLine, is_word_line, read_text};
 use std::alloc::Global;
-use vcard_property::{ChangeKind, Version, are_line, aside_line, convert_line, text_line};
+use vcard_property::{
+    ChangeKind, Version, are_line, aside_line, convert_line, text_line, with_label,
+};
 use vcard_text::{Items, Line, NoMemory};
 
 /// The lines and the changes so far.
@@ -26,18 +33,44 @@ pub(crate) struct CardLines {
     pub(crate) seen: Seen,
 }
 
-/// The line for the octets of a logical line after the others, and what became of it.
+/// The line for the octets of a logical line, with its label if it is an address that gets one, and
+/// what became of it.
+fn labelled_line(
+    alloc: Global,
+    octets: &[u8],
+    version: Version,
+    label: Option<&Labelling>,
+) -> Result<(Line, ChangeKind), NoMemory>
+    ensures proper { IfOk result (λ made. IsProperLine made.0) }
+    ensures kind { IfOk result (λ made. fits made.1 made.0 ≡ true) }
+{
+    let (line, kind) = convert_line(alloc, octets, version)?;
+    if let Some(Labelling::Gets(text)) = label {
+        if let Some(labelled) = with_label(alloc, &line, text.as_str())? {
+            return Ok((labelled, ChangeKind::Labelled));
+        }
+    }
+    Ok((line, kind))
+}
+
+/// The line for the octets of a logical line after the others, and what became of it. An empty FN
+/// gets the name.
 fn line_after(
     alloc: Global,
     seen: Seen,
     octets: &[u8],
     reading: Reading,
+    name: &str,
+    label: Option<&Labelling>,
 ) -> Result<(Line, ChangeKind), NoMemory>
     ensures proper { IfOk result (λ made. IsProperLine made.0) }
-    ensures kind { IfOk result (λ made. fits_kind made.1 made.0.name ≡ true) }
+    ensures kind { IfOk result (λ made. fits made.1 made.0 ≡ true) }
     ensures allowed { IfOk result (λ made. breaks_rule seen reading made.0 ≡ false) }
 {
-    let (line, kind) = convert_line(alloc, octets, reading.version)?;
+    let (line, kind) = labelled_line(alloc, octets, reading.version, label)?;
+    if !name.is_empty() && is_empty_name(&line) {
+        return Ok((text_line(alloc, "FN", name)?, ChangeKind::Rewritten));
+    }
     if !breaks_rule(seen, &line, reading) {
         return Ok((line, kind));
     }
@@ -54,7 +87,7 @@ fn nested_line(alloc: Global, octets: &[u8]) -> Result<Line, NoMemory>
 }
 
 /// How deep the cards are nested at a logical line, and after it.
-fn depths(octets: &[u8], depth: u32) -> (u32, u32) {
+pub(crate) fn depths(octets: &[u8], depth: u32) -> (u32, u32) {
     if begins_card(octets) {
         let depth = depth.saturating_add(1);
         return (depth, depth);
@@ -65,11 +98,21 @@ fn depths(octets: &[u8], depth: u32) -> (u32, u32) {
     (depth, depth)
 }
 
+/// What becomes of the first logical line, and of the others.
+fn split_label(labels: &[Labelling]) -> (Option<&Labelling>, &[Labelling]) {
+    match labels.split_first() {
+        Some((label, others)) => (Some(label), others),
+        None => (None, labels),
+    }
+}
+
 impl CardLines {
     fn new(alloc: Global) -> CardLines
         ensures makes { Makes [] result }
         ensures uid { found_uid result.lines ≡ None }
         ensures members { has_line_named (codes "MEMBER") result.lines ≡ false }
+        ensures whole { has_left_out result.changes ≡ false }
+        ensures unjoined { has_joined result.changes ≡ false }
     {
         CardLines {
             lines: Items::new(alloc),
@@ -90,7 +133,7 @@ impl CardLines {
         kind: ChangeKind,
     ) -> Result<(), NoMemory>
         ensures extends { OnOk result ((reading : Reading) → IsProperLine line
-            → fits_kind kind line.name ≡ true → breaks_rule self.old.seen reading line ≡ false
+            → fits kind line ≡ true → breaks_rule self.old.seen reading line ≡ false
             → Extends reading (raw.now ∷ []) self.old self.new) }
         ensures lines { OnOk result (self.new.lines ≡ self.old.lines ++ line ∷ []) }
     {
@@ -103,6 +146,18 @@ impl CardLines {
         Ok(())
     }
 
+    /// Appends only a change, for a logical line that has no line of its own.
+    fn leave_out(&mut self, raw: &RawLine, kind: ChangeKind) -> Result<(), NoMemory>
+        ensures { OnOk result ((reading : Reading) → may_go kind raw.now ≡ true
+            → (reading.leaves_out ≡ false → says_left_out kind ≡ false)
+            → (reading.joins ≡ false → says_joined kind ≡ false)
+            → Extends reading (raw.now ∷ []) self.old self.new) }
+    {
+        let place = raw.place;
+        self.changes.push(Change { place, kind })?;
+        Ok(())
+    }
+
     /// Appends what a logical line becomes. One of a card within the card is kept as a text.
     fn push_raw(
         &mut self,
@@ -110,6 +165,8 @@ impl CardLines {
         raw: &RawLine,
         is_nested: bool,
         reading: Reading,
+        name: &str,
+        label: Option<&Labelling>,
     ) -> Result<(), NoMemory>
         ensures { OnOk result (Extends reading (raw.now ∷ []) self.old self.new) }
     {
@@ -121,7 +178,13 @@ impl CardLines {
         if is_delimiter(octets) {
             return Ok(());
         }
-        let (line, kind) = line_after(alloc, self.seen, octets, reading)?;
+        if reading.joins && matches!(label, Some(Labelling::Joined)) && is_label(raw) {
+            return self.leave_out(raw, ChangeKind::Joined);
+        }
+        let (line, kind) = line_after(alloc, self.seen, octets, reading, name, label)?;
+        if reading.leaves_out && may_be_left_out(raw, &line) {
+            return self.leave_out(raw, ChangeKind::LeftOut);
+        }
         self.push(alloc, raw, line, kind)
     }
 
@@ -133,13 +196,18 @@ impl CardLines {
         raws: &[RawLine],
         depth: u32,
         reading: Reading,
+        name: &str,
+        labels: &[Labelling],
     ) -> Result<u32, NoMemory>
         ensures { OnOk result (Extends reading raws.now self.old self.new) }
     {
         let mut depth = depth;
+        let mut labels = labels;
         for raw in raws {
+            let (label, others) = split_label(labels);
+            labels = others;
             let (at, next) = depths(raw.octets.as_slice(), depth);
-            self.push_raw(alloc, raw, at > 1, reading)?;
+            self.push_raw(alloc, raw, at > 1, reading, name, label)?;
             depth = next;
         }
         Ok(depth)
@@ -151,6 +219,8 @@ fn lines_with_uid(
     alloc: Global,
     raws: &[RawLine],
     reading: Reading,
+    name: &str,
+    labels: &[Labelling],
     uid: UidLine,
 ) -> Result<CardLines, NoMemory>
     requires within { uid.index < length raws.now }
@@ -159,17 +229,24 @@ fn lines_with_uid(
     ensures uid { IfOk result (λ made. found_uid made.lines ≡ Some uid.line) }
     ensures members { reading.keeps_members ≡ false → IfOk result (λ made.
         has_line_named (codes "MEMBER") made.lines ≡ false) }
+    ensures whole { reading.leaves_out ≡ false → IfOk result (λ made.
+        has_left_out made.changes ≡ false) }
+    ensures unjoined { reading.joins ≡ false → IfOk result (λ made.
+        has_joined made.changes ≡ false) }
 {
     let others = Reading {
         version: reading.version,
         takes_uid: false,
         keeps_members: reading.keeps_members,
+        leaves_out: reading.leaves_out,
+        joins: reading.joins,
     };
     let UidLine { line, index } = uid;
     let mut made = CardLines::new(alloc);
-    let depth = made.push_raws(alloc, &raws[..index], 0, others)?;
+    let depth = made.push_raws(alloc, &raws[..index], 0, others, name, labels)?;
     made.push(alloc, &raws[index], line, ChangeKind::Rewritten)?;
-    made.push_raws(alloc, &raws[index + 1..], depth, others)?;
+    let labels = labels.get(index + 1..).unwrap_or(&[]);
+    made.push_raws(alloc, &raws[index + 1..], depth, others, name, labels)?;
     Ok(made)
 }
 
@@ -178,43 +255,121 @@ fn lines_with_uid(
 fn read_lines(
     alloc: Global,
     raws: &[RawLine],
-    version: Version,
+    reading: Reading,
     keeps_members: bool,
+    name: &str,
+    labels: &[Labelling],
 ) -> Result<CardLines, NoMemory>
     ensures makes { IfOk result (λ made. Makes raws.now made) }
-    ensures uid { (line : Line) → first_uid version raws.now ≡ Some line
+    ensures uid { (line : Line) → first_uid reading.version raws.now ≡ Some line
         → IfOk result (λ made. found_uid made.lines ≡ Some line) }
     ensures members { keeps_members ≡ false → IfOk result (λ made.
         has_line_named (codes "MEMBER") made.lines ≡ false) }
+    ensures whole { reading.leaves_out ≡ false → IfOk result (λ made.
+        has_left_out made.changes ≡ false) }
+    ensures unjoined { reading.joins ≡ false → IfOk result (λ made.
+        has_joined made.changes ≡ false) }
 {
     let reading = Reading {
-        version,
+        version: reading.version,
         takes_uid: true,
         keeps_members,
+        leaves_out: reading.leaves_out,
+        joins: reading.joins,
     };
-    if let Some(uid) = first_uid(alloc, raws, version)? {
-        return lines_with_uid(alloc, raws, reading, uid);
+    if let Some(uid) = first_uid(alloc, raws, reading.version)? {
+        return lines_with_uid(alloc, raws, reading, name, labels, uid);
     }
     let mut made = CardLines::new(alloc);
-    made.push_raws(alloc, raws, 0, reading)?;
+    made.push_raws(alloc, raws, 0, reading, name, labels)?;
     Ok(made)
 }
 
 /// The lines that the logical lines of a card become, and the changes. Whether the card is a group
 /// is known only when all lines are read, so one that has a MEMBER and is none is read again.
+fn lines_named(
+    alloc: Global,
+    raws: &[RawLine],
+    reading: Reading,
+    name: &str,
+    labels: &[Labelling],
+) -> Result<CardLines, NoMemory>
+    ensures makes { IfOk result (λ made. Makes raws.now made) }
+    ensures uid { (line : Line) → first_uid reading.version raws.now ≡ Some line
+        → IfOk result (λ made. found_uid made.lines ≡ Some line) }
+    ensures members { IfOk result (λ made. has_stray_members made.lines ≡ false) }
+    ensures whole { reading.leaves_out ≡ false → IfOk result (λ made.
+        has_left_out made.changes ≡ false) }
+    ensures unjoined { reading.joins ≡ false → IfOk result (λ made.
+        has_joined made.changes ≡ false) }
+{
+    let made = read_lines(alloc, raws, reading, true, name, labels)?;
+    if !has_stray_members(made.lines.as_slice()) {
+        return Ok(made);
+    }
+    read_lines(alloc, raws, reading, false, name, labels)
+}
+
+/// The same. The name that an empty FN gets is known only when all lines are read, so a card that
+/// has no other FN is read again.
+fn lines_with_name(
+    alloc: Global,
+    raws: &[RawLine],
+    reading: Reading,
+    labels: &[Labelling],
+) -> Result<CardLines, NoMemory>
+    ensures makes { IfOk result (λ made. Makes raws.now made) }
+    ensures uid { (line : Line) → first_uid reading.version raws.now ≡ Some line
+        → IfOk result (λ made. found_uid made.lines ≡ Some line) }
+    ensures members { IfOk result (λ made. has_stray_members made.lines ≡ false) }
+    ensures whole { reading.leaves_out ≡ false → IfOk result (λ made.
+        has_left_out made.changes ≡ false) }
+    ensures unjoined { reading.joins ≡ false → IfOk result (λ made.
+        has_joined made.changes ≡ false) }
+{
+    let made = lines_named(alloc, raws, reading, "", labels)?;
+    let name = name_for_empty(alloc, made.lines.as_slice())?;
+    if name.is_empty() {
+        return Ok(made);
+    }
+    lines_named(alloc, raws, reading, name.as_str(), labels)
+}
+
+/// How the logical lines of a card are read.
+fn reading_of(version: Version, leaves_out: bool, joins: bool) -> Reading
+    ensures version { result.version ≡ version }
+    ensures leaves_out { result.leaves_out ≡ leaves_out }
+    ensures joins { result.joins ≡ joins }
+{
+    Reading {
+        version,
+        takes_uid: true,
+        keeps_members: true,
+        leaves_out,
+        joins,
+    }
+}
+
+/// The same. If an address can't have its label, no label is joined.
 pub(crate) fn lines_of_card(
     alloc: Global,
     raws: &[RawLine],
     version: Version,
+    leaves_out: bool,
 ) -> Result<CardLines, NoMemory>
     ensures makes { IfOk result (λ made. Makes raws.now made) }
     ensures uid { (line : Line) → first_uid version raws.now ≡ Some line
         → IfOk result (λ made. found_uid made.lines ≡ Some line) }
     ensures members { IfOk result (λ made. has_stray_members made.lines ≡ false) }
+    ensures whole { leaves_out ≡ false → IfOk result (λ made.
+        has_left_out made.changes ≡ false) }
+    ensures labels { IfOk result (λ made. HaveAddresses made.changes) }
 {
-    let made = read_lines(alloc, raws, version, true)?;
-    if !has_stray_members(made.lines.as_slice()) {
+    let labels = labels_of(alloc, raws, version)?;
+    let joining = reading_of(version, leaves_out, true);
+    let made = lines_with_name(alloc, raws, joining, labels.as_slice())?;
+    if have_addresses(made.changes.as_slice()) {
         return Ok(made);
     }
-    read_lines(alloc, raws, version, false)
+    lines_with_name(alloc, raws, reading_of(version, leaves_out, false), &[])
 }

@@ -4,10 +4,17 @@
 
 mod card_lines;
 mod change;
+mod charsets;
 mod conversion;
 mod delimiters;
+mod fault;
+mod faultless;
 mod first_uid;
+mod folds;
+mod joined;
+mod labels;
 pub mod laws;
+mod left_out;
 mod missing_lines;
 mod parsed_name;
 mod rules;
@@ -16,5 +23,6 @@ mod version;
 
 pub use change::Change;
 pub use conversion::{Conversion, convert_card};
+pub use fault::ImportFault;
 pub use uid::derived_uid;
 pub use vcard_property::ChangeKind;

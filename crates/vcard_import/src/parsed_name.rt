@@ -61,15 +61,43 @@ fn name_from(alloc: Global, lines: &[Line], source: &str) -> Result<Option<Strin
     Ok(None)
 }
 
-/// The formatted name of a card without FN, as a value: from N, or else from NICKNAME, ORG, EMAIL
-/// or TEL. It is empty if none of them gives one.
-pub(crate) fn name_value(alloc: Global, lines: &[Line]) -> Result<String, NoMemory>
-    ensures { IfOk result (λ name. AllInClass is_permitted (string_bytes name)) }
-{
+/// The formatted name of a card without FN: from N, or else from NICKNAME, ORG, EMAIL or TEL. It is
+/// empty if none of them gives one.
+fn name_of_lines(alloc: Global, lines: &[Line]) -> Result<String, NoMemory> {
     for source in ["N", "NICKNAME", "ORG", "EMAIL", "TEL"] {
         if let Some(name) = name_from(alloc, lines, source)? {
-            return text_value(alloc, name.as_str());
+            return Ok(name);
         }
     }
     Ok(String::new(alloc))
+}
+
+/// The same as a value.
+pub(crate) fn name_value(alloc: Global, lines: &[Line]) -> Result<String, NoMemory>
+    ensures { IfOk result (λ name. AllInClass is_permitted (string_bytes name)) }
+{
+    let name = name_of_lines(alloc, lines)?;
+    text_value(alloc, name.as_str())
+}
+
+/// Whether the line is an FN that has no name.
+pub(crate) fn is_empty_name(line: &Line) -> bool {
+    line.name.as_str() == "FN" && line.value.as_str().trim().is_empty()
+}
+
+/// The formatted name for the empty FN lines of a card, if it has no other FN. Empty if it needs
+/// none.
+pub(crate) fn name_for_empty(alloc: Global, lines: &[Line]) -> Result<String, NoMemory> {
+    let mut has_empty = false;
+    for line in lines {
+        if is_empty_name(line) {
+            has_empty = true;
+        } else if line.name.as_str() == "FN" {
+            return Ok(String::new(alloc));
+        }
+    }
+    if !has_empty {
+        return Ok(String::new(alloc));
+    }
+    name_of_lines(alloc, lines)
 }

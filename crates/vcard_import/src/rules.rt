@@ -27,6 +27,10 @@ pub(crate) struct Reading {
     pub(crate) takes_uid: bool,
     /// Whether the card may have MEMBER lines, since it is a group.
     pub(crate) keeps_members: bool,
+    /// Whether pictures and sounds are left out, since the card would be too long with them.
+    pub(crate) leaves_out: bool,
+    /// Whether labels are joined to their addresses.
+    pub(crate) joins: bool,
 }
 
 pub(crate) fn is_named(line: &Line, name: &str) -> bool

@@ -1,20 +1,10 @@
 //! The version that a card says it is written in.
 ghost use Rattle.std.specs.Prelude.{◌≡◌, option_map};
 ghost use Rattle.vcard_import.specs.Versions.{version_line, version_by, version_of_line};
-ghost use Rattle.vcard_import.specs.Versions.{version_of, folding_of};
+ghost use Rattle.vcard_import.specs.Versions.{version_of};
 
-use import_text::{Folding, begins_with_word};
+use import_text::begins_with_word;
 use vcard_property::Version;
-
-/// How the version's lines are folded.
-pub(crate) fn folding_of(version: Version) -> Folding
-    ensures { result ≡ folding_of version }
-{
-    match version {
-        Version::Old => Folding::KeepsSpace,
-        Version::Third | Version::Fourth => Folding::DropsSpace,
-    }
-}
 
 /// The first physical line that begins with VERSION:, in any case.
 fn version_line(octets: &[u8]) -> Option<&[u8]>

@@ -1,4 +1,5 @@
 pub mod Kinds
+pub mod Labels
 pub mod Lines
 pub mod SameLines
 pub mod internal

@@ -3,10 +3,11 @@
 use Rattle.std.specs.Prelude.{ℕ, ◌≡◌, Bool, true, ◌&&◌, ◌||◌, ◌==◌, not, List, codes, Option, Some}
 use Rattle.std.specs.Prelude.{None, Result, Ok, Err, if◌then◌else◌}
 use Rattle.std.specs.List.{list_any}
-use Rattle.std.specs.Str.{IsUtf8, is_utf8}
+use Rattle.std.specs.Str.{IsUtf8, is_utf8, str_eq_ignore_ascii_case}
 use Rattle.base_types.specs.Octets.{comma, backslash}
 use Rattle.vcard_lines.specs.declared.fault.CardFault.{CardFault}
 use Rattle.vcard_lines.specs.declared.line.Line.{Line}
+use Rattle.vcard_lines.specs.declared.line.Param.{Param}
 use Rattle.vcard_lines.specs.Parsing.{parse_line}
 use Rattle.vcard_text.specs.Cards.{line_is_named, is_uid}
 use Rattle.vcard_text.specs.Spelling.{has_no_params}
@@ -33,11 +34,20 @@ abbrev pub is_same_in_all : Line → Bool
 is_same_in_all line =
     has_no_params line.params && not (has_octet backslash line.value) && is_plain_text line
 
+-- the parameter is ENCODING, in any case
+abbrev pub is_encoding : Param → Bool
+is_encoding param = str_eq_ignore_ascii_case param.name (codes "ENCODING")
+
+-- The line says how its value is encoded, as no line of vCard 4.0 does: a binary value is a URI
+-- there (RFC 6350, section 6.2.4), and any other is a text.
+abbrev pub has_encoding : Line → Bool
+has_encoding line = list_any is_encoding line.params
+
 -- the version writes the line as vCard 4.0 does
 abbrev pub is_same_in : Version → Line → Bool
 is_same_in Old line = is_same_in_all line
 is_same_in Third line = is_same_in_all line
-is_same_in Fourth line = true
+is_same_in Fourth line = not (has_encoding line)
 
 -- the line that was read, if it passes the test
 abbrev pub line_if : (Line → Bool) → Result Line CardFault → Option Line

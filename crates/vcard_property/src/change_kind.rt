@@ -17,6 +17,12 @@ pub enum ChangeKind {
     Unreadable,
     /// It wasn't in the card and was added.
     Added,
+    /// It is a label, and became a parameter of the line of its address.
+    Joined,
+    /// It is left out: a photo or the like, with which the card would be too long.
+    LeftOut,
+    /// It is an address, and got the label that another line gives.
+    Labelled,
 }
 
 impl fmt::Display for ChangeKind {
@@ -27,6 +33,9 @@ impl fmt::Display for ChangeKind {
             ChangeKind::KeptAside => "kept aside",
             ChangeKind::Unreadable => "unreadable",
             ChangeKind::Added => "added",
+            ChangeKind::Joined => "joined to its ADR",
+            ChangeKind::LeftOut => "left out",
+            ChangeKind::Labelled => "given a LABEL",
         })
     }
 }

@@ -1,10 +1,13 @@
 //! Decodes the value of a property: quoted-printable, base64 of a text, and what CHARSET names.
+ghost use Rattle.std.specs.Prelude.{◌≡◌, true, codes, IfOk, IfSome};
+ghost use Rattle.import_text.specs.RawLines.{is_encoded_as};
 
 use crate::binary::decoded_base64;
 use crate::head::after_head;
 use crate::names::is_binary_name;
-use crate::property::{CharsetParam, Encoding, Property};
-use import_text::{read_charset, read_quoted_printable, read_text};
+use crate::property::{CharsetParam, Encoding, Property, read_property};
+use crate::version::Version;
+use import_text::{is_encoded_as, read_charset, read_quoted_printable, read_text};
 use std::alloc::Global;
 use vcard_text::{NoMemory, Text};
 
@@ -79,4 +82,61 @@ pub(crate) fn decode(alloc: Global, property: &mut Property, line: &[u8]) -> Res
         property.encoding = Encoding::Plain;
     }
     Ok(())
+}
+
+/// Whether each of the octets is a character in any character set: one of ASCII, but for the
+/// escape, which begins other characters in ISO/IEC 2022.
+fn are_plain(octets: &[u8]) -> bool {
+    octets.iter().all(|octet| *octet < 128 && *octet != 0x1B)
+}
+
+/// Whether the value of a property of a character set that isn't known has an octet that depends on
+/// the set.
+fn depends_on_charset(alloc: Global, property: &Property, octets: &[u8]) -> Result<bool, NoMemory> {
+    match property.encoding {
+        Encoding::Plain => Ok(!are_plain(octets)),
+        Encoding::QuotedPrintable => {
+            let octets = read_quoted_printable(alloc, octets)?;
+            Ok(!are_plain(octets.as_slice()))
+        }
+        Encoding::Base64 => Ok(false),
+    }
+}
+
+/// The name of a character set in a parameter that keeps it.
+fn charset_name(alloc: Global, property: &Property) -> Result<Text, NoMemory> {
+    for param in property.params.as_slice() {
+        if param.name.as_str() == "X-CHARSET" {
+            if let Some(value) = param.values.as_slice().first() {
+                return value.text.try_copy();
+            }
+        }
+    }
+    Ok(Text::new(String::new(alloc)))
+}
+
+/// The name of the character set of a line, if it isn't known and the text of the value depends on
+/// it. The only `Err` is out of memory.
+pub fn unknown_charset(
+    alloc: Global,
+    line: &[u8],
+    version: Version,
+) -> Result<Option<Text>, NoMemory>
+    // The head of the line has the word CHARSET.
+    ensures { IfOk result (λ found. IfSome found (λ _.
+        is_encoded_as (codes "CHARSET") line.now ≡ true)) }
+{
+    if !is_encoded_as(line, b"CHARSET") {
+        return Ok(None);
+    }
+    let text = read_text(alloc, line)?;
+    let Some(property) = read_property(alloc, text.as_str(), version)? else {
+        return Ok(None);
+    };
+    if !matches!(property.charset, CharsetParam::Unknown)
+        || !depends_on_charset(alloc, &property, after_head(line))?
+    {
+        return Ok(None);
+    }
+    Ok(Some(charset_name(alloc, &property)?))
 }

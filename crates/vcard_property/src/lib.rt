@@ -11,6 +11,7 @@ mod escapes;
 mod geo;
 mod head;
 mod kept_texts;
+mod labels;
 mod line_parts;
 mod names;
 mod omitted_year;
@@ -23,7 +24,9 @@ mod version;
 
 pub use change_kind::ChangeKind;
 pub use conversion::convert_line;
+pub use decoding::unknown_charset;
 pub use kept_texts::{text_line, text_value};
+pub use labels::{AddressLine, AddressTypes, read_address, with_label};
 pub use proper_line::{aside_line, is_proper_line, plain_line, with_upper_name};
-pub use same_line::{are_line, read_uid_line};
+pub use same_line::{are_line, has_encoding, read_uid_line};
 pub use version::Version;

@@ -181,14 +181,18 @@ fn binary_line(alloc: Global, property: Property, octets: &[u8]) -> Result<Line,
 }
 
 /// The text of a label, as the value of a parameter.
-fn label_text(alloc: Global, property: &Property, version: Version) -> Result<String, NoMemory> {
+pub(crate) fn label_text(
+    alloc: Global,
+    property: &Property,
+    version: Version,
+) -> Result<String, NoMemory> {
     let value = text_value(alloc, property, version)?;
     let text = unescape(alloc, value.as_str())?;
     with_carets(alloc, text.as_str())
 }
 
 /// The parameter LABEL with the text.
-fn label_param(alloc: Global, text: &str) -> Result<Param, NoMemory> {
+pub(crate) fn label_param(alloc: Global, text: &str) -> Result<Param, NoMemory> {
     let mut values = Items::new(alloc);
     values.push(make_value(alloc, text, true)?)?;
     let name = Text::copy_of(alloc, "LABEL")?;

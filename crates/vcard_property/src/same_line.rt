@@ -1,5 +1,6 @@
 //! Lines that stay as they are, since each version of vCard writes them so.
 ghost use Rattle.std.specs.Prelude.{◌≡◌, ◌↔◌, IfOk, IfSome, IsTrue};
+ghost use Rattle.vcard_property.specs.SameLines.{has_encoding, is_encoding};
 ghost use Rattle.vcard_text.specs.Cards.{IsProperLine, line_is_named, is_uid};
 ghost use Rattle.vcard_text.specs.Spelling.{has_no_params};
 ghost use Rattle.vcard_property.specs.Lines.{IsUidLine};
@@ -9,7 +10,7 @@ ghost use Rattle.vcard_property.specs.SameLines.{is_same_in_all, is_same_in, sam
 use crate::version::Version;
 use std::alloc::Global;
 use vcard_lines::read_line;
-use vcard_text::{CardFault, Line, NoMemory, Part, UID_OCTETS_MAX};
+use vcard_text::{CardFault, Line, NoMemory, Param, Part, UID_OCTETS_MAX};
 
 fn has_octet(value: &str, octet: u8) -> bool
     ensures { result ≡ has_octet octet value.now }
@@ -17,7 +18,8 @@ fn has_octet(value: &str, octet: u8) -> bool
     value.as_bytes().iter().any(|other| *other == octet)
 }
 
-fn is_named(line: &Line, name: &str) -> bool
+/// Whether the line has the name.
+pub(crate) fn is_named(line: &Line, name: &str) -> bool
     ensures { result ≡ line_is_named name.now line.now }
 {
     line.name.as_str() == name
@@ -53,13 +55,27 @@ fn is_same_in_all(line: &Line) -> bool
     has_no_params(line) && !has_octet(line.value.as_str(), b'\\') && is_plain_text(line)
 }
 
+/// Whether the parameter is ENCODING.
+fn is_encoding(param: &Param) -> bool
+    ensures { result ≡ is_encoding param.now }
+{
+    param.name.as_str().eq_ignore_ascii_case("ENCODING")
+}
+
+/// Whether the line has the parameter ENCODING, which vCard 4.0 doesn't have.
+pub fn has_encoding(line: &Line) -> bool
+    ensures { result ≡ has_encoding line.now }
+{
+    line.params.as_slice().iter().any(is_encoding)
+}
+
 /// Whether the version writes the line as vCard 4.0 does.
 fn is_same_in(version: Version, line: &Line) -> bool
     ensures { result ≡ is_same_in version line.now }
 {
     match version {
         Version::Old | Version::Third => is_same_in_all(line),
-        Version::Fourth => true,
+        Version::Fourth => !has_encoding(line),
     }
 }
 

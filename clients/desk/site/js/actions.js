@@ -253,12 +253,14 @@ export class Actions {
   async book(name) {
     const { desk, files } = this;
     const book = await desk.store.book(name);
+    const last = await desk.intake.last();
     return showBook(book, {
       cards: desk.shelf.count(name),
       tally: () => this.api.tally(name).catch((fault) => { throw words(fault); }),
       update: () => desk.follow(name),
       tryChanges: book.rights === "read" ? () => desk.setRights(name, "") : null,
       import: book.rights === "read" ? null : () => files.import(name),
+      last: last?.book === name ? () => desk.intake.show(last) : null,
       exportCards: () => files.exportRows(name, "cards"),
       exportColumns: () => files.exportRows(name, "columns"),
       exportVcf: () => files.exportCopy(name),

@@ -15,6 +15,9 @@ export class Fault extends Error {
     this.cause = body.cause ?? 0;
     this.row = body.row ?? 0;
     this.has = body.has ?? 0;
+    // Of a file that isn't converted: why, and what to say of its columns to begin with.
+    this.text = body.text ?? "";
+    this.columns = body.columns ?? "";
   }
 
   /** Whether the same request may succeed later. */
@@ -30,20 +33,30 @@ export class Fault extends Error {
   is(fault) {
     return this.from === "server" && this.fault === fault;
   }
+
+  /** Whether there is nothing at this address, as on an older server or behind its front. */
+  get isMissing() {
+    return this.status === 404 || this.status === 405;
+  }
 }
 
 export class Api {
-  /** `base` is the address of the books, as "/books". */
-  constructor(base, fetcher = (...all) => fetch(...all)) {
+  /** `base` is the address of the books, as "/books", and `convert` that of the conversion. */
+  constructor(base, convert = "", fetcher = (...all) => fetch(...all)) {
     this.base = base;
+    this.convertAt = convert;
     this.fetcher = fetcher;
   }
 
-  async ask(method, path, body) {
+  ask(method, path, body) {
+    return this.askAt(this.base + path, method, body);
+  }
+
+  async askAt(address, method, body) {
     let reply;
     let text;
     try {
-      reply = await this.fetcher(this.base + path, {
+      reply = await this.fetcher(address, {
         method,
         body,
         cache: "no-store",
@@ -113,6 +126,11 @@ export class Api {
 
   exportRows(book, form) {
     return this.ask("GET", `/${part(book)}/export?${new URLSearchParams({ form })}`);
+  }
+
+  /** What a piece of a file becomes; it changes nothing on the server. */
+  convert(query, body) {
+    return this.askAt(`${this.convertAt}?${new URLSearchParams(query)}`, "POST", body);
   }
 }
 

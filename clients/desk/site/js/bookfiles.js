@@ -10,6 +10,7 @@ export class BookFiles {
   constructor(desk, actions) {
     this.desk = desk;
     this.actions = actions;
+    this.isOld = false; // the server doesn't convert files
   }
 
   saved(file, type, text) {
@@ -35,18 +36,32 @@ export class BookFiles {
     this.saved(`${name}.vcf`, "text/vcard", cards.map((it) => it.text).join(""));
   }
 
-  /** A file was dropped on the page: it goes into the chosen book, or the user says which. */
+  /** Files were dropped on the page: they go into the chosen book, or the user says which. */
   async dropped(files) {
     const { desk } = this;
+    if (desk.intake.dropped) desk.intake.dropped([...files]);
     if (document.querySelector("dialog[open]")) return;
     const books = desk.books.filter((it) => it.rights !== "read").map((it) => it.name);
-    const name = books.includes(desk.chosen) && !desk.filter
-      ? desk.chosen
+    const [one] = books.length === 1 ? books : [desk.chosen];
+    const name = books.includes(one) && (books.length === 1 || !desk.filter)
+      ? one
       : await ask(t("dropTitle"), [], [...books.map((it) => [it, it]), [t("cancel"), null]]);
     if (name) await this.import(name, files);
   }
 
-  import(name, files = null) {
+  /** Files for a book: as the server converts them, or where it doesn't, as they are. */
+  async import(name, files = null) {
+    if (this.isOld) {
+      await this.importAsIs(name, files);
+      return;
+    }
+    const answer = await this.desk.intake.open(name, files);
+    if (answer?.older === undefined) return;
+    this.isOld = true;
+    await this.importAsIs(name, answer.older);
+  }
+
+  importAsIs(name, files = null) {
     // The key is of the file: if no reply comes, the same import is sent again under the same key.
     let key = newKey();
     const read = (fileName, bytes) => {
@@ -70,7 +85,7 @@ export class BookFiles {
         return [el("p", { class: "error" }, text), fault.isPassing];
       }
     };
-    return askFile(name, { read, send }, files);
+    return askFile(name, { read, send }, files, t("importOld"));
   }
 
   /** A file that was chosen, and what is said of it. */

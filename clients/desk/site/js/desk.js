@@ -7,8 +7,11 @@ import { Duplicates } from "./duplicates.js";
 import { Faces } from "./faces.js";
 import { Frame } from "./frame.js";
 import { History } from "./history.js";
+import { Intake } from "./intake.js";
 import { pageKey } from "./keys.js";
-import { bookOf, emptied, emptySign, emptyWays, emptyWords, titleOf } from "./listing.js";
+import {
+  bookOf, emptied, emptyHint, emptySign, emptyWays, emptyWords, titleOf,
+} from "./listing.js";
 import { Lists } from "./lists.js";
 import { Memory } from "./memory.js";
 import { Outbox } from "./outbox.js";
@@ -18,6 +21,7 @@ import { askNext, closeAnswered, showWaiting } from "./questions.js";
 import { keyOf, Shelf } from "./shelf.js";
 import { Follower } from "./sync.js";
 import { t } from "./say.js";
+import { takeDrops } from "./drops.js";
 import { language } from "./texts.js";
 import { Trash } from "./trash.js";
 import { Letters } from "./views/letters.js";
@@ -33,10 +37,11 @@ export class Desk {
     this.trash = new Trash(store.db);
     // From the origin, as the page's own address may have a name and a password in it.
     const at = (name) => location.origin + document.querySelector(`meta[name=${name}]`).content;
-    this.api = new Api(at("books"));
+    this.api = new Api(at("books"), at("convert"));
     this.memory = new Memory(at("versions"), (books) => store.keepSetting("served", books));
     this.shelf = new Shelf(language);
     this.frame = new Frame();
+    this.intake = new Intake(this);
     this.actions = new Actions(this);
     this.history = new History(this);
     this.pane = new Pane(this);
@@ -111,6 +116,7 @@ export class Desk {
     await this.findBooks();
     await this.follow();
     this.trash.clear();
+    this.intake.remind();
   }
 
   /** Asks which books there are. Who may not ask adds books by name. */
@@ -255,7 +261,7 @@ export class Desk {
     this.list.show(rows, { withBooks, keep, isFirst, heads: this.letters.places });
     this.frame.showCount(titleOf(this), rows.length, text !== "");
     if (rows.length) this.frame.showEmpty("", null, []);
-    else this.frame.showEmpty(emptySign(this), emptyWords(this), emptyWays(this));
+    else this.frame.showEmpty(emptySign(this), emptyWords(this), emptyWays(this), emptyHint(this));
   }
 
   draw() {
@@ -442,11 +448,7 @@ export class Desk {
     }
     // That of the window alone: a press takes the focus from some element.
     addEventListener("blur", () => { this.isHeld = false; });
-    addEventListener("dragover", (event) => event.preventDefault());
-    addEventListener("drop", (event) => {
-      event.preventDefault();
-      if (event.dataTransfer.files.length) this.actions.files.dropped(event.dataTransfer.files);
-    });
+    takeDrops((files) => this.actions.files.dropped(files));
     addEventListener("hashchange", () => this.pane.route());
     addEventListener("online", () => this.wake());
     addEventListener("offline", () => this.drawState());

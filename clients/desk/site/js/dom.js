@@ -6,6 +6,7 @@ const ATTRIBUTES = new Set([
   "id", "class", "role", "type", "name", "value", "for", "title", "lang", "dir", "rows", "tabindex",
   "placeholder", "autocomplete", "spellcheck", "inputmode", "accept", "maxlength", "download",
   "alt", "rel", "target", "max", "enterkeyhint", "autocapitalize", "scope", "colspan",
+  "label",
 ]);
 const STATES = new Set([
   "disabled", "checked", "required", "hidden", "open", "selected", "multiple",

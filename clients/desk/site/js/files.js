@@ -112,6 +112,13 @@ export function records(text) {
   return all;
 }
 
+/** Files as a field for files has them. */
+export function listOf(files) {
+  const data = new DataTransfer();
+  for (const it of files) data.items.add(it);
+  return data.files;
+}
+
 /** Gives the user a file to keep. */
 export function saveFile(name, type, text) {
   const url = URL.createObjectURL(new Blob([text], { type }));

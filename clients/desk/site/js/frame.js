@@ -114,16 +114,18 @@ export class Frame {
 
   /**
    * In place of an empty list: a drawing, `words`, and `ways` to go on, `[text, run, kind]` each.
-   * If `words` is null, the list has cards.
+   * If `words` is null, the list has cards. `hint` is said below the words.
    */
-  showEmpty(sign, words, ways) {
+  showEmpty(sign, words, ways, hint = "") {
     const empty = by("empty");
     empty.hidden = words === null;
-    const drawn = JSON.stringify([words, by("list-title").textContent, ways.map((it) => it[0])]);
+    const texts = ways.map((it) => it[0]);
+    const drawn = JSON.stringify([words, hint, by("list-title").textContent, texts]);
     if (words === null || drawn === this.emptyDrawn) return;
     this.emptyDrawn = drawn;
-    fill(empty, icon(sign), el("p", {}, words), ways.length > 0 && el("div", { class: "bar" },
-      ways.map(([text, run, kind]) => button(text, run, { class: kind ?? null }))));
+    const buttons = ways.map(([text, run, kind]) => button(text, run, { class: kind ?? null }));
+    fill(empty, icon(sign), el("p", {}, words), hint && el("p", { class: "hint" }, hint),
+      buttons.length > 0 && el("div", { class: "bar" }, buttons));
   }
 
   /** How a book is followed. `books` are the records of the copy. */

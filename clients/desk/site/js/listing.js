@@ -79,6 +79,12 @@ export function emptyWords(desk) {
   return t(desk.filter ? WORDS[desk.filter.kind] : "emptyBook");
 }
 
+/** More words there: what an empty book takes. */
+export function emptyHint(desk) {
+  const isEmpty = !isSearch(desk) && !desk.filter && desk.books.length && isWhole(desk);
+  return isEmpty && emptyWays(desk).length ? t("emptyBookHint") : "";
+}
+
 /** What can be done there: `[text, run, kind]` each. */
 export function emptyWays(desk) {
   const { books, chosen, filter } = desk;
@@ -90,7 +96,7 @@ export function emptyWays(desk) {
   const book = chosen || (books.length === 1 ? books[0].name : "");
   if (filter || !isWhole(desk) || !desk.mayChange(book)) return [];
   return [
-    [t("newCard"), () => desk.pane.newCard(), "main"],
-    [t("importFiles"), () => desk.actions.files.import(book)],
+    [t("importFiles"), () => desk.actions.files.import(book), "main"],
+    [t("newCard"), () => desk.pane.newCard()],
   ];
 }

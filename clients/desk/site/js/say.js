@@ -81,18 +81,23 @@ export function faultText(fault) {
     const known = TEXTS[`fault${fault.status}`];
     return known ?? t("faultFront", { status: fault.status });
   }
+  if (fault.text) return fault.text; // the server's own words, as of a file
   const known = fault.fault === "bad-card"
     ? TEXTS.badCard[fault.cause]
     : TEXTS.faults[fault.fault];
   return known ?? t("faultOther", { fault: fault.fault });
 }
 
+/** What is wrong with a row of an import, in words. */
+export function rowFaultText({ cause, fault }) {
+  return (cause > 20 && cause < 40 ? TEXTS.badCard[cause - 20] : TEXTS.badRow[cause]) ?? fault;
+}
+
 /** The first fault of an import in words; `names` has the name of each row of the file. */
 export function importFaultText(fault, { names, form }) {
-  const { row, cause } = fault;
-  const why = cause > 20 && cause < 40 ? TEXTS.badCard[cause - 20] : TEXTS.badRow[cause];
+  const { row } = fault;
   const name = names[row - 1]?.slice(0, 80);
   const kind = form === "vcf" ? "importCard" : "importRow";
   const place = row === 0 ? t("importHeader") : t(name ? `${kind}Named` : kind, { row, name });
-  return t("importBadRow", { place, why: why ?? fault.fault });
+  return t("importBadRow", { place, why: rowFaultText(fault) });
 }

@@ -2,9 +2,13 @@
 // the names on the left, {words in braces} and the shape of the lists as they are. A text with a
 // number has a form for each plural of the language (Intl.PluralRules): here "one" and "other".
 
+import { IMPORT_COUNTS, IMPORT_TEXTS } from "./importtexts.js";
+
 export const language = "en";
 
 export const TEXTS = {
+  ...IMPORT_TEXTS,
+
   // The page
   title: "Contacts",
   skip: "Go to the search",
@@ -363,31 +367,6 @@ export const TEXTS = {
   tally_remembered: "Cards that are gone, and are still remembered",
   tally_horizon: "Number of the last change up to which gone cards are forgotten",
 
-  // Files
-  importTitle: "Import into {book}",
-  importText:
-    "All cards are imported, or none. You can choose a CSV file, or one or more files of vCards " +
-    "(.vcf).",
-  dropTitle: "Which book shall this file go into?",
-  importFile: "File",
-  importNow: "Import",
-  importing: "Importing…",
-  importReplaces: "A row of columns replaces the whole card: what the columns don’t have is lost.",
-  importBadRow: "{place}: {why} Nothing was imported.",
-  importHeader: "The first line of the file",
-  importRow: "Row {row}",
-  importCard: "Card {row}",
-  importRowNamed: "Row {row} ({name})",
-  importCardNamed: "Card {row} ({name})",
-  fileNotUtf8: "The file isn’t in UTF-8. Save it again as UTF-8.",
-  fileTooLarge: "The file is too large: at most 8 MB can be imported at once. Cut it into several.",
-  fileWithoutCards: "There is no card in this file.",
-  fileSeveral: "Several files are imported together only if all of them are vCards (.vcf).",
-  fileSemicolons:
-    "The columns of this file are separated by semicolons. Save it again with commas: {header}",
-  fileHeader: "The first line of a CSV file has to be exactly: {header}",
-  exported: "Saved: {file}",
-
   // Why something was refused
   faultNone:
     "No reply came from the server. Your change may have been made; it is safe to try again.",
@@ -482,12 +461,5 @@ export const COUNTS = {
     one: "{n} more detail, and the card as it is stored",
     other: "{n} more details, and the card as it is stored",
   },
-  importReady: { one: "{n} card to import.", other: "{n} cards to import." },
-  importKnown: {
-    one: "{n} of them is in the book already.",
-    other: "{n} of them are in the book already.",
-  },
-  importNew: { one: "{n} new card", other: "{n} new cards" },
-  importEdited: { one: "{n} changed", other: "{n} changed" },
-  importSame: { one: "{n} as it was", other: "{n} as they were" },
+  ...IMPORT_COUNTS,
 };

@@ -16,11 +16,11 @@ use Rattle.contact_csv.specs.Contacts.{Becomes, IsReady, columns_of, rows_of}
 use Rattle.contact_columns.specs.declared.columns.Column.{Column}
 use Rattle.contact_csv.specs.declared.rows.ContactReader.{ContactReader}
 use Rattle.card_conversion.specs.declared.contacts.fate.RowFate.{RowFate}
-use Rattle.card_conversion.specs.declared.contacts.fate.RowFate.TheVariants.{Refused, Repeated}
+use Rattle.card_conversion.specs.declared.contacts.fate.RowFate.TheVariants.{Refused, Repeated, Taken}
 use Rattle.card_conversion.specs.declared.contacts.fate.RowFate.TheVariants.{Declined, Written}
 use Rattle.card_conversion.specs.ContactAccounts.{ReadsInTurn}
 use Rattle.card_conversion.specs.ContactFates.{RowEntry, HaveFates, cards_of, cards_of_fate}
-use Rattle.card_conversion.specs.ContactFates.{summary_of, uids_of, uids_of_fate}
+use Rattle.card_conversion.specs.ContactFates.{summary_after, uids_of, uids_of_fate}
 
 -- What reading the next row did to the reader.
 abbrev pub ReadsRow : {R : Type 0} → (R → Option (List ℕ)) → ContactReader R → ContactReader R
@@ -36,6 +36,8 @@ abbrev pub IsFateOf : List (List ℕ) → Result Conversion RowFault → RowFate
 IsFateOf uids row (Refused fault) = row ≡ Err fault
 IsFateOf uids row (Repeated made) =
     (row ≡ Ok made) × IsCard made.card × Contains uids (uid_of made.card)
+IsFateOf uids row (Taken made) =
+    (row ≡ Ok made) × IsCard made.card × Contains uids (uid_of made.card)
 IsFateOf uids row (Declined made words) =
     (row ≡ Ok made) × IsCard made.card × (Contains uids (uid_of made.card) → ⊥)
 IsFateOf uids row (Written made) =
@@ -50,16 +52,18 @@ TakesRow writes row map_before map_after before after fate =
     → IsFateOf uids row fate × HasUids map_after (uids ++ uids_of_fate fate)
     × WritesInTurn writes (cards_of_fate fate) before after
 
--- Rows were read; each has its fate, and the cards among them are written in order.
+-- Rows were read, after cards with these UIDs and these numbers. Each has its fate, and the cards
+-- among them are written in order.
 pub record Progress {A R : Type 0} (writes : List Line → A → A → Type 0)
-    (remaining : R → Option (List ℕ)) (columns : List Column) (first : Reader R) (before now : A)
+    (remaining : R → Option (List ℕ)) (columns : List Column) (first : Reader R)
+    (uids : List (List ℕ)) (start : Summary) (before now : A)
     (reader : ContactReader R) (map : finite.FinMap text_cmp (Unit {0})) (summary : Summary)
     : Type 0 where
   pub entries : List RowEntry
   pub read : ReadsInTurn remaining entries first (rows_of reader)
   pub ready : IsReady reader
   pub same_columns : columns_of reader ≡ columns
-  pub fates : HaveFates columns [] entries
-  pub known : HasUids map (uids_of entries)
+  pub fates : HaveFates columns uids entries
+  pub known : HasUids map (uids ++ uids_of entries)
   pub written : WritesInTurn writes (cards_of entries) before now
-  pub counts : summary ≡ summary_of entries
+  pub counts : summary ≡ summary_after start entries

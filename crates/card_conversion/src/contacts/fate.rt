@@ -11,6 +11,8 @@ pub(crate) enum RowFate {
     Refused(RowFault),
     /// Its card has the UID of an earlier one, as that of a row with the same cells has.
     Repeated(Conversion),
+    /// Its card has the UID of a card of an earlier file, which is another card.
+    Taken(Conversion),
     /// The outlet can't take its card, for a reason in words.
     Declined(Conversion, Text),
     /// Its card was written.

@@ -1,10 +1,16 @@
-//! The lines of the report: one for each cell that its card holds in another form, and one for each
-//! row that isn't carried.
+//! The lines of the report: one for each row with a cell that no property holds, and one for each
+//! row that isn't carried; and for the file of the report one for each cell.
 
+use crate::contacts::broken_lines::BrokenLines;
 use crate::contacts::fate::RowFate;
+use crate::fault::ConversionFault;
+use crate::form_changes::FormKind;
+use crate::parts::{Parts, lost_words};
+use crate::reporting::{Report, Weight};
 use base_types::NoMemory;
 use contact_csv::{Column, RowFault};
 use std::alloc::Global;
+use std::io::Write;
 use vcard_import::{Change, ChangeKind, Conversion};
 use vcard_text::Line;
 
@@ -68,78 +74,202 @@ fn change_words(alloc: Global, aside: &mut &[Line], change: &Change) -> Result<S
     Ok(format!(in alloc; "{kind}")?)
 }
 
-/// The lines for the changes of a row's card.
-fn changes_report(
+/// The line for a row, with these words.
+fn row_line(alloc: Global, place: RowPlace, words: &str) -> Result<String, NoMemory> {
+    let RowPlace { row, line } = place;
+    Ok(format!(in alloc; "row {row}, line {line}: {words}")?)
+}
+
+/// Whether the change is one of form: the cell is written as vCard 4.0 writes it.
+fn is_form(change: &Change) -> bool {
+    change.kind == ChangeKind::Rewritten
+}
+
+/// Reports one cell: a change of form is counted, and one of content is a part of the row's line.
+fn report_cell<E: Write, T: Write>(
+    alloc: Global,
+    place: RowPlace,
+    name: &str,
+    words: &str,
+    is_form: bool,
+    parts: &mut Parts,
+    report: &mut Report<E, T>,
+) -> Result<(), ConversionFault> {
+    let text = format!(in alloc; "the cell of {name} {words}")?;
+    report.list_line(alloc, row_line(alloc, place, text.as_str())?.as_str())?;
+    if is_form {
+        report.count(alloc, FormKind::Cell, name)?;
+    } else {
+        parts.add(Weight::Moved, text.as_str())?;
+    }
+    Ok(())
+}
+
+/// Reports the cells of a row.
+fn report_cells<E: Write, T: Write>(
     alloc: Global,
     place: RowPlace,
     columns: &[Column],
     conversion: &Conversion,
-) -> Result<String, NoMemory> {
-    let RowPlace { row, line } = place;
+    parts: &mut Parts,
+    report: &mut Report<E, T>,
+) -> Result<(), ConversionFault> {
     let mut aside = aside_lines(conversion);
-    let mut report = String::new(alloc);
+    if !aside.is_empty() {
+        report.count_aside();
+    }
     for change in conversion.changes.as_slice() {
         let name = column_name(alloc, columns, change.place)?;
         let words = change_words(alloc, &mut aside, change)?;
-        let text = format!(in alloc; "row {row}, line {line}: the cell of {name} {words}\n")?;
-        report.push_str(text.as_str())?;
+        let is_form = is_form(change);
+        report_cell(
+            alloc,
+            place,
+            name.as_str(),
+            words.as_str(),
+            is_form,
+            parts,
+            report,
+        )?;
     }
-    Ok(report)
+    Ok(())
 }
 
-/// The line for a row that isn't carried, with the reason in words.
-fn refused_report(alloc: Global, place: RowPlace, why: &str) -> Result<String, NoMemory> {
-    let RowPlace { row, line } = place;
-    Ok(format!(in alloc; "row {row}, line {line}: not carried: {why}\n")?)
+/// Reports the card of a row.
+fn report_card<E: Write, T: Write>(
+    alloc: Global,
+    place: RowPlace,
+    columns: &[Column],
+    conversion: &Conversion,
+    report: &mut Report<E, T>,
+) -> Result<(), ConversionFault> {
+    let mut parts = Parts::new(alloc);
+    report_cells(alloc, place, columns, conversion, &mut parts, report)?;
+    if let Some(words) = lost_words(alloc, conversion.card.lines())? {
+        report.list_line(alloc, row_line(alloc, place, words.as_str())?.as_str())?;
+        parts.add(Weight::Lost, words.as_str())?;
+    }
+    if parts.is_empty() {
+        return Ok(());
+    }
+    let text = parts.text(alloc)?;
+    report.tell(
+        alloc,
+        parts.weight,
+        row_line(alloc, place, text.as_str())?.as_str(),
+    )
 }
 
-/// The line for a row that isn't converted. None for one without a value, which is no loss.
-fn fault_report(
+/// Reports a row that isn't carried, with the reason in words.
+fn report_refused<E: Write, T: Write>(
+    alloc: Global,
+    place: RowPlace,
+    why: &str,
+    report: &mut Report<E, T>,
+) -> Result<(), ConversionFault> {
+    let words = format!(in alloc; "not carried: {why}")?;
+    let line = row_line(alloc, place, words.as_str())?;
+    report.tell_all(alloc, Weight::NotCarried, line.as_str())
+}
+
+/// Lists a row of which a broken row before it speaks.
+fn list_refused<E: Write, T: Write>(
+    alloc: Global,
+    place: RowPlace,
+    why: &str,
+    report: &mut Report<E, T>,
+) -> Result<(), ConversionFault> {
+    let words = format!(in alloc; "not carried: {why}")?;
+    report.list_line(alloc, row_line(alloc, place, words.as_str())?.as_str())
+}
+
+/// Why a row of another number of cells isn't carried.
+const OTHER_WIDTH: &str = "the row has more or fewer cells than the header";
+
+/// Why a row isn't carried whose card would be another one under the UID of an earlier card.
+const TAKEN: &str = "an earlier file has another card under the same UID";
+
+/// Why a row with a quote that isn't closed isn't carried.
+const UNCLOSED: &str = "a quote isn't closed in its row";
+
+/// Tells of the lines of a broken row, and of the rows after it that aren't carried either, if
+/// there are some that weren't told.
+pub(crate) fn report_broken<E: Write, T: Write>(
+    alloc: Global,
+    broken: &mut BrokenLines,
+    report: &mut Report<E, T>,
+) -> Result<(), ConversionFault> {
+    let Some((place, lines)) = broken.take() else {
+        return Ok(());
+    };
+    let words = if lines > 1 {
+        format!(in alloc; "not carried: {UNCLOSED}, and {lines} lines are lost with it")?
+    } else {
+        format!(in alloc; "not carried: {UNCLOSED}")?
+    };
+    let line = row_line(alloc, place, words.as_str())?;
+    report.tell(alloc, Weight::NotCarried, line.as_str())
+}
+
+/// Reports a row that isn't converted. One without a value is no loss.
+fn report_fault<E: Write, T: Write>(
     alloc: Global,
     place: RowPlace,
     columns: &[Column],
     fault: &RowFault,
-) -> Result<String, NoMemory> {
+    broken: &mut BrokenLines,
+    report: &mut Report<E, T>,
+) -> Result<(), ConversionFault> {
     match fault {
-        RowFault::Empty => Ok(String::new(alloc)),
-        RowFault::Broken => refused_report(alloc, place, "a quote isn't closed in its row"),
+        RowFault::Empty => Ok(()),
+        RowFault::Broken => {
+            broken.begin(place);
+            list_refused(alloc, place, UNCLOSED, report)
+        }
         RowFault::Nul(at) => {
             let name = column_name(alloc, columns, *at)?;
             let why = format!(in alloc; "the cell of {name} has a NUL")?;
-            refused_report(alloc, place, why.as_str())
+            report_refused(alloc, place, why.as_str(), report)
         }
-        RowFault::Width => {
-            refused_report(
-                alloc,
-                place,
-                "the row has more or fewer cells than the header",
-            )
-        }
+        RowFault::Width if broken.is_open() => list_refused(alloc, place, OTHER_WIDTH, report),
+        RowFault::Width => report_refused(alloc, place, OTHER_WIDTH, report),
         RowFault::Card(fault) => {
             let why = format!(in alloc; "{fault}")?;
-            refused_report(alloc, place, why.as_str())
+            report_refused(alloc, place, why.as_str(), report)
         }
     }
 }
 
-/// The line for a row with the cells of an earlier one.
-fn repeated_report(alloc: Global, place: RowPlace) -> Result<String, NoMemory> {
-    let RowPlace { row, line } = place;
-    Ok(format!(in alloc; "row {row}, line {line}: an earlier row has the same cells\n")?)
+/// Reports a row with the cells of an earlier one.
+fn report_repeated<E: Write, T: Write>(
+    alloc: Global,
+    place: RowPlace,
+    report: &mut Report<E, T>,
+) -> Result<(), ConversionFault> {
+    report.count(alloc, FormKind::SameRow, "")?;
+    let line = row_line(alloc, place, "an earlier row has the same cells")?;
+    report.list_line(alloc, line.as_str())
 }
 
-/// The report of a row: a line for each change of a card that was written, or a line for why the
-/// row isn't carried.
-pub(crate) fn report_text(
+/// Reports what became of a row at the place. A broken row is told with the first row after it that
+/// isn't one of its lines.
+pub(crate) fn report_row<E: Write, T: Write>(
     alloc: Global,
     place: RowPlace,
     columns: &[Column],
     fate: &RowFate,
-) -> Result<String, NoMemory> {
+    broken: &mut BrokenLines,
+    report: &mut Report<E, T>,
+) -> Result<(), ConversionFault> {
+    broken.reach(place.line);
+    if !matches!(fate, RowFate::Refused(RowFault::Width | RowFault::Broken)) {
+        report_broken(alloc, broken, report)?;
+    }
     match fate {
-        RowFate::Refused(fault) => fault_report(alloc, place, columns, fault),
-        RowFate::Repeated(_) => repeated_report(alloc, place),
-        RowFate::Declined(_, why) => refused_report(alloc, place, why.as_str()),
-        RowFate::Written(conversion) => changes_report(alloc, place, columns, conversion),
+        RowFate::Refused(fault) => report_fault(alloc, place, columns, fault, broken, report),
+        RowFate::Repeated(_) => report_repeated(alloc, place, report),
+        RowFate::Taken(_) => report_refused(alloc, place, TAKEN, report),
+        RowFate::Declined(_, why) => report_refused(alloc, place, why.as_str(), report),
+        RowFate::Written(conversion) => report_card(alloc, place, columns, conversion, report),
     }
 }

@@ -5,12 +5,14 @@ ghost use Rattle.contact_csv.specs.Contacts.{IsReady, columns_of};
 ghost use Rattle.card_conversion.specs.internal.ContactStates.{ReadsRow, TakesRow};
 
 use crate::contacts::fate::RowFate;
+use crate::moved::own_uid;
 use crate::{ConversionFault, Outcome, Outlet, deliver};
-use base_types::TextMap;
+use base_types::{NoMemory, TextMap};
 use contact_csv::{ContactFault, ContactReader, RowFault};
 use std::alloc::Global;
 use std::io::Read;
 use vcard_import::Conversion;
+use vcard_text::Card;
 
 /// Reads the contact of the next row, or its fault; `None` after the last row.
 pub(crate) fn next_row<R: Read + Drop>(
@@ -29,10 +31,22 @@ pub(crate) fn next_row<R: Read + Drop>(
     }
 }
 
+/// Whether the card is the same as an earlier one, but for a collision of SHA-1.
+fn is_same(
+    alloc: Global,
+    uids: &TextMap<()>,
+    row_cards: &TextMap<()>,
+    card: &Card,
+) -> Result<bool, NoMemory> {
+    let own = own_uid(alloc, card)?;
+    Ok(uids.get(own.as_str()).is_some() || row_cards.get(own.as_str()).is_some())
+}
+
 /// Writes a card, unless an earlier one has its UID.
 fn deliver_row<O: Outlet>(
     alloc: Global,
     uids: &mut TextMap<()>,
+    row_cards: &mut TextMap<()>,
     number: u64,
     conversion: Conversion,
     outlet: &mut O,
@@ -41,9 +55,18 @@ fn deliver_row<O: Outlet>(
         uids.old uids.new outlet.old outlet.new fate) }
 {
     match deliver(alloc, uids, number, &conversion.card, outlet)? {
-        Outcome::Repeated => Ok(RowFate::Repeated(conversion)),
+        Outcome::Repeated => {
+            if is_same(alloc, uids, row_cards, &conversion.card)? {
+                Ok(RowFate::Repeated(conversion))
+            } else {
+                Ok(RowFate::Taken(conversion))
+            }
+        }
         Outcome::Declined(words) => Ok(RowFate::Declined(conversion, words)),
-        Outcome::Written => Ok(RowFate::Written(conversion)),
+        Outcome::Written => {
+            row_cards.insert(own_uid(alloc, &conversion.card)?, ())?;
+            Ok(RowFate::Written(conversion))
+        }
     }
 }
 
@@ -51,6 +74,7 @@ fn deliver_row<O: Outlet>(
 pub(crate) fn take_row<O: Outlet>(
     alloc: Global,
     uids: &mut TextMap<()>,
+    row_cards: &mut TextMap<()>,
     number: u64,
     row: Result<Conversion, RowFault>,
     outlet: &mut O,
@@ -61,7 +85,7 @@ pub(crate) fn take_row<O: Outlet>(
         Ok(conversion) => {
             // Its clause says that the lines keep the rules of a card.
             let _lines = conversion.card.lines();
-            deliver_row(alloc, uids, number, conversion, outlet)
+            deliver_row(alloc, uids, row_cards, number, conversion, outlet)
         }
         Err(fault) => Ok(RowFate::Refused(fault)),
     }

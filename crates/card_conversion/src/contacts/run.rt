@@ -1,34 +1,78 @@
 //! Converts all contacts of a file.
-ghost use Rattle.std.specs.Prelude.{IfOk};
+ghost use Rattle.std.specs.Prelude.{ℕ, List, IfOk, OnOk};
 ghost use Rattle.contact_csv.specs.Contacts.{IsReady};
 ghost use Rattle.card_conversion.specs.ContactAccounts.{ConvertsContacts};
+ghost use Rattle.card_conversion.specs.Courses.{ConvertsRows, Knows};
 
-use crate::contacts::fate::RowFate;
-use crate::contacts::report::{RowPlace, report_text};
+use crate::contacts::broken_lines::BrokenLines;
+use crate::contacts::report::{RowPlace, report_broken, report_row};
 use crate::contacts::rows::{next_row, take_row};
-use crate::contacts::tally::{count_row, no_rows};
-use crate::reporting::{report, report_summary};
+use crate::contacts::tally::count_row;
+use crate::course::Course;
+use crate::reporting::Report;
 use crate::{ConversionFault, Outlet, Summary};
-use base_types::TextMap;
-use contact_csv::{Column, ContactReader};
+use contact_csv::ContactReader;
 use std::alloc::Global;
 use std::io::{Read, Write};
 
-/// Writes the lines of the report for a row at the place.
-fn report_row<E: Write>(
+/// Tells of the broken row that wasn't told yet, at the end of a file, which is at the line.
+fn end_rows<E: Write, T: Write>(
     alloc: Global,
-    place: RowPlace,
-    columns: &[Column],
-    fate: &RowFate,
-    errors: &mut E,
+    line: u64,
+    broken: &mut BrokenLines,
+    report: &mut Report<E, T>,
 ) -> Result<(), ConversionFault> {
-    let text = report_text(alloc, place, columns, fate)?;
-    report(errors, text.as_str())
+    broken.reach(line);
+    report_broken(alloc, broken, report)
+}
+
+/// Converts all contacts of one more file, and writes their cards to the outlet, in order. Reports
+/// each cell that its card holds in another form, and each row that can't be carried.
+///
+/// A row whose card has the UID of an earlier card is passed. An `Err` is as that of
+/// `convert_contacts`.
+pub fn convert_more_contacts<R: Read + Drop, O: Outlet, E: Write, T: Write>(
+    alloc: Global,
+    course: &mut Course,
+    reader: ContactReader<R>,
+    outlet: &mut O,
+    report: &mut Report<E, T>,
+) -> Result<(), ConversionFault>
+    ensures { OnOk result (IsReady reader → (uids : List (List ℕ)) → Knows course.old uids
+        → ConvertsRows O.writes R.remaining reader uids course.old course.new outlet.old
+        outlet.new) }
+{
+    let mut contacts = reader;
+    let mut broken = BrokenLines::new();
+    for row_number in 1..u64::MAX {
+        let Some(row) = next_row(alloc, &mut contacts)? else {
+            end_rows(alloc, contacts.line(), &mut broken, report)?;
+            return Ok(());
+        };
+        let number = course.ledger.next_number();
+        let fate = take_row(
+            alloc,
+            &mut course.uids,
+            &mut course.row_cards,
+            number,
+            row,
+            outlet,
+        )?;
+        let place = RowPlace {
+            row: row_number,
+            line: contacts.line(),
+        };
+        let columns = contacts.columns().columns.as_slice();
+        report_row(alloc, place, columns, &fate, &mut broken, report)?;
+        count_row(&mut course.ledger.summary, &fate);
+    }
+    Err(ConversionFault::Input)
 }
 
 /// Converts all contacts of a file that Google or Outlook exported, and writes their cards to the
-/// outlet, in order. Reports each cell that its card holds in another form, each row that can't be
-/// carried, and at last their numbers.
+/// outlet, in order. Reports each row with a cell that no property holds, each row that can't be
+/// carried, and at last how often each change of form came, what to look at first, and the numbers
+/// of cards.
 ///
 /// An `Err` is `Input` if the file can't be read to its end, `Output` if the outlet takes no more
 /// cards, `Report` if the report can't be written, or `Memory`. Cards that were written before it
@@ -42,22 +86,10 @@ pub fn convert_contacts<R: Read + Drop, O: Outlet, E: Write>(
     ensures { IsReady reader → IfOk result (λ summary.
         ConvertsContacts O.writes R.remaining reader outlet.old outlet.new summary) }
 {
-    let mut contacts = reader;
-    let mut uids = TextMap::new(alloc);
-    let mut summary = no_rows();
-    for number in 1..u64::MAX {
-        let Some(row) = next_row(alloc, &mut contacts)? else {
-            report_summary(alloc, summary, errors)?;
-            return Ok(summary);
-        };
-        let fate = take_row(alloc, &mut uids, number, row, outlet)?;
-        let place = RowPlace {
-            row: number,
-            line: contacts.line(),
-        };
-        let columns = contacts.columns().columns.as_slice();
-        report_row(alloc, place, columns, &fate, errors)?;
-        count_row(&mut summary, &fate);
-    }
-    Err(ConversionFault::Input)
+    let mut course = Course::new(alloc);
+    let mut report: Report<&mut E, Vec<u8>> = Report::new(alloc, errors);
+    convert_more_contacts(alloc, &mut course, reader, outlet, &mut report)?;
+    let summary = course.summary();
+    report.finish(alloc, summary, None)?;
+    Ok(summary)
 }

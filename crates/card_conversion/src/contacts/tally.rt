@@ -1,22 +1,10 @@
 //! How many rows there were, of each fate.
 ghost use Rattle.std.specs.Prelude.{◌≡◌};
-ghost use Rattle.card_conversion.specs.Counts.{nothing_counted};
 ghost use Rattle.card_conversion.specs.ContactFates.{counted};
 
 use crate::Summary;
 use crate::contacts::fate::RowFate;
 use contact_csv::RowFault;
-
-/// The summary of no rows.
-pub(crate) fn no_rows() -> Summary
-    ensures { result ≡ nothing_counted }
-{
-    Summary {
-        written: 0,
-        changed: 0,
-        refused: 0,
-    }
-}
 
 /// Counts a row. One without a value, or with the cells of an earlier one, is no loss.
 pub(crate) fn count_row(summary: &mut Summary, fate: &RowFate)

@@ -1,12 +1,13 @@
 //! Single calls of an endpoint.
 use hub_server::{Accepted, Endpoint, Received, Sent};
 use socket_endpoint::{BindFault, SocketEndpoint};
+use std::alloc::Global;
+use std::io;
 use std::io::{ErrorKind, Read, Write};
 use std::net::{Ipv4Addr, Shutdown, SocketAddr, TcpStream};
 use std::process::Abort;
 use std::rt::HostRuntime;
 use std::time::{Duration, Instant};
-use std::{io, str};
 
 /// An address of this host, with any free port.
 fn any_port() -> SocketAddr {
@@ -25,20 +26,87 @@ fn connect(rt: &HostRuntime, endpoint: &SocketEndpoint) -> io::Result<TcpStream>
     Ok(stream)
 }
 
+/// Sends the octets.
+fn send(rt: &impl Abort, client: &mut TcpStream, octets: &[u8]) {
+    client.write_all(octets).expect(rt, "a client");
+}
+
+/// Ends the client's side.
+fn end(rt: &impl Abort, client: &TcpStream) {
+    client.shutdown(Shutdown::Write).expect(rt, "a client");
+}
+
+/// Asserts that the client gets exactly this text.
+fn assert_replied(rt: &impl Abort, alloc: Global, client: &mut TcpStream, expected: &str) {
+    let mut text = String::new(alloc);
+    client.read_to_string(&mut text).expect(rt, "a reply");
+    assert_eq!(rt; text.as_str(), expected);
+}
+
+/// Asserts the outcome of an accept at the place.
+fn assert_accepts(
+    rt: &impl Abort,
+    endpoint: &mut SocketEndpoint,
+    place: usize,
+    expected: Accepted,
+) {
+    assert_eq!(rt; endpoint.accept(place), expected);
+}
+
 /// Waits until the listener is reported, and accepts a connection at the place.
 fn accept_at(rt: &impl Abort, endpoint: &mut SocketEndpoint, place: usize) {
     let mut ready = [false; 4];
     for _wait in 0..1_000u32 {
-        let woken = endpoint.wait(None, &mut ready).expect(rt, "a wait");
-        if woken.listener {
-            assert_eq!(rt; endpoint.accept(place), Accepted::Connection);
+        if endpoint
+            .wait(None, &mut ready)
+            .expect(rt, "a wait")
+            .listener
+        {
+            assert_accepts(rt, endpoint, place, Accepted::Connection);
             return;
         }
     }
     panic!(rt; "the listener isn't reported");
 }
 
-/// Waits until the place is reported, at most 2 seconds. Returns whether it was.
+/// Asserts the outcome of a read at the place.
+fn assert_reads(rt: &impl Abort, endpoint: &mut SocketEndpoint, place: usize, expected: Received) {
+    let mut buffer = [0u8; 8];
+    assert_eq!(rt; endpoint.read(place, &mut buffer), expected);
+}
+
+/// Asserts that a read at the place gives these octets.
+fn assert_gets(rt: &impl Abort, endpoint: &mut SocketEndpoint, place: usize, expected: &[u8]) {
+    let mut buffer = [0u8; 8];
+    assert_eq!(rt;
+        endpoint.read(place, &mut buffer),
+        Received::Octets(expected.len())
+    );
+    assert!(rt; buffer.starts_with(expected));
+}
+
+/// Asserts the outcome of a write of a text at the place.
+fn assert_writes(
+    rt: &impl Abort,
+    endpoint: &mut SocketEndpoint,
+    place: usize,
+    text: &str,
+    expected: Sent,
+) {
+    let octets = text.as_bytes();
+    if !octets.is_empty() {
+        assert_eq!(rt; endpoint.write(place, octets), expected);
+    }
+}
+
+/// The time of the endpoint's clock.
+fn now(rt: &impl Abort, endpoint: &mut SocketEndpoint) -> u64 {
+    let mut ready = [true; 4];
+    endpoint.wait(Some(0), &mut ready).expect(rt, "a wait").now
+}
+
+/// Waits until the place is reported, at most 2 seconds. Returns whether it was. (It may have been
+/// reported before.)
 fn is_reported(rt: &impl Abort, endpoint: &mut SocketEndpoint, place: usize) -> bool {
     let mut ready = [true; 4];
     let start = endpoint.wait(Some(0), &mut ready).expect(rt, "a wait").now;
@@ -55,26 +123,38 @@ fn is_reported(rt: &impl Abort, endpoint: &mut SocketEndpoint, place: usize) -> 
     false
 }
 
+/// Asserts that the place is reported within 2 seconds.
+fn assert_reported(rt: &impl Abort, endpoint: &mut SocketEndpoint, place: usize) {
+    assert!(rt; is_reported(rt, endpoint, place));
+}
+
+/// Asserts that a wait until the time reports nothing. Returns when it ended.
+fn assert_silent(rt: &impl Abort, endpoint: &mut SocketEndpoint, until: u64) -> u64 {
+    let mut ready = [true; 4];
+    let woken = endpoint.wait(Some(until), &mut ready).expect(rt, "a wait");
+    assert!(rt; !woken.listener && ready == [false; 4]);
+    woken.now
+}
+
 #[test]
 fn waits_until_the_time(rt: HostRuntime) {
     let mut endpoint = bind(&rt, 4).expect(&rt, "an endpoint");
-    let mut ready = [true; 4];
     for until in [0, 1, 30, 31] {
-        let woken = endpoint.wait(Some(until), &mut ready).expect(&rt, "a wait");
-        assert!(rt;
-            !woken.listener && woken.now >= until,
-            "{until}: {}",
-            woken.now
-        );
-        assert_eq!(rt; ready, [false; 4]);
+        let ended = assert_silent(&rt, &mut endpoint, until);
+        assert!(rt; ended >= until, "{until}: {ended}");
     }
     endpoint.finish();
+}
+
+/// The address of the endpoint.
+fn address_of(rt: &impl Abort, endpoint: &SocketEndpoint) -> SocketAddr {
+    endpoint.local_addr().expect(rt, "an address")
 }
 
 #[test]
 fn refuses_a_port_that_is_taken(rt: HostRuntime) {
     let endpoint = bind(&rt, 1).expect(&rt, "an endpoint");
-    let address = endpoint.local_addr().expect(&rt, "an address");
+    let address = address_of(&rt, &endpoint);
     assert!(rt; address.port() != 0 && address.ip() == any_port().ip());
     let second = SocketEndpoint::bind(&rt, rt.alloc(), address, 1);
     assert_eq!(rt; second.err(), Some(BindFault::Device));
@@ -83,72 +163,58 @@ fn refuses_a_port_that_is_taken(rt: HostRuntime) {
     assert!(rt; again.is_ok());
 }
 
+/// A place that has a connection, here 2, and one that isn't there can't be accepted at; and one
+/// without a connection can't be used.
+fn assert_places(rt: &impl Abort, endpoint: &mut SocketEndpoint) {
+    assert_accepts(rt, endpoint, 3, Accepted::NoneNow);
+    assert_accepts(rt, endpoint, 2, Accepted::Failed);
+    assert_accepts(rt, endpoint, 4, Accepted::Failed);
+    assert_reads(rt, endpoint, 3, Received::Failed);
+    assert_writes(rt, endpoint, 4, "x", Sent::Failed);
+}
+
+/// Ten octets come in two reads, and then none are there.
+fn assert_reads_ten(rt: &impl Abort, endpoint: &mut SocketEndpoint, client: &mut TcpStream) {
+    assert_reported(rt, endpoint, 2);
+    assert_reads(rt, endpoint, 2, Received::NoneNow);
+    send(rt, client, b"0123456789");
+    assert_reported(rt, endpoint, 2);
+    assert_gets(rt, endpoint, 2, b"01234567");
+    assert_gets(rt, endpoint, 2, b"89");
+    assert_reads(rt, endpoint, 2, Received::NoneNow);
+}
+
+/// The end of the client is read, and a place that was closed is used no more.
+fn assert_ends(rt: &impl Abort, endpoint: &mut SocketEndpoint, client: &TcpStream) {
+    end(rt, client);
+    assert_reported(rt, endpoint, 2);
+    assert_reads(rt, endpoint, 2, Received::End);
+    endpoint.close(2);
+    assert_reads(rt, endpoint, 2, Received::Failed);
+}
+
 #[test]
 fn reads_and_writes_until_it_would_wait(rt: HostRuntime) {
     let mut endpoint = bind(&rt, 4).expect(&rt, "an endpoint");
     let mut client = connect(&rt, &endpoint).expect(&rt, "a client");
     accept_at(&rt, &mut endpoint, 2);
-    assert_eq!(rt; endpoint.accept(3), Accepted::NoneNow);
-    // a place that has a connection, and one that isn't there
-    assert_eq!(rt; endpoint.accept(2), Accepted::Failed);
-    assert_eq!(rt; endpoint.accept(4), Accepted::Failed);
-    let mut buffer = [0u8; 8];
-    assert_eq!(rt; endpoint.read(3, &mut buffer), Received::Failed);
-    assert_eq!(rt; endpoint.write(4, b"x"), Sent::Failed);
-
-    assert!(rt; is_reported(&rt, &mut endpoint, 2));
-    assert_eq!(rt; endpoint.read(2, &mut buffer), Received::NoneNow);
-    client.write_all(b"0123456789").expect(&rt, "a client");
-    assert!(rt; is_reported(&rt, &mut endpoint, 2));
-    assert_eq!(rt; endpoint.read(2, &mut buffer), Received::Octets(8));
-    assert_eq!(rt; buffer, *b"01234567");
-    assert_eq!(rt; endpoint.read(2, &mut buffer), Received::Octets(2));
-    assert_eq!(rt; endpoint.read(2, &mut buffer), Received::NoneNow);
-    assert_eq!(rt; endpoint.write(2, b"reply"), Sent::Octets(5));
-    client.shutdown(Shutdown::Write).expect(&rt, "a client");
-    assert!(rt; is_reported(&rt, &mut endpoint, 2));
-    assert_eq!(rt; endpoint.read(2, &mut buffer), Received::End);
-    endpoint.close(2);
-    assert_eq!(rt; endpoint.read(2, &mut buffer), Received::Failed);
-    let mut text = String::new(rt.alloc());
-    client.read_to_string(&mut text).expect(&rt, "a reply");
-    assert_eq!(rt; text.as_str(), "reply");
+    assert_places(&rt, &mut endpoint);
+    assert_reads_ten(&rt, &mut endpoint, &mut client);
+    assert_writes(&rt, &mut endpoint, 2, "reply", Sent::Octets(5));
+    assert_ends(&rt, &mut endpoint, &client);
+    assert_replied(&rt, rt.alloc(), &mut client, "reply");
     endpoint.finish();
 }
 
-#[test]
-fn is_writable_again_once_the_client_reads(rt: HostRuntime) {
-    let mut endpoint = bind(&rt, 4).expect(&rt, "an endpoint");
-    let mut client = connect(&rt, &endpoint).expect(&rt, "a client");
-    accept_at(&rt, &mut endpoint, 0);
-    let octets = [7u8; 10_000];
-    let mut written: usize = 0;
-    let mut sent = endpoint.write(0, &octets);
-    for _write in 0..10_000u32 {
-        let Sent::Octets(count) = sent else {
-            break;
-        };
-        written = written.saturating_add(count);
-        sent = endpoint.write(0, &octets);
+/// What comes to the old socket is neither reported nor read at the place.
+fn assert_old_is_silent(rt: &impl Abort, endpoint: &mut SocketEndpoint, old: &mut TcpStream) {
+    assert_reads(rt, endpoint, 1, Received::NoneNow);
+    send(rt, old, b"late");
+    let until = now(rt, endpoint).saturating_add(50);
+    for _wait in 0..5u32 {
+        assert_silent(rt, endpoint, until);
     }
-    assert_eq!(rt; sent, Sent::NoneNow);
-    // it isn't reported while the client reads nothing
-    let mut ready = [true; 4];
-    let now = endpoint.wait(Some(0), &mut ready).expect(&rt, "a wait").now;
-    endpoint
-        .wait(Some(now.saturating_add(20)), &mut ready)
-        .expect(&rt, "a wait");
-    assert_eq!(rt; ready, [false; 4]);
-    let mut room = [0u8; 10_000];
-    for _read in 0..10_000u32 {
-        if written == 0 {
-            break;
-        }
-        let count = client.read(&mut room).expect(&rt, "a reply");
-        written = written.saturating_sub(count);
-    }
-    assert!(rt; is_reported(&rt, &mut endpoint, 0));
-    assert!(rt; endpoint.write(0, &octets) != Sent::NoneNow);
+    assert_reads(rt, endpoint, 1, Received::NoneNow);
 }
 
 #[test]
@@ -156,75 +222,78 @@ fn a_place_is_used_again_while_the_old_socket_lingers(rt: HostRuntime) {
     let mut endpoint = bind(&rt, 4).expect(&rt, "an endpoint");
     let mut old = connect(&rt, &endpoint).expect(&rt, "a client");
     accept_at(&rt, &mut endpoint, 1);
-    assert!(rt; is_reported(&rt, &mut endpoint, 1));
-    assert_eq!(rt; endpoint.write(1, b"old"), Sent::Octets(3));
+    assert_reported(&rt, &mut endpoint, 1);
+    assert_writes(&rt, &mut endpoint, 1, "old", Sent::Octets(3));
     endpoint.close(1);
 
     let mut new = connect(&rt, &endpoint).expect(&rt, "a client");
     accept_at(&rt, &mut endpoint, 1);
-    assert!(rt; is_reported(&rt, &mut endpoint, 1));
-    let mut buffer = [0u8; 8];
-    assert_eq!(rt; endpoint.read(1, &mut buffer), Received::NoneNow);
-    // what comes to the old socket is neither reported nor read at the place
-    old.write_all(b"late").expect(&rt, "a client");
-    let mut ready = [false; 4];
-    let now = endpoint.wait(Some(0), &mut ready).expect(&rt, "a wait").now;
-    for _wait in 0..5u32 {
-        endpoint
-            .wait(Some(now.saturating_add(50)), &mut ready)
-            .expect(&rt, "a wait");
-        assert_eq!(rt; ready, [false; 4]);
-    }
-    assert_eq!(rt; endpoint.read(1, &mut buffer), Received::NoneNow);
-    new.write_all(b"new").expect(&rt, "a client");
-    assert!(rt; is_reported(&rt, &mut endpoint, 1));
-    assert_eq!(rt; endpoint.read(1, &mut buffer), Received::Octets(3));
-    assert_eq!(rt; str::from_utf8(&buffer[..3]), Ok("new"));
+    assert_reported(&rt, &mut endpoint, 1);
+    assert_old_is_silent(&rt, &mut endpoint, &mut old);
+    send(&rt, &mut new, b"new");
+    assert_reported(&rt, &mut endpoint, 1);
+    assert_gets(&rt, &mut endpoint, 1, b"new");
     // the old client can read its reply, though it sent octets that nobody read
-    let mut text = String::new(rt.alloc());
-    old.read_to_string(&mut text).expect(&rt, "a reply");
-    assert_eq!(rt; text.as_str(), "old");
+    assert_replied(&rt, rt.alloc(), &mut old, "old");
+}
+
+/// Finishes the endpoint, and returns how many milliseconds that took.
+fn time_to_finish(rt: &HostRuntime, endpoint: SocketEndpoint) -> Option<u128> {
+    let start = Instant::now(rt).ok()?;
+    endpoint.finish();
+    Some(start.elapsed(rt).ok()?.as_millis())
+}
+
+/// Accepts the client and closes its connection.
+fn accept_and_close(rt: &impl Abort, endpoint: &mut SocketEndpoint) {
+    accept_at(rt, endpoint, 0);
+    endpoint.close(0);
 }
 
 #[test]
-fn waits_for_those_that_linger_at_the_end(rt: HostRuntime) {
-    // a silent client, and one that has ended its side
-    for (ends, from, to) in [(false, 900, 5_000), (true, 0, 800)] {
-        let mut endpoint = bind(&rt, 4).expect(&rt, "an endpoint");
-        let client = connect(&rt, &endpoint).expect(&rt, "a client");
-        accept_at(&rt, &mut endpoint, 0);
-        if ends {
-            client.shutdown(Shutdown::Write).expect(&rt, "a client");
+fn waits_for_a_silent_client_at_the_end(rt: HostRuntime) {
+    let mut endpoint = bind(&rt, 4).expect(&rt, "an endpoint");
+    let _client = connect(&rt, &endpoint).expect(&rt, "a client");
+    accept_and_close(&rt, &mut endpoint);
+    let took = time_to_finish(&rt, endpoint).expect(&rt, "a clock");
+    assert!(rt; 900 <= took && took <= 5_000, "{took}");
+}
+
+#[test]
+fn waits_for_no_client_that_has_ended_its_side(rt: HostRuntime) {
+    let mut endpoint = bind(&rt, 4).expect(&rt, "an endpoint");
+    let client = connect(&rt, &endpoint).expect(&rt, "a client");
+    end(&rt, &client);
+    accept_and_close(&rt, &mut endpoint);
+    let took = time_to_finish(&rt, endpoint).expect(&rt, "a clock");
+    assert!(rt; took <= 800, "{took}");
+}
+
+/// The kind of the first write that fails.
+fn kind_of_failure(client: &mut TcpStream) -> Option<ErrorKind> {
+    for _write in 0..100u32 {
+        if let Err(error) = client.write(b"late") {
+            return Some(error.kind());
         }
-        endpoint.close(0);
-        let start = Instant::now(&rt).expect(&rt, "a clock");
-        endpoint.finish();
-        let took = start.elapsed(&rt).expect(&rt, "a clock").as_millis();
-        assert!(rt; from <= took && took <= to, "{ends}: {took}");
     }
+    None
+}
+
+/// Asserts that the client was given up: the system refuses what it sends.
+fn assert_given_up(rt: &impl Abort, client: &mut TcpStream) {
+    let kind = kind_of_failure(client);
+    assert!(rt; kind == Some(ErrorKind::BrokenPipe) || kind == Some(ErrorKind::ConnectionReset));
 }
 
 #[test]
 fn the_oldest_goes_first(rt: HostRuntime) {
     let mut endpoint = bind(&rt, 1).expect(&rt, "an endpoint");
     let mut first = connect(&rt, &endpoint).expect(&rt, "a client");
-    accept_at(&rt, &mut endpoint, 0);
-    endpoint.close(0);
+    accept_and_close(&rt, &mut endpoint);
     let second = connect(&rt, &endpoint).expect(&rt, "a client");
-    accept_at(&rt, &mut endpoint, 0);
-    endpoint.close(0);
-    // the first was given up: the system refuses what it sends
-    let mut kind = None;
-    for _write in 0..100u32 {
-        if let Err(error) = first.write(b"late") {
-            kind = Some(error.kind());
-            break;
-        }
-    }
-    assert!(rt; kind == Some(ErrorKind::BrokenPipe) || kind == Some(ErrorKind::ConnectionReset));
-    second.shutdown(Shutdown::Write).expect(&rt, "a client");
-    let start = Instant::now(&rt).expect(&rt, "a clock");
-    endpoint.finish();
-    let took = start.elapsed(&rt).expect(&rt, "a clock").as_millis();
+    accept_and_close(&rt, &mut endpoint);
+    assert_given_up(&rt, &mut first);
+    end(&rt, &second);
+    let took = time_to_finish(&rt, endpoint).expect(&rt, "a clock");
     assert!(rt; took <= 800, "{took}");
 }

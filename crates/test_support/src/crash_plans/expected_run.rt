@@ -2,8 +2,8 @@
 
 use crate::crash_plans::books::query_books;
 use crate::crash_plans::commands::{Kind, kind_of};
-use crate::scripts::parse_command;
-use book_service::{Command, Reply, perform};
+use crate::scripts::{parse_command, reply_to};
+use book_service::{Command, Reply};
 use std::alloc::Global;
 use sync_core::{Limits, PlainStore};
 use vcard_text::NoMemory;
@@ -31,7 +31,7 @@ pub struct ExpectedRun {
 
 /// Performs the command over a store in memory.
 fn step_of(alloc: Global, store: &mut PlainStore, command: Command) -> Result<Step, NoMemory> {
-    let reply = perform(alloc, store, &command);
+    let reply = reply_to(alloc, store, &command);
     match query_books(alloc, store) {
         Ok(books_text) => Ok(Step {
             command,

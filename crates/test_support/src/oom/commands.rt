@@ -4,8 +4,8 @@ use crate::oom::books::{has_books, is_no_memory, query_books};
 use crate::oom::harness::Harness;
 use crate::oom::stop::Stop;
 use crate::oom::stores::{Stores, filled_store};
-use crate::scripts::parse_command;
-use book_service::{Command, Reply, perform};
+use crate::scripts::{parse_command, reply_to};
+use book_service::{Command, Reply};
 use std::alloc::Global;
 use sync_core::BookStore;
 
@@ -63,7 +63,7 @@ fn expected_from<S: BookStore>(
     command: &Command,
 ) -> Result<Expected, Stop> {
     let before = query_books(alloc, twin)?;
-    let reply = perform(alloc, twin, command);
+    let reply = reply_to(alloc, twin, command);
     let after = query_books(alloc, twin)?;
     Ok(Expected {
         before,
@@ -84,7 +84,7 @@ fn repeats_as_expected<S: BookStore>(
     command: &Command,
     expected: &Expected,
 ) -> Result<bool, Stop> {
-    let reply = perform(alloc, store, command);
+    let reply = reply_to(alloc, store, command);
     let again = reply == expected.reply;
     drop(reply);
     Ok(has_books(alloc, store, expected.after.as_slice())? && again)
@@ -121,7 +121,7 @@ fn run_command_case<K: Stores>(
     let mut store = filled_store(alloc, kind)?;
     let expected = expected_of(alloc, kind, command)?;
     harness.open_window_over(name, kind.over());
-    let reply = perform(alloc, &mut store, command);
+    let reply = reply_to(alloc, &mut store, command);
     harness.close_window();
     let result = report_reply(harness, &mut store, command, &expected, &reply);
     drop(expected);

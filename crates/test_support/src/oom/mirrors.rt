@@ -4,13 +4,14 @@ use crate::oom::books::{FEW_CARDS, has_books, query_books};
 use crate::oom::harness::Harness;
 use crate::oom::stop::Stop;
 use crate::oom::stores::{Stores, store_filled_by};
-use book_service::{Mirrored, mirror};
+use crate::scripts::mirror_of;
+use book_service::Mirrored;
 use std::alloc::Global;
 use sync_core::{BookStore, Denied, Fault};
 
 /// Mirrors the book `staff` in pages of one entry.
 fn mirror_book<S: BookStore>(alloc: Global, store: &mut S) -> Result<Mirrored, Denied> {
-    mirror(alloc, store, "staff", 1, 10)
+    mirror_of(alloc, store, "staff", 1, 10)
 }
 
 /// Mirrors a book in a window, and reports the outcome. The twin store has the same books, which a

@@ -1,8 +1,8 @@
 //! Kinds of stores, and the commands that fill them before a call.
 
 use crate::oom::stop::Stop;
-use crate::scripts::parse_command;
-use book_service::{Reply, perform};
+use crate::scripts::{parse_command, reply_to};
+use book_service::Reply;
 use std::alloc::Global;
 use sync_core::{BookStore, Limits, PlainStore};
 
@@ -58,7 +58,7 @@ fn push_reply<S: BookStore>(
     line: &str,
 ) -> Result<(), Stop> {
     let command = parse_command(alloc, line)?;
-    let reply = perform(alloc, store, &command);
+    let reply = reply_to(alloc, store, &command);
     drop(command);
     replies.push(reply)?;
     Ok(())

@@ -3,9 +3,7 @@
 use crate::oom::harness::Harness;
 use crate::oom::stop::Stop;
 use crate::oom::stores::{InMemory, filled_store};
-use base_types::NoMemory;
 use card_core::{GroupFault, expand};
-use cli_args::{LineFault, Order, read_order};
 use csv_cards::{CsvCause, CsvFault, Form, read_rows, write_rows};
 use page_json::{ReportFault, read_report, write_report};
 use std::alloc::Global;
@@ -187,38 +185,6 @@ fn read_report_case(harness: &mut Harness) -> Result<(), Stop> {
     Ok(())
 }
 
-fn words(alloc: Global) -> Result<Vec<String>, NoMemory> {
-    let mut words = Vec::new(alloc);
-    for word in ["tally", "FILE", "staff"] {
-        words.push(String::from_str(alloc, word)?)?;
-    }
-    Ok(words)
-}
-
-/// Whether the order is the one that the words spell, or why there is none.
-fn is_tally(order: Result<Order, LineFault>) -> Result<bool, LineFault> {
-    match order? {
-        Order::Tally { file, book } => Ok(file.as_str() == "FILE" && book.as_str() == "staff"),
-        _ => Ok(false),
-    }
-}
-
-fn read_order_case(harness: &mut Harness) -> Result<(), Stop> {
-    if !harness.is_selected("read_order") {
-        return Ok(());
-    }
-    let alloc = harness.alloc();
-    let words = words(alloc)?;
-    let expected = is_tally(read_order(alloc, words.as_slice()));
-    harness.open_window("read_order");
-    let answer = read_order(alloc, words.as_slice());
-    harness.close_window();
-    let again = is_tally(read_order(alloc, words.as_slice()));
-    let ran_out = matches!(&answer, Err(LineFault::Memory));
-    harness.report_stateless(expected, ran_out, is_tally(answer), again);
-    Ok(())
-}
-
 /// Runs the selected cases of one card's text.
 pub fn run_cards(harness: &mut Harness) -> Result<(), Stop> {
     read_card_case(harness);
@@ -233,6 +199,5 @@ pub fn run_texts(harness: &mut Harness) -> Result<(), Stop> {
     write_rows_case(harness, "write_rows, as cards", Form::Cards)?;
     expand_case(harness)?;
     write_report_case(harness)?;
-    read_report_case(harness)?;
-    read_order_case(harness)
+    read_report_case(harness)
 }

@@ -40,7 +40,7 @@ fn push_repeated(octets: &mut Vec<u8>, alloc: Global, repeated: &str) -> Result<
 }
 
 /// Decodes the field.
-pub fn decode_field(alloc: Global, field: &str) -> Result<Vec<u8>, NoMemory> {
+pub(crate) fn decode_field(alloc: Global, field: &str) -> Result<Vec<u8>, NoMemory> {
     let mut octets = Vec::new(alloc);
     for part in field.split('«') {
         match part.split_once('»') {
@@ -65,12 +65,15 @@ fn picture_of(c: char) -> char {
     }
 }
 
-/// Encodes the octets as a field, up to 2,000 characters. What isn't UTF-8 becomes `\u{FFFD}`.
-pub fn encode_field(alloc: Global, octets: &[u8]) -> Result<String, NoMemory> {
+/// Adds the octets as a field, up to 2,000 characters. What isn't UTF-8 becomes `\u{FFFD}`.
+pub(crate) fn push_field(
+    alloc: Global,
+    report: &mut String,
+    octets: &[u8],
+) -> Result<(), NoMemory> {
     let text = String::from_utf8_lossy(alloc, octets)?;
-    let mut field = String::new(alloc);
     for c in text.chars().take(2_000) {
-        field.push(picture_of(c))?;
+        report.push(picture_of(c))?;
     }
-    Ok(field)
+    Ok(())
 }

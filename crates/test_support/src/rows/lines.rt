@@ -1,17 +1,14 @@
 //! Rows, and the report of those whose result isn't the expected one.
-use crate::rows::fields::{decode_field, encode_field};
+use crate::rows::fields::{decode_field, push_field};
 use base_types::NoMemory;
 use std::alloc::Global;
 
 /// A row: the name of a call, its input and its expected result.
 #[derive(Drop)]
-pub struct Row {
-    /// The call's name.
-    pub call: String,
-    /// The input of the call.
-    pub input: Vec<u8>,
-    /// The expected result.
-    pub expected: Vec<u8>,
+struct Row {
+    call: String,
+    input: Vec<u8>,
+    expected: Vec<u8>,
 }
 
 /// Runs calls by name.
@@ -20,22 +17,19 @@ pub trait TestCalls {
     fn run_call(&mut self, alloc: Global, call: &str, input: &[u8]) -> Result<Vec<u8>, NoMemory>;
 }
 
-/// The row of the line; `None` for an empty line and a comment.
-pub fn parse_row(alloc: Global, line: &str) -> Result<Option<Row>, NoMemory> {
-    if line.is_empty() || line.starts_with('#') {
-        return Ok(None);
-    }
-    let (call, fields) = line.split_once('\t').unwrap_or((line, ""));
-    let (input, expected) = fields.split_once('\t').unwrap_or((fields, ""));
-    Ok(Some(Row {
-        call: String::from_str(alloc, call)?,
-        input: decode_field(alloc, input)?,
+/// The row with these fields.
+fn row_of(alloc: Global, call: &str, input: &str, expected: &str) -> Result<Row, NoMemory> {
+    let call = String::from_str(alloc, call)?;
+    let input = decode_field(alloc, input)?;
+    Ok(Row {
+        call,
+        input,
         expected: decode_field(alloc, expected)?,
-    }))
+    })
 }
 
-/// Reports the result of the row if it isn't the expected one.
-pub fn report_row(
+/// Reports the result of a call if it isn't the expected one.
+fn report_row(
     alloc: Global,
     row: &Row,
     actual: &[u8],
@@ -44,15 +38,41 @@ pub fn report_row(
     if actual == row.expected.as_slice() {
         return Ok(());
     }
-    let input = encode_field(alloc, row.input.as_slice())?;
-    let actual = encode_field(alloc, actual)?;
-    let call = row.call.as_str();
-    report.push_str(format!(in alloc;
-        "** {call} {}: {}\n",
-        input.as_str(),
-        actual.as_str()
-    )?.as_str())?;
-    Ok(())
+    report.push_str("** ")?;
+    report.push_str(row.call.as_str())?;
+    report.push(' ')?;
+    push_field(alloc, report, row.input.as_slice())?;
+    report.push_str(": ")?;
+    push_field(alloc, report, actual)?;
+    Ok(report.push('\n')?)
+}
+
+/// Runs the row's call, and reports its result if it isn't the expected one.
+fn run_row<T: TestCalls>(
+    alloc: Global,
+    calls: &mut T,
+    row: &Row,
+    report: &mut String,
+) -> Result<(), NoMemory> {
+    let actual = calls.run_call(alloc, row.call.as_str(), row.input.as_slice())?;
+    report_row(alloc, row, actual.as_slice(), report)
+}
+
+/// Runs the row of the line. Returns whether it has one: an empty line and a comment have none.
+fn run_line<T: TestCalls>(
+    alloc: Global,
+    calls: &mut T,
+    line: &str,
+    report: &mut String,
+) -> Result<bool, NoMemory> {
+    if line.is_empty() || line.starts_with('#') {
+        return Ok(false);
+    }
+    let (call, fields) = line.split_once('\t').unwrap_or((line, ""));
+    let (input, expected) = fields.split_once('\t').unwrap_or((fields, ""));
+    let row = row_of(alloc, call, input, expected)?;
+    run_row(alloc, calls, &row, report)?;
+    Ok(true)
 }
 
 /// Runs the rows of the list. Reports those whose result isn't the expected one, and then the
@@ -65,10 +85,8 @@ pub fn check_rows<T: TestCalls>(
     let mut report = String::new(alloc);
     let mut count: u64 = 0;
     for line in list.lines() {
-        if let Some(row) = parse_row(alloc, line)? {
+        if run_line(alloc, calls, line, &mut report)? {
             count = count.saturating_add(1);
-            let actual = calls.run_call(alloc, row.call.as_str(), row.input.as_slice())?;
-            report_row(alloc, &row, actual.as_slice(), &mut report)?;
         }
     }
     report.push_str(format!(in alloc; "{count} rows\n")?.as_str())?;

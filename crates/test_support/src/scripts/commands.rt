@@ -26,56 +26,73 @@ fn octets(alloc: Global, words: &[&str], place: usize) -> Result<Items<u8>, NoMe
     Ok(Items::from_vec(text.into_bytes()))
 }
 
+/// The book and the UID, the words after the first. (Texts are read in pairs, so that the functions
+/// here have few exits, and little to drop there.)
+fn book_and_uid(alloc: Global, words: &[&str]) -> Result<(Text, Text), NoMemory> {
+    let book = text_of(alloc, words, 1)?;
+    Ok((book, text_of(alloc, words, 2)?))
+}
+
 /// `get BOOK UID`
 fn get(alloc: Global, words: &[&str]) -> Result<Command, NoMemory> {
-    Ok(Command::Get {
-        book: text_of(alloc, words, 1)?,
-        uid: text_of(alloc, words, 2)?,
+    let (book, uid) = book_and_uid(alloc, words)?;
+    Ok(Command::Get { book, uid })
+}
+
+/// A put of the text.
+fn put_text(
+    alloc: Global,
+    words: &[&str],
+    expect: Option<u64>,
+    text: Items<u8>,
+) -> Result<Command, NoMemory> {
+    let (book, uid) = book_and_uid(alloc, words)?;
+    Ok(Command::Put {
+        book,
+        uid,
+        expect,
+        text,
     })
 }
 
 /// `put BOOK UID EXPECT TEXT`
 fn put(alloc: Global, words: &[&str]) -> Result<Command, NoMemory> {
-    Ok(Command::Put {
-        book: text_of(alloc, words, 1)?,
-        uid: text_of(alloc, words, 2)?,
-        expect: number(words, 3),
-        text: octets(alloc, words, 4)?,
-    })
+    put_text(alloc, words, number(words, 3), octets(alloc, words, 4)?)
+}
+
+/// The text of a card with the UID and the lines.
+fn card_text(alloc: Global, uid: &str, lines: &str) -> Result<Items<u8>, NoMemory> {
+    let text = format!(in alloc;
+        "BEGIN:VCARD\r\nVERSION:4.0\r\nUID:{uid}\r\n{lines}\r\nEND:VCARD\r\n"
+    )?;
+    Ok(Items::from_vec(text.into_bytes()))
 }
 
 /// `card BOOK UID LINES`: a put of a card with the UID and the lines.
 fn card(alloc: Global, words: &[&str]) -> Result<Command, NoMemory> {
-    let uid = word(words, 2);
     let lines = unescape(alloc, word(words, 3))?;
-    let lines = lines.as_str();
-    let text = format!(in alloc;
-        "BEGIN:VCARD\r\nVERSION:4.0\r\nUID:{uid}\r\n{lines}\r\nEND:VCARD\r\n"
-    )?;
-    Ok(Command::Put {
-        book: text_of(alloc, words, 1)?,
-        uid: text_of(alloc, words, 2)?,
-        expect: None,
-        text: Items::from_vec(text.into_bytes()),
-    })
+    let text = card_text(alloc, word(words, 2), lines.as_str());
+    drop(lines);
+    put_text(alloc, words, None, text?)
 }
 
 /// `remove BOOK UID EXPECT`
 fn remove(alloc: Global, words: &[&str]) -> Result<Command, NoMemory> {
-    Ok(Command::Remove {
-        book: text_of(alloc, words, 1)?,
-        uid: text_of(alloc, words, 2)?,
-        expect: number(words, 3),
-    })
+    let (book, uid) = book_and_uid(alloc, words)?;
+    let expect = number(words, 3);
+    Ok(Command::Remove { book, uid, expect })
 }
 
 /// `move BOOK UID TO EXPECT`
 fn move_card(alloc: Global, words: &[&str]) -> Result<Command, NoMemory> {
+    let to = text_of(alloc, words, 3)?;
+    let (book, uid) = book_and_uid(alloc, words)?;
+    let expect = number(words, 4);
     Ok(Command::MoveCard {
-        book: text_of(alloc, words, 1)?,
-        uid: text_of(alloc, words, 2)?,
-        to: text_of(alloc, words, 3)?,
-        expect: number(words, 4),
+        book,
+        uid,
+        to,
+        expect,
     })
 }
 
@@ -94,11 +111,9 @@ fn report(alloc: Global, words: &[&str]) -> Result<Command, NoMemory> {
 
 /// `import BOOK KEY BODY`
 fn import(alloc: Global, words: &[&str]) -> Result<Command, NoMemory> {
-    Ok(Command::Import {
-        book: text_of(alloc, words, 1)?,
-        key: text_of(alloc, words, 2)?,
-        body: octets(alloc, words, 3)?,
-    })
+    let body = octets(alloc, words, 3)?;
+    let (book, key) = book_and_uid(alloc, words)?;
+    Ok(Command::Import { book, key, body })
 }
 
 /// `forget BOOK UPTO`
@@ -121,10 +136,8 @@ fn export(alloc: Global, words: &[&str]) -> Result<Command, NoMemory> {
 
 /// `people BOOK UID`
 fn people(alloc: Global, words: &[&str]) -> Result<Command, NoMemory> {
-    Ok(Command::People {
-        book: text_of(alloc, words, 1)?,
-        uid: text_of(alloc, words, 2)?,
-    })
+    let (book, uid) = book_and_uid(alloc, words)?;
+    Ok(Command::People { book, uid })
 }
 
 /// `create BOOK` and `tally BOOK`; any other line is `books`.

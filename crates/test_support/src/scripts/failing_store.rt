@@ -1,149 +1,105 @@
-//! A store that returns a fault on demand, instead of performing the call.
-ghost use Rattle.std.specs.Prelude.{◌≡◌};
+//! A store that returns a fault from each call.
+ghost use Rattle.std.specs.FinMap as finite;
 ghost use Rattle.book_model.specs.Bounds.{IsInRange};
 
-use std::alloc::Global;
 use std::collections::BTreeMap;
 use sync_core::{
-    BookLine, BookStore, Denied, Fault, ImportTally, Limits, Moved, Page, PlainStore, PutAnswer,
-    Stored, Tally, Token,
+    BookLine, BookStore, Denied, Fault, ImportTally, Limits, Moved, Page, PutAnswer, Stored, Tally,
+    Token,
 };
 use vcard_text::Card;
 
-/// A store in memory, and the fault that its calls return, if any.
+/// A store without books, with the standard limits, whose calls return this fault.
 #[derive(Drop)]
 pub struct FailingStore {
-    inner: PlainStore,
     limits: Limits,
-    fault: Option<Fault>,
-    ghost same_limits: { inner.limits ≡ limits },
+    fault: Fault,
     ghost in_range: { IsInRange limits },
 }
 
 impl FailingStore {
-    /// A store without books, with the standard limits and without a fault.
-    pub fn new(alloc: Global) -> FailingStore {
-        let limits = Limits::standard();
+    /// A store whose calls return the fault.
+    pub fn new(fault: Fault) -> FailingStore {
         FailingStore {
-            inner: PlainStore::new(alloc, limits),
-            limits,
-            fault: None,
+            limits: Limits::standard(),
+            fault,
         }
-    }
-
-    /// From now on each call returns the fault. With `None`, calls are performed again.
-    pub fn set_fault(&mut self, fault: Option<Fault>) {
-        self.fault = fault;
     }
 }
 
 impl BookStore for FailingStore {
     ghost model = { record {
-      books = λ s. s.inner.books;
+      books = λ _. finite.empty;
       limits = λ s. s.limits;
       premise = λ _. Unit {0};
       may_fault = λ _. Unit {0};
     } };
 
-    fn create_book(&mut self, name: &str) -> Result<u64, Denied> {
-        if let Some(fault) = self.fault {
-            return Err(Denied::Fault(fault));
-        }
-        self.inner.create_book(name)
+    fn create_book(&mut self, _name: &str) -> Result<u64, Denied> {
+        Err(Denied::Fault(self.fault))
     }
 
-    fn put(&mut self, book: &str, card: &Card, expect: Option<u64>) -> Result<PutAnswer, Denied> {
-        if let Some(fault) = self.fault {
-            return Err(Denied::Fault(fault));
-        }
-        self.inner.put(book, card, expect)
+    fn put(
+        &mut self,
+        _book: &str,
+        _card: &Card,
+        _expect: Option<u64>,
+    ) -> Result<PutAnswer, Denied> {
+        Err(Denied::Fault(self.fault))
     }
 
-    fn remove(&mut self, book: &str, uid: &str, expect: Option<u64>) -> Result<u64, Denied> {
-        if let Some(fault) = self.fault {
-            return Err(Denied::Fault(fault));
-        }
-        self.inner.remove(book, uid, expect)
+    fn remove(&mut self, _book: &str, _uid: &str, _expect: Option<u64>) -> Result<u64, Denied> {
+        Err(Denied::Fault(self.fault))
     }
 
     fn move_card(
         &mut self,
-        from: &str,
-        to: &str,
-        uid: &str,
-        expect: Option<u64>,
+        _from: &str,
+        _to: &str,
+        _uid: &str,
+        _expect: Option<u64>,
     ) -> Result<Moved, Denied> {
-        if let Some(fault) = self.fault {
-            return Err(Denied::Fault(fault));
-        }
-        self.inner.move_card(from, to, uid, expect)
+        Err(Denied::Fault(self.fault))
     }
 
-    fn forget(&mut self, book: &str, upto: u64) -> Result<u64, Denied> {
-        if let Some(fault) = self.fault {
-            return Err(Denied::Fault(fault));
-        }
-        self.inner.forget(book, upto)
+    fn forget(&mut self, _book: &str, _upto: u64) -> Result<u64, Denied> {
+        Err(Denied::Fault(self.fault))
     }
 
-    fn kept_import(&mut self, book: &str, key: &str) -> Result<Option<ImportTally>, Denied> {
-        if let Some(fault) = self.fault {
-            return Err(Denied::Fault(fault));
-        }
-        self.inner.kept_import(book, key)
+    fn kept_import(&mut self, _book: &str, _key: &str) -> Result<Option<ImportTally>, Denied> {
+        Err(Denied::Fault(self.fault))
     }
 
-    fn import(&mut self, book: &str, key: &str, cards: &[Card]) -> Result<ImportTally, Denied> {
-        if let Some(fault) = self.fault {
-            return Err(Denied::Fault(fault));
-        }
-        self.inner.import(book, key, cards)
+    fn import(&mut self, _book: &str, _key: &str, _cards: &[Card]) -> Result<ImportTally, Denied> {
+        Err(Denied::Fault(self.fault))
     }
 
-    fn get(&mut self, book: &str, uid: &str) -> Result<Stored, Denied> {
-        if let Some(fault) = self.fault {
-            return Err(Denied::Fault(fault));
-        }
-        self.inner.get(book, uid)
+    fn get(&mut self, _book: &str, _uid: &str) -> Result<Stored, Denied> {
+        Err(Denied::Fault(self.fault))
     }
 
     fn books(&mut self) -> Result<Vec<BookLine>, Denied> {
-        if let Some(fault) = self.fault {
-            return Err(Denied::Fault(fault));
-        }
-        self.inner.books()
+        Err(Denied::Fault(self.fault))
     }
 
-    fn book(&mut self, name: &str) -> Result<BookLine, Denied> {
-        if let Some(fault) = self.fault {
-            return Err(Denied::Fault(fault));
-        }
-        self.inner.book(name)
+    fn book(&mut self, _name: &str) -> Result<BookLine, Denied> {
+        Err(Denied::Fault(self.fault))
     }
 
-    fn cards(&mut self, book: &str) -> Result<BTreeMap<String, Stored>, Denied> {
-        if let Some(fault) = self.fault {
-            return Err(Denied::Fault(fault));
-        }
-        self.inner.cards(book)
+    fn cards(&mut self, _book: &str) -> Result<BTreeMap<String, Stored>, Denied> {
+        Err(Denied::Fault(self.fault))
     }
 
-    fn tally(&mut self, book: &str) -> Result<Tally, Denied> {
-        if let Some(fault) = self.fault {
-            return Err(Denied::Fault(fault));
-        }
-        self.inner.tally(book)
+    fn tally(&mut self, _book: &str) -> Result<Tally, Denied> {
+        Err(Denied::Fault(self.fault))
     }
 
     fn report(
         &mut self,
-        book: &str,
-        token: Option<Token>,
-        limit: Option<u64>,
+        _book: &str,
+        _token: Option<Token>,
+        _limit: Option<u64>,
     ) -> Result<Page, Denied> {
-        if let Some(fault) = self.fault {
-            return Err(Denied::Fault(fault));
-        }
-        self.inner.report(book, token, limit)
+        Err(Denied::Fault(self.fault))
     }
 }

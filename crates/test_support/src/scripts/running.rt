@@ -3,9 +3,41 @@
 use crate::scripts::commands::parse_command;
 use crate::scripts::replies::format_reply;
 use base_types::NoMemory;
-use book_service::perform;
+use book_service::{Command, Event, Mirrored, Reply, drive, mirror, perform};
 use std::alloc::Global;
-use sync_core::BookStore;
+use sync_core::{BookStore, Denied, Device};
+
+/// The store's reply to the command. (What is proved of `perform` is long. Who calls this function
+/// learns nothing of it, and so is proved in less time.)
+pub fn reply_to<S: BookStore>(alloc: Global, store: &mut S, command: &Command) -> Reply {
+    perform(alloc, store, command)
+}
+
+/// The replies to the events, or `NoMemory` if one asks with a device that isn't in the list. (As
+/// with `reply_to`, who calls it learns nothing more.)
+pub fn replies_to_events<S: BookStore>(
+    alloc: Global,
+    store: &mut S,
+    devices: &mut Vec<Device>,
+    events: &[Event],
+) -> Result<Vec<Reply>, NoMemory> {
+    let count = devices.len();
+    if !events.iter().all(|event| event.is_within(count)) {
+        return Err(NoMemory);
+    }
+    drive(alloc, store, devices, events)
+}
+
+/// The mirror of the book. (As with `reply_to`, who calls it learns nothing more.)
+pub fn mirror_of<S: BookStore>(
+    alloc: Global,
+    store: &mut S,
+    book: &str,
+    limit: u64,
+    pages: u64,
+) -> Result<Mirrored, Denied> {
+    mirror(alloc, store, book, limit, pages)
+}
 
 /// The store's reply to the command of the line. (`Command` and `Reply` are large types. They are
 /// dropped by calls, so that the prover need not split on their variants at each exit.)
@@ -15,7 +47,7 @@ fn reply_to_line<S: BookStore>(
     line: &str,
 ) -> Result<String, NoMemory> {
     let command = parse_command(alloc, line)?;
-    let reply = perform(alloc, store, &command);
+    let reply = reply_to(alloc, store, &command);
     drop(command);
     let output = format_reply(alloc, &reply);
     drop(reply);

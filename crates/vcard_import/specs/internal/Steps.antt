@@ -1,7 +1,7 @@
 -- What the loop over the logical lines keeps. Public contracts don't cite it.
 use Rattle.std.specs.Prelude.{◌≡◌, Bool, false, ◌||◌, ◌&&◌, not, List, [], ◌++◌, codes}
 use Rattle.std.specs.Prelude.{find, Ok, Option}
-use Rattle.std.specs.List.{AllByRecursion}
+use Rattle.std.specs.List.{AllByRecursion, list_any}
 use Rattle.import_text.specs.declared.raw_line.RawLine.{RawLine}
 use Rattle.vcard_lines.specs.declared.line.Line.{Line}
 use Rattle.vcard_text.specs.Cards.{IsProperLine, has_line_named, line_is_named, is_uid, kind_of}
@@ -9,6 +9,9 @@ use Rattle.vcard_text.specs.FirstFaults.{is_group}
 use Rattle.vcard_text.specs.Making.{upper_lines}
 use Rattle.vcard_text.specs.MakingSteps.{check_lines_after}
 use Rattle.vcard_import.specs.Conversions.{Become}
+use Rattle.vcard_import.specs.Labels.{is_joined}
+use Rattle.vcard_import.specs.LeftOut.{has_left_out}
+use Rattle.vcard_import.specs.declared.change.Change.{Change}
 use Rattle.vcard_import.specs.declared.card_lines.CardLines.{CardLines}
 use Rattle.vcard_import.specs.declared.rules.Reading.{Reading}
 use Rattle.vcard_import.specs.declared.rules.Seen.{Seen}
@@ -50,13 +53,21 @@ pub record Makes (raws : List RawLine) (made : CardLines) : Type 0 where
   pub passed : ArePassed made.lines
   pub seen : IsSeen made.seen made.lines
 
+-- one of the changes says that a label is joined
+abbrev pub has_joined : List Change → Bool
+has_joined changes = list_any is_joined changes
+
 -- The logical lines were read after others: they become the lines that were added. The first UID
--- stays if none of them may be the card's.
+-- stays if none of them may be the card's; no line is left out or joined if none may be.
 pub record Extends (reading : Reading) (raws : List RawLine) (start end : CardLines) : Type 0 where
   pub makes : (before : List RawLine) → Makes before start → Makes (before ++ raws) end
   pub uid : reading.takes_uid ≡ false → found_uid end.lines ≡ found_uid start.lines
   pub members : reading.keeps_members ≡ false → has_line_named (codes "MEMBER") start.lines ≡ false
       → has_line_named (codes "MEMBER") end.lines ≡ false
+  pub whole : reading.leaves_out ≡ false → has_left_out start.changes ≡ false
+      → has_left_out end.changes ≡ false
+  pub unjoined : reading.joins ≡ false → has_joined start.changes ≡ false
+      → has_joined end.changes ≡ false
 
 -- the lines are a card but perhaps for their length
 pub record AreFaultless (lines : List Line) : Type 0 where

@@ -1,5 +1,6 @@
 // Books: the question for a name, a book with its numbers, a file to import.
 import { button, el, fill, newId } from "../dom.js";
+import { listOf } from "../files.js";
 import { count, number, t, timeText } from "../say.js";
 import { dialog } from "./dialogs.js";
 
@@ -38,8 +39,8 @@ async function octets(files) {
   return new Uint8Array(await whole.arrayBuffer());
 }
 
-/** Asks what to import. Answers the file's name and octets, or null. */
-export function askFile(book, run, files = null) {
+/** Asks what to import as it is; `why` says why. */
+export function askFile(book, run, files, why) {
   return dialog(t("importTitle", { book }), (close) => {
     const accept = ".csv,.vcf,text/csv,text/vcard";
     const file = el("input", { type: "file", accept, multiple: true, id: newId("file") });
@@ -61,7 +62,7 @@ export function askFile(book, run, files = null) {
       go.disabled = !ready.file;
     });
     if (files) {
-      file.files = files;
+      file.files = listOf(files);
       file.dispatchEvent(new Event("change"));
     }
     const work = async () => {
@@ -80,7 +81,8 @@ export function askFile(book, run, files = null) {
       go.disabled = true;
     };
     return [
-      el("p", {}, t("importText")),
+      el("p", {}, why),
+      el("p", { class: "hint" }, t("importOldText")),
       el("label", { for: file.id, class: "file" }, el("span", {}, t("importFile")), file),
       said,
       el("div", { class: "bar" }, go, end),
@@ -127,6 +129,7 @@ export function showBook(book, run) {
       el("div", { class: "doings" },
         doing(t("update"), run.update),
         run.import && doing(t("importFiles"), run.import),
+        run.last && doing(t("importLast"), run.last),
         doing(t("exportCards"), run.exportCards),
         doing(t("exportColumns"), run.exportColumns),
         doing(t("exportVcf"), run.exportVcf),

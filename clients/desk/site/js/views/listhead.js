@@ -23,8 +23,17 @@ export class ListHead {
       sort("name"), sort("family"),
       [t("select"), () => desk.list.marking(true)],
       [t("duplicates"), () => desk.duplicates.show()],
+      ...this.importing(),
       [t("print"), () => desk.actions.printList()],
     ], { class: "quiet round", "aria-label": t("listMenu"), title: t("listMenu") }));
+  }
+
+  /** Files go into the book that the list is of. */
+  importing() {
+    const { chosen, books, filter, actions } = this.desk;
+    const book = chosen || (books.length === 1 ? books[0].name : "");
+    if (filter || !this.desk.mayChange(book)) return [];
+    return [[t("importFiles"), () => actions.files.import(book)]];
   }
 
   /** Shows something else. Who has come to a button by keyboard stays there. */

@@ -12,7 +12,7 @@ returns-clause-files c = (refl, refl, refl, refl, refl)
 
 pub returns-clause-conversions : goal.returns-clause-conversions
 unfolding clap_on_literals
-returns-clause-conversions c = (refl, refl, refl, refl, refl, refl)
+returns-clause-conversions c = (refl, refl, refl, refl, refl, refl, refl, refl, refl, refl)
 
 pub returns-clause-versions : goal.returns-clause-versions
 unfolding clap_on_literals
@@ -57,6 +57,10 @@ returns-clause-logs c = (refl, refl, refl, refl)
 pub returns-clause-forms : goal.returns-clause-forms
 unfolding clap_on_literals
 returns-clause-forms c = (refl, refl)
+
+pub returns-clause-cards : goal.returns-clause-cards
+unfolding clap_on_literals
+returns-clause-cards c = (refl, refl, refl, refl, refl, refl)
 
 pub returns-clause-numbers : goal.returns-clause-numbers
 unfolding clap_on_literals

@@ -1,4 +1,4 @@
-use Rattle.std.proofs.Common.{◌≡◌, ◌+◌, ◌∙◌, ◌++◌, [], ap, get_or, subst, arith, length, drop}
+use Rattle.std.proofs.Common.{◌≡◌, ◌+◌, ◌∙◌, ◌++◌, [], ap, get_or, arith, drop}
 use Rattle.std.proofs.lemmas.List.{get_or_default}
 use Rattle.contact_csv.specs.Carrying.{column_at}
 use Rattle.contact_csv.specs.RowUids.{cell_octets, octets_from}
@@ -11,9 +11,8 @@ loop-place-preserved c =
     let cells = c.args.cells.now in
     let place = c.loop-place.place in
     let text : c.as_str-text.result.now ≡ get_or cells place [] = c.as_str-text.ensures ∙ c.index-cells-place.is ∙ get_or_default cells place _ [] c.loop-place-test.true in
-    let name : c.as_str-name.result.now ≡ (column_at columns place).name = c.as_str-name.ensures ∙ ap (λ column. column.name) c.column_at.ensures in
-    let pushed : c.push_cell.new.octets.items ≡ c.loop-place.octets.items ++ cell_octets (column_at columns place).name (get_or cells place []) =
-    c.in_ok-push_cell.ensures ∙ ap (λ n. c.loop-place.octets.items ++ cell_octets n c.as_str-text.result.now) name ∙ ap (λ t. c.loop-place.octets.items ++ cell_octets (column_at columns place).name t) text in
+    let pushed : c.push_cell.new.octets.items ≡ c.loop-place.octets.items ++ cell_octets (column_at columns place) (get_or cells place []) =
+    c.in_ok-push_cell.ensures ∙ ap (λ column. c.loop-place.octets.items ++ cell_octets column c.as_str-text.result.now) c.column_at-column.ensures ∙ ap (λ t. c.loop-place.octets.items ++ cell_octets (column_at columns place) t) text in
     ap (λ l. l ++ octets_from columns (place + 1) (drop (place + 1) cells)) pushed
     ∙ more_octets columns cells place c.loop-place.octets.items (octets_from columns 0 cells) c.loop-place-test.true c.loop-place.invariant
 

@@ -9,7 +9,7 @@ use Rattle.store_tables.specs.Tables.{book_schema}
 use Rattle.store_tables.proofs.Lookups.{plain_under, reads_on, moved_leaves, refused_reads, begun_reads}
 use Rattle.store_tables.proofs.Queries.{all_members_text}
 use Rattle.store_tables.proofs.ReturningLemmas.{shown_open}
-use Rattle.store_tables.proofs.Texts.{all_members_is}
+use Rattle.store_tables.proofs.Texts.{all_members_is, all_members_selects}
 use Rattle.store_check.specs.MemberScans.{DoesTake}
 use Rattle.store_check.proofs.ScanLemmas.{all_listed, first_listed, none_taken, one_more_taken, scanned_all, scanned_part}
 use Rattle.store_check.proofs.scanning.scan_members.Goals as goal
@@ -17,7 +17,7 @@ use Rattle.store_check.proofs.scanning.scan_members.Goals as goal
 pub returns-in_err-rows-clause-reads_only : goal.returns-in_err-rows-clause-reads_only
 returns-in_err-rows-clause-reads_only g c =
     let held = rw c.in_err-rows.was at c.query.follows.holds-at-none in
-    refused_reads all_members_text _ (state g.S.Store c.args.conn.now) (state g.S.Store c.query.follows.lender-at-none) c.in_err-rows.field-0.0 all_members_is.2 held.err held.mode held.survives
+    refused_reads all_members_text _ (state g.S.Store c.args.conn.now) (state g.S.Store c.query.follows.lender-at-none) c.in_err-rows.field-0.0 all_members_selects all_members_is.2 held.err held.mode held.survives
 
 pub rows-init : goal.rows-init
 rows-init g c =
@@ -26,7 +26,7 @@ rows-init g c =
     let new = state g.S.Store c.in_ok-rows.rows.conn.now in
     let begun = λ (clean : HasCleanDisk new) (has : old.now.schema ≡ book_schema). begun_plain g.S.Store all_members_text [] c.args.conn.now c.in_ok-rows.rows.conn.now (plain_under all_members_text old book_schema has all_members_is.2) (made.begun clean) in (
       refl,
-      begun_reads all_members_text [] old new all_members_is.2 (λ clean. elim (made.begun clean) [ inl h ↦ h.1.0.was_open | inr h ↦ shown_open all_members_text [] old new _ h.1 ]) (λ clean has. (begun clean has).1) made.mode made.survives,
+      begun_reads all_members_text [] old new all_members_selects all_members_is.2 (λ clean. elim (made.begun clean) [ inl h ↦ h.1.0.was_open | inr h ↦ shown_open all_members_text [] old new _ h.1 ]) (λ clean has. (begun clean has).1) made.mode made.survives,
       λ clean has. ([], (begun clean has).0, (begun clean has).1, none_taken c.args.tallies.now),
     )
 

@@ -2,7 +2,7 @@ use Rattle.std.proofs.Common.{pos, w64}
 use Rattle.std.proofs.Math.Facts.{to_z-of_z}
 use Rattle.sqlite.specs.Held.{state}
 use Rattle.store_tables.proofs.Queries.{due_text}
-use Rattle.store_tables.proofs.Texts.{due_is}
+use Rattle.store_tables.proofs.Texts.{due_is, due_selects}
 use Rattle.store_tables.proofs.DueLemmas.{due_first}
 use Rattle.store_tables.proofs.Lookups.{all_reads, all_unchanged}
 use Rattle.store_tables.proofs.QueryFailures.{first_due_fails}
@@ -15,7 +15,7 @@ returns-clause-first g c ms clean has rows =
     at (c.query_all.ensures.ok clean))
 
 pub returns-clause-reads_only : goal.returns-clause-reads_only
-returns-clause-reads_only g c = all_reads due_text _ (state g.S.Store c.args.conn.now) (state g.S.Store c.query_all.new.self) c.query_all.result due_is.2 c.query_all.ensures.ok c.query_all.ensures.err c.query_all.ensures.mode c.query_all.ensures.survives
+returns-clause-reads_only g c = all_reads due_text _ (state g.S.Store c.args.conn.now) (state g.S.Store c.query_all.new.self) c.query_all.result due_selects due_is.2 c.query_all.ensures.ok c.query_all.ensures.err c.query_all.ensures.mode c.query_all.ensures.survives
 
 pub returns-clause-unchanged : goal.returns-clause-unchanged
 returns-clause-unchanged g c clean has = all_unchanged due_text _ (state g.S.Store c.args.conn.now) (state g.S.Store c.query_all.new.self) c.query_all.result due_is.2 has (c.query_all.ensures.ok clean)

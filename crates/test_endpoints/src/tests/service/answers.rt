@@ -29,6 +29,9 @@ fn answers_single_requests(rt: HostRuntime) {
     let created = answer_put(&rt, alloc, &mut store, "/books/staff");
     assert_eq!(rt; created.as_str(), "HTTP/1.1 201 Created");
     assert!(rt; store.book("staff").is_ok());
-    let lost = answer_put(&rt, alloc, &mut store, "/staff");
-    assert_eq!(rt; lost.as_str(), "HTTP/1.1 404 Not Found");
+    // The second target is one that no request has.
+    for target in ["/staff", ""] {
+        let lost = answer_put(&rt, alloc, &mut store, target);
+        assert_eq!(rt; lost.as_str(), "HTTP/1.1 404 Not Found");
+    }
 }

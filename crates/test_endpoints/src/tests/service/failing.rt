@@ -1,53 +1,83 @@
-//! A store that returns a fault from each call. (`test_rows` tests the replies over HTTP.)
-use super::{drive_script, new_devices};
-use book_service::mirror;
+//! A device that asks a store that returns a fault from each call, and one that asks a store which
+//! is behind. (`test_faults` tests the replies of such a store over HTTP.)
+use super::new_store;
+use book_service::{Event, Reply};
 use std::alloc::Global;
 use std::process::Abort;
-use sync_core::{Denied, Fault};
-use test_support::scripts::{FailingStore, run_script};
+use sync_core::{BookStore, Denied, Device, Fault};
+use test_support::scripts::{FailingStore, format_reply, mirror_of, replies_to_events, run_script};
 
-/// A store with the book `staff` and the card `a`, which returns the fault from now on.
-fn failing_store(rt: &impl Abort, alloc: Global, fault: Fault) -> FailingStore {
-    let mut store = FailingStore::new(alloc);
-    run_script(alloc, &mut store, "create staff\ncard staff a FN:Ann").expect(rt, "replies");
-    store.set_fault(Some(fault));
-    store
+/// A device of the book `staff`.
+fn device_of_staff(rt: &impl Abort, alloc: Global) -> Vec<Device> {
+    let mut devices = Vec::new(alloc);
+    let device = Device::new(alloc, "staff").expect(rt, "memory");
+    devices.push(device).expect(rt, "memory");
+    devices
 }
 
-/// Each command once.
-const COMMANDS: &str = "create clients
-card staff b FN:Bob
-put staff b - BEGIN:VCARD
-remove staff a
-move staff a staff
-get staff a
-books
-tally staff
-forget staff 0
-import staff k uid,fn,family,given,email,tel,org,note\\nb,Bob,,,,,,
-export staff cards
-export staff columns
-people staff a
-report staff -";
+/// A device that asks.
+fn asks(rt: &impl Abort, alloc: Global) -> Vec<Event> {
+    let ask = Event::Ask {
+        device: 0,
+        limit: None,
+    };
+    let mut events = Vec::new(alloc);
+    events.push(ask).expect(rt, "memory");
+    events
+}
 
-/// Asserts that each command, a device and a mirror get the fault, and that the books are
-/// unchanged.
-fn assert_passes_on(rt: &impl Abort, alloc: Global, fault: Fault, expected: &str) {
-    let mut store = failing_store(rt, alloc, fault);
-    let mut devices = new_devices(rt, alloc, &["staff"]);
-    for event in COMMANDS.lines().chain("ask 0".lines()) {
-        let output = drive_script(rt, alloc, &mut store, &mut devices, event);
-        assert_eq!(rt; output.as_str(), expected, "{event}");
-    }
-    let denied = mirror(alloc, &mut store, "staff", 1, 1).err();
+/// The reply to the device that asks the store.
+fn reply_of<S: BookStore>(
+    rt: &impl Abort,
+    alloc: Global,
+    store: &mut S,
+    devices: &mut Vec<Device>,
+) -> Option<Reply> {
+    let events = asks(rt, alloc);
+    let replies = replies_to_events(alloc, store, devices, events.as_slice());
+    replies.expect(rt, "replies").pop()
+}
+
+/// Asserts that a device and a mirror get the fault.
+fn assert_passes_on(rt: &impl Abort, alloc: Global, fault: Fault) {
+    let mut store = FailingStore::new(fault);
+    let mut devices = device_of_staff(rt, alloc);
+    let reply = reply_of(rt, alloc, &mut store, &mut devices);
+    assert_eq!(rt; reply, Some(Reply::Fault(fault)));
+    let denied = mirror_of(alloc, &mut store, "staff", 1, 1).err();
     assert_eq!(rt; denied, Some(Denied::Fault(fault)));
-    store.set_fault(None);
-    let output = run_script(alloc, &mut store, "tally staff").expect(rt, "a reply");
-    assert!(rt; output.as_str().contains("number 1 "));
 }
 
 #[test]
 fn a_store_fault_is_passed_on(rt: HostRuntime) {
-    assert_passes_on(&rt, rt.alloc(), Fault::Store, "fault 19\n");
-    assert_passes_on(&rt, rt.alloc(), Fault::Memory, "fault 20\n");
+    assert_passes_on(&rt, rt.alloc(), Fault::Store);
+    assert_passes_on(&rt, rt.alloc(), Fault::Memory);
+}
+
+/// Asserts how the reply to the device that asks begins, over a new store with these commands.
+fn assert_asks(
+    rt: &impl Abort,
+    alloc: Global,
+    devices: &mut Vec<Device>,
+    commands: &str,
+    expected: &str,
+) {
+    let mut store = new_store(alloc);
+    run_script(alloc, &mut store, commands).expect(rt, "memory");
+    let reply = reply_of(rt, alloc, &mut store, devices).expect(rt, "a reply");
+    let line = format_reply(alloc, &reply).expect(rt, "memory");
+    assert!(rt; line.as_str().starts_with(expected), "{line}");
+}
+
+/// The device of a book with two changes asks another store, whose book has one: its token is too
+/// new. It drops the token, and so gets the whole book then.
+#[test]
+fn a_device_drops_a_refused_token(rt: HostRuntime) {
+    let alloc = rt.alloc();
+    let mut devices = device_of_staff(&rt, alloc);
+    let two = "create staff\ncard staff a FN:Ann\nremove staff a";
+    let one = "create staff\ncard staff z FN:Zoe";
+    assert_asks(&rt, alloc, &mut devices, two, "page 1/2/2");
+    assert_asks(&rt, alloc, &mut devices, one, "refused 10 cause 3");
+    assert_asks(&rt, alloc, &mut devices, one, "page 1/1/1 | z 1 ");
 }

@@ -1,6 +1,6 @@
 use Rattle.sqlite.specs.Held.{state}
 use Rattle.store_writes.proofs.CallLemmas.{read_before}
-use Rattle.book_store.proofs.CopyLemmas.{confirmed_if, confirmed_shows, confirmed_survives}
+use Rattle.book_store.proofs.CopyLemmas.{confirmed_if, confirmed_shows}
 use Rattle.book_store.proofs.CountLemmas.{still_counts}
 use Rattle.book_store.proofs.StoreLemmas.{still_store}
 use Rattle.book_store.proofs.sql_store.SqlStore.holds.Goals as goal
@@ -22,4 +22,4 @@ pub returns-clause-shows : goal.returns-clause-shows
 returns-clause-shows g c = rw (← c.self.view_is) (confirmed_shows (state g.T.Store c.self.inside.conn) (state g.T.Store c.holds_rows.new.conn) c.self.inside.limits c.self.invariant.0 c.holds_rows.ensures.reads_only)
 
 pub returns-clause-survives : goal.returns-clause-survives
-returns-clause-survives g c = rw (← c.self.view_is) (confirmed_survives (state g.T.Store c.self.inside.conn) (state g.T.Store c.holds_rows.new.conn) c.self.inside.limits c.self.invariant.0 c.holds_rows.ensures.reads_only)
+returns-clause-survives g c = rw (← c.self.view_is) (λ order. c.holds_rows.ensures.reads_only.survives)

@@ -1,0 +1,6 @@
+//! The calls of a store of books that only administrators need.
+#![tactic(auto)]
+
+mod calls;
+
+pub use calls::AdminStore;

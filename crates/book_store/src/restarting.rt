@@ -1,0 +1,62 @@
+//! The end of a run of a store in files, and the opening by the next run.
+ghost use Rattle.book_model.specs.Books.{Books};
+ghost use Rattle.book_store.specs.Restarts.{HoldsStore};
+ghost use Rattle.database_files.specs.Restarts.{LeaveOneOf};
+ghost use Rattle.sqlite.specs.Files.{IsCleanLeft, file_state, image_of};
+ghost use Rattle.sqlite.specs.State.{HasCleanDisk};
+ghost use Rattle.sqlite.specs.WalReads.{AreClean};
+ghost use Rattle.store_lookups.specs.StoredBooks.{IsOpenOnHonestDisk, stored_books};
+ghost use Rattle.store_schema.specs.OpenFaults.{IsErrorFault};
+ghost use Rattle.store_writes.specs.TableChanges.{TreesHold};
+ghost use Rattle.std.specs.Prelude.{◌≡◌, IfErr, IfOk, IsTrue};
+
+use crate::laws::stores_survive_crashes;
+use crate::sql_store::SqlStore;
+use book_model::Limits;
+use database_files as runs;
+use sqlite::{FileStore, Files, Leftover, Options};
+use sqlite_disk::Disk;
+use std::alloc::Global;
+use store_schema::{OpenFault, open_fault_of};
+
+impl<D: Disk + Drop> SqlStore<FileStore<D>> {
+    /// Ends the use of the store without writing, and returns its files. Whatever a crash leaves of
+    /// them holds the books of the store, if its connection was open and the disk had returned what
+    /// was written.
+    pub fn into_files(self) -> Files<D>
+        ensures books { IsOpenOnHonestDisk (file_state self.conn) → LeaveOneOf D.Disk result
+            (TreesHold (stored_books (file_state self.conn))) }
+        ensures clean { AreClean D.Disk result.log result.db → HasCleanDisk (file_state self.conn) }
+    {
+        stores_survive_crashes::<FileStore<D>>();
+        runs::into_files(self.into_connection())
+    }
+
+    /// Opens the store that an earlier run left in its files.
+    ///
+    /// If they hold a store, it has their books. Then an opening fails only with `Memory` if memory
+    /// runs out, and with `Store` for an error of the database.
+    pub fn open_again(
+        alloc: Global,
+        files: Files<D>,
+        options: Options,
+        limits: Limits,
+    ) -> Result<SqlStore<FileStore<D>>, (OpenFault, Leftover<D>)>
+        requires log { IsTrue (D.Disk.is_usable files.log) }
+        requires db { IsTrue (D.Disk.is_usable files.db) }
+        ensures limits { IfOk result (λ store. store.limits ≡ limits) }
+        ensures opens { (books : Books) → HoldsStore (image_of D.Disk files) books
+            → IfOk result (λ store. IsOpenOnHonestDisk (file_state store.conn)
+            → stored_books (file_state store.conn) ≡ books) }
+        ensures fault { (books : Books) → HoldsStore (image_of D.Disk files) books
+            → IfErr result (λ refused. IsCleanLeft refused.1 → IsErrorFault refused.0) }
+    {
+        match runs::open_again(alloc, files, options) {
+            Ok(connection) => match SqlStore::try_adopt(alloc, connection, limits) {
+                Ok(store) => Ok(store),
+                Err((fault, connection)) => Err((fault, Leftover::Store(connection.into_store()))),
+            },
+            Err((error, left)) => Err((open_fault_of(error), left)),
+        }
+    }
+}

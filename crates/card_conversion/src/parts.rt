@@ -1,0 +1,76 @@
+//! `Parts`: what is said of one card in one line of the report.
+
+use crate::reporting::Weight;
+use base_types::NoMemory;
+use std::alloc::Global;
+use vcard_text::Line;
+
+/// The most parts of a line that are shown. A card may have any number of them.
+const PARTS_MAX: u64 = 8;
+
+/// The parts of a line, with semicolons between them, and how much they matter.
+#[derive(Drop)]
+pub(crate) struct Parts {
+    text: String,
+    count: u64,
+    pub(crate) weight: Weight,
+}
+
+impl Parts {
+    pub(crate) fn new(alloc: Global) -> Parts {
+        Parts {
+            text: String::new(alloc),
+            count: 0,
+            weight: Weight::Moved,
+        }
+    }
+
+    pub(crate) fn is_empty(&self) -> bool {
+        self.count == 0
+    }
+
+    /// Adds a part.
+    pub(crate) fn add(&mut self, weight: Weight, words: &str) -> Result<(), NoMemory> {
+        if self.count < PARTS_MAX {
+            if self.count > 0 {
+                self.text.push_str("; ")?;
+            }
+            self.text.push_str(words)?;
+        }
+        self.count = self.count.saturating_add(1);
+        self.weight = self.weight.max(weight);
+        Ok(())
+    }
+
+    /// The parts, and how many more there are.
+    pub(crate) fn text(&self, alloc: Global) -> Result<String, NoMemory> {
+        let text = self.text.as_str();
+        if self.count <= PARTS_MAX {
+            return Ok(String::from_str(alloc, text)?);
+        }
+        let more = self.count.saturating_sub(PARTS_MAX);
+        Ok(format!(in alloc; "{text}; and {more} more")?)
+    }
+}
+
+/// What stands for a character that couldn't be read.
+const LOST: &str = "\u{FFFD}";
+
+/// The name of the first line that has a character that couldn't be read.
+fn lost_name(lines: &[Line]) -> Option<&str> {
+    let place = lines
+        .iter()
+        .position(|line| line.value.as_str().contains(LOST))?;
+    let line = lines.get(place)?;
+    Some(line.name.as_str())
+}
+
+/// The words for a card that has characters that couldn't be read.
+pub(crate) fn lost_words(alloc: Global, lines: &[Line]) -> Result<Option<String>, NoMemory> {
+    match lost_name(lines) {
+        Some(name) => Ok(Some(format!(in alloc;
+            "{name} has U+FFFD in place of characters that couldn't be read"
+        )?)),
+        None => Ok(None),
+    }
+}

@@ -1,5 +1,0 @@
-use Rattle.cli_args.specs.Subcommands.{export_command}
-use Rattle.cli_args.proofs.subcommands.export_command.Goals as goal
-
-pub returns : goal.returns
-returns c = c.order_command.ensures export_command.rules (rw c.in_ok-from_array.ensures.items (c.file_arg.ensures, (c.book_arg.ensures, (c.option_arg-form.ensures, tt))))

@@ -1,0 +1,147 @@
+//! `CharsetReader`: reads a file in a named character set as UTF-8.
+
+use base_types::NoMemory;
+use import_text::{Charset, charset_named, read_charset};
+use std::alloc::Global;
+use std::io;
+use std::io::{Error, ErrorKind, Read};
+
+/// The number of octets that are read at once.
+const CHUNK_OCTETS: usize = 4096;
+
+/// How the text of a file is encoded.
+#[derive(Clone, Copy)]
+pub(crate) enum Encoding {
+    /// As its first octets say: UTF-8, UTF-16, or else Windows-1252.
+    Found,
+    /// UTF-8.
+    Utf8,
+    /// UTF-16, whose byte order mark, or else its first octets, say the order.
+    Utf16,
+    /// UTF-16 with the less significant octet first.
+    Utf16Little,
+    /// UTF-16 with the more significant octet first.
+    Utf16Big,
+    /// One octet for each character.
+    Octets(Charset),
+}
+
+fn is_named(name: &str, one: &str, other: &str) -> bool {
+    name.eq_ignore_ascii_case(one) || name.eq_ignore_ascii_case(other)
+}
+
+/// The encoding of this name, in any case; without a name the one that is found. `None` if the name
+/// isn't known. The only `Err` is out of memory.
+pub(crate) fn encoding_named(
+    alloc: Global,
+    name: Option<&str>,
+) -> Result<Option<Encoding>, NoMemory> {
+    let Some(name) = name else {
+        return Ok(Some(Encoding::Found));
+    };
+    if is_named(name, "UTF-8", "UTF8") {
+        return Ok(Some(Encoding::Utf8));
+    }
+    if is_named(name, "UTF-16", "UTF16") {
+        return Ok(Some(Encoding::Utf16));
+    }
+    if is_named(name, "UTF-16LE", "UTF16LE") {
+        return Ok(Some(Encoding::Utf16Little));
+    }
+    if is_named(name, "UTF-16BE", "UTF16BE") {
+        return Ok(Some(Encoding::Utf16Big));
+    }
+    match charset_named(alloc, name)? {
+        Some(charset) => Ok(Some(Encoding::Octets(charset))),
+        None => Ok(None),
+    }
+}
+
+/// The mark of the order that the first octets show, if these are UTF-16 of ASCII; else empty.
+fn shown_mark(front: &[u8]) -> &'static [u8] {
+    match front {
+        [a, 0, b, 0] if *a != 0 && *b != 0 => b"\xFF\xFE",
+        [0, a, 0, b] if *a != 0 && *b != 0 => b"\xFE\xFF",
+        _ => b"",
+    }
+}
+
+/// Whether the octets begin with a byte order mark of UTF-16.
+fn has_mark(front: &[u8]) -> bool {
+    front.starts_with(b"\xFF\xFE") || front.starts_with(b"\xFE\xFF")
+}
+
+impl Encoding {
+    /// The byte order mark that a file in UTF-16 lacks that begins with these octets. Empty for any
+    /// other file.
+    pub(crate) fn missing_mark(self, front: &[u8]) -> &'static [u8] {
+        if has_mark(front) {
+            return b"";
+        }
+        match self {
+            Encoding::Found => shown_mark(front),
+            Encoding::Utf16 if shown_mark(front).is_empty() => b"\xFE\xFF",
+            Encoding::Utf16 => shown_mark(front),
+            Encoding::Utf16Little => b"\xFF\xFE",
+            Encoding::Utf16Big => b"\xFE\xFF",
+            Encoding::Utf8 | Encoding::Octets(_) => b"",
+        }
+    }
+
+    /// The character set, if each octet is a character.
+    pub(crate) fn charset(self) -> Option<Charset> {
+        match self {
+            Encoding::Octets(charset) => Some(charset),
+            _ => None,
+        }
+    }
+}
+
+/// Reads a file as it is, or one in a character set as UTF-8.
+#[derive(Drop)]
+pub(crate) struct CharsetReader<R> {
+    pub(crate) alloc: Global,
+    pub(crate) reader: R,
+    /// The character set, if each octet is a character.
+    pub(crate) charset: Option<Charset>,
+    /// The text of the octets that were read, of which those from `start` weren't given on yet.
+    pub(crate) text: String,
+    pub(crate) start: usize,
+}
+
+impl<R: Read + Drop> CharsetReader<R> {
+    /// The octets that weren't given on yet.
+    fn unread(&self) -> &[u8] {
+        self.text.as_bytes().get(self.start..).unwrap_or(&[])
+    }
+
+    /// Reads some octets. There are none at the end of the source.
+    fn read_more(&mut self, charset: Charset) -> io::Result<()> {
+        let mut chunk = [0; CHUNK_OCTETS];
+        let count = self.reader.read(&mut chunk)?;
+        let octets = chunk.get(..count).unwrap_or(&[]);
+        match read_charset(self.alloc, charset, octets) {
+            Ok(text) => {
+                self.text = text;
+                self.start = 0;
+                Ok(())
+            }
+            Err(_) => Err(Error::from(ErrorKind::OutOfMemory)),
+        }
+    }
+}
+
+impl<R: Read + Drop> Read for CharsetReader<R> {
+    fn read(&mut self, buf: &mut [u8]) -> io::Result<usize> {
+        let Some(charset) = self.charset else {
+            return self.reader.read(buf);
+        };
+        if self.unread().is_empty() {
+            self.read_more(charset)?;
+        }
+        let mut unread = self.unread();
+        let count = unread.read(buf)?;
+        self.start = self.start.saturating_add(count);
+        Ok(count)
+    }
+}

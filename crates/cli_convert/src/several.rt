@@ -1,0 +1,136 @@
+//! Converts one file, and others after it.
+ghost use Rattle.std.specs.Prelude.{◌≡◌, ◌+◌, ℕ, List, IfOk, OnOk, length};
+ghost use Rattle.card_conversion.specs.Courses.{ConvertsPart, Knows, Part};
+ghost use Rattle.cli_convert.specs.Endings.{Converts};
+
+use crate::content::Content;
+use crate::exit::{ConvertStop, no_second_reading, stop_of};
+use crate::opening::{is_file, open_file, read_content, text_after, wanted_encoding, with_dates};
+use crate::sources::convert_to;
+use crate::wanted::Wanted;
+use base_types::Text;
+use card_conversion::{
+    ConversionFault, Course, LineEnds, Outlet, Report, Summary, ends_with_returns,
+};
+use std::alloc::Global;
+use std::fs::Files;
+use std::io::{Chain, Read, Write};
+
+/// The number of octets before what is converted.
+fn start_of(content: Content<'_>) -> usize {
+    match content {
+        Content::Contacts(header) => header.start,
+        _ => 0,
+    }
+}
+
+/// Whether the file has cards, or what is no card.
+fn is_of_cards(content: Content<'_>) -> bool {
+    matches!(content, Content::Cards)
+}
+
+/// What is converted of a file: its head, and what `reader` has after it.
+pub(crate) fn content_text<'a, R: Read>(
+    head: &'a [u8],
+    content: Content<'_>,
+    reader: R,
+) -> LineEnds<Chain<&'a [u8], R>> {
+    let are_returns = is_of_cards(content) && ends_with_returns(head);
+    let reader = head.get(start_of(content)..).unwrap_or(&[]).chain(reader);
+    LineEnds {
+        reader,
+        are_returns,
+    }
+}
+
+/// Fails if a file can't be converted: it can't be read, or isn't known, or not which number of its
+/// dates is the day; or it can't be read twice.
+fn check_file<F: Files>(alloc: Global, files: &F, wanted: Wanted<'_>) -> Result<(), ConvertStop> {
+    let encoding = wanted_encoding(alloc, wanted)?;
+    let (front, file) = open_file(alloc, files, wanted.file)?;
+    if !is_file(files, wanted.file) {
+        return Err(no_second_reading(alloc, wanted.file));
+    }
+    let mut text = text_after(alloc, wanted.file, encoding, front.as_slice(), file)?;
+    let (_head, content) = read_content(alloc, wanted, &mut text)?;
+    let _dated = with_dates(alloc, files, wanted, content)?;
+    Ok(())
+}
+
+/// Fails if one of the files that come after the first can't be converted.
+pub(crate) fn check_more<F: Files>(
+    alloc: Global,
+    files: &F,
+    wanted: Wanted<'_>,
+) -> Result<(), ConvertStop> {
+    for file in wanted.more {
+        check_file(alloc, files, wanted.of_file(file.as_str()))?;
+    }
+    Ok(())
+}
+
+/// Converts the text of one more file. Its name stands before each line of the report, if there are
+/// several files.
+fn convert_content<F: Files, R: Read + Drop, O: Outlet, E: Write>(
+    alloc: Global,
+    course: &mut Course,
+    wanted: Wanted<'_>,
+    content: Content<'_>,
+    text: R,
+    outlet: &mut O,
+    report: &mut Report<E, F::File>,
+) -> Result<(), ConvertStop>
+    ensures { OnOk result ((uids : List (List ℕ)) → Knows course.old uids → (part : Part)
+        × ConvertsPart O.writes part uids course.old course.new outlet.old outlet.new) }
+{
+    if !wanted.more.is_empty() {
+        report.set_source(alloc, wanted.file)?;
+    }
+    match convert_to(alloc, course, content, text, outlet, report) {
+        Ok(()) => Ok(()),
+        Err(fault) => Err(stop_of(alloc, fault, wanted.file)),
+    }
+}
+
+/// Opens one more file and converts it.
+fn convert_next<F: Files, O: Outlet, E: Write>(
+    alloc: Global,
+    files: &F,
+    course: &mut Course,
+    wanted: Wanted<'_>,
+    outlet: &mut O,
+    report: &mut Report<E, F::File>,
+) -> Result<(), ConvertStop>
+    ensures { OnOk result ((uids : List (List ℕ)) → Knows course.old uids → (part : Part)
+        × ConvertsPart O.writes part uids course.old course.new outlet.old outlet.new) }
+{
+    let encoding = wanted_encoding(alloc, wanted)?;
+    let (front, file) = open_file(alloc, files, wanted.file)?;
+    let mut reader = text_after(alloc, wanted.file, encoding, front.as_slice(), file)?;
+    let (head, content) = read_content(alloc, wanted, &mut reader)?;
+    let content = with_dates(alloc, files, wanted, content)?;
+    let text = content_text(head.as_slice(), content, reader);
+    convert_content::<F, _, O, E>(alloc, course, wanted, content, text, outlet, report)
+}
+
+/// Converts the text of the first file, and then all files after it.
+pub(crate) fn convert_all<F: Files, R: Read + Drop, O: Outlet, E: Write>(
+    alloc: Global,
+    files: &F,
+    wanted: Wanted<'_>,
+    content: Content<'_>,
+    text: R,
+    outlet: &mut O,
+    report: &mut Report<E, F::File>,
+) -> Result<Summary, ConvertStop>
+    ensures { IfOk result (λ summary. Converts O.writes (length wanted.entry.more.now + 1)
+        outlet.old outlet.new summary) }
+{
+    let mut course = Course::new(alloc);
+    convert_content::<F, R, O, E>(alloc, &mut course, wanted, content, text, outlet, report)?;
+    for file in wanted.more {
+        let next = wanted.of_file(file.as_str());
+        convert_next(alloc, files, &mut course, next, outlet, report)?;
+    }
+    Ok(course.summary())
+}

@@ -1,0 +1,140 @@
+//! What to say of columns that aren't known, to begin with.
+
+use crate::columns::{column_names, columns_of, has_names, lower};
+use crate::header::{DELIMITERS, first_row};
+use std::alloc::Global;
+use vcard_text::{Items, NoMemory, Text};
+
+/// Parts of names of columns, and what columns with such names mostly become.
+const GUESSES: &[(&str, &str)] = &[
+    ("mail", "email"),
+    ("fax", "tel;type=fax"),
+    ("mobil", "tel;type=cell"),
+    ("handy", "tel;type=cell"),
+    ("cell", "tel;type=cell"),
+    ("tel", "tel"),
+    ("phone", "tel"),
+    ("phon", "tel"),
+    ("vorname", "n.given"),
+    ("first", "n.given"),
+    ("given", "n.given"),
+    ("nachname", "n.family"),
+    ("last", "n.family"),
+    ("family", "n.family"),
+    ("firma", "org"),
+    ("company", "org"),
+    ("organi", "org"),
+    ("name", "fn"),
+    ("stra", "adr.street"),
+    ("street", "adr.street"),
+    ("plz", "adr.code"),
+    ("zip", "adr.code"),
+    ("postal", "adr.code"),
+    ("city", "adr.city"),
+    ("stadt", "adr.city"),
+    ("geb", "bday"),
+    ("birth", "bday"),
+    ("web", "url"),
+    ("notiz", "note"),
+    ("bemerk", "note"),
+    ("comment", "note"),
+];
+
+/// What a column of this name may become.
+fn guess(alloc: Global, name: &str) -> Result<Option<&'static str>, NoMemory> {
+    let name = lower(alloc, name)?;
+    for (part, word) in GUESSES {
+        if name.as_str().contains(*part) {
+            return Ok(Some(*word));
+        }
+    }
+    Ok(None)
+}
+
+/// Whether the character may stand in the name of a column in an option between single quotes.
+fn is_plain(c: char) -> bool {
+    c != ',' && c != '=' && c != '\'' && !c.is_ascii_control()
+}
+
+/// Whether the column is written by its name, and not by its number.
+fn is_written(name: &str) -> bool {
+    !name.is_empty() && !name.starts_with("#") && name.chars().all(is_plain)
+}
+
+/// Appends what the column becomes.
+pub(crate) fn push_entry(
+    alloc: Global,
+    text: &mut String,
+    place: usize,
+    name: &str,
+    word: &str,
+) -> Result<(), NoMemory> {
+    if !text.is_empty() {
+        text.push(',')?;
+    }
+    let number = (place as u64).saturating_add(1);
+    let entry = if is_written(name) {
+        format!(in alloc; "{name}={word}")?
+    } else {
+        format!(in alloc; "#{number}={word}")?
+    };
+    text.push_str(entry.as_str())?;
+    Ok(())
+}
+
+/// Whether the word is one for a name or an organization.
+fn names_someone(word: &str) -> bool {
+    word == "fn" || word.starts_with("n.") || word.starts_with("org")
+}
+
+/// What to say of the columns of these names: a guess for each that isn't known. If none has names,
+/// the first one for which there is no guess has them.
+fn suggestion_for(alloc: Global, names: &[Text]) -> Result<String, NoMemory> {
+    let read = columns_of(alloc, names, &[])?;
+    let columns = read.columns.as_slice();
+    let mut is_named = has_names(read.slots.as_slice());
+    let mut free: Option<usize> = None;
+    let mut text = String::new(alloc);
+    for place in 0..columns.len() {
+        let name = columns[place].name.as_str();
+        if !columns[place].property.is_empty() {
+            continue;
+        }
+        match guess(alloc, name)? {
+            Some(word) => {
+                push_entry(alloc, &mut text, place, name, word)?;
+                is_named = is_named || names_someone(word);
+            }
+            None => free = free.or(Some(place)),
+        }
+    }
+    if let Some(place) = free {
+        if !is_named && place < columns.len() {
+            push_entry(alloc, &mut text, place, columns[place].name.as_str(), "fn")?;
+        }
+    }
+    Ok(text)
+}
+
+/// The names of the columns of the first row, with the delimiter that gives it most cells.
+pub(crate) fn first_names(alloc: Global, head: &[u8]) -> Result<Items<Text>, NoMemory> {
+    let mut names = Items::new(alloc);
+    for delimiter in DELIMITERS {
+        let row = first_row(alloc, head, delimiter)?;
+        if row.len() > names.len() {
+            names = column_names(alloc, &row)?;
+        }
+    }
+    Ok(names)
+}
+
+/// What to say of the columns of a file to begin with, as `Mail (priv.)=email,#3=tel`: a guess for
+/// each column of its first row that isn't known. Empty if the row has one cell. The only `Err` is
+/// out of memory.
+pub fn suggested_columns(alloc: Global, head: &[u8]) -> Result<Text, NoMemory> {
+    let names = first_names(alloc, head)?;
+    if names.len() < 2 {
+        return Text::copy_of(alloc, "");
+    }
+    Ok(Text::new(suggestion_for(alloc, names.as_slice())?))
+}

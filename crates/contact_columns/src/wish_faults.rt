@@ -1,0 +1,154 @@
+//! What is wrong with what the user says of the columns of a file.
+
+use crate::columns::{column_names, columns_of};
+use crate::header::{find_header, first_row};
+use crate::suggestion::first_names;
+use crate::targets::{TARGET_WORDS, target_of};
+use crate::wishes::{Wish, chosen_wishes, entry_parts, has_column, read_wishes, types_in};
+use std::alloc::Global;
+use vcard_text::{Items, NoMemory, Text};
+
+/// What is wrong with an entry, whatever the file is.
+fn entry_fault(alloc: Global, entry: &str) -> Result<Option<Text>, NoMemory> {
+    let Some((column, word, params)) = entry_parts(entry) else {
+        let words = format!(in alloc; "'{entry}' isn't COLUMN=PROPERTY")?;
+        return Ok(Some(Text::new(words)));
+    };
+    let Some(target) = target_of(word) else {
+        let words = format!(in alloc; "'{word}' is no property here; there are {TARGET_WORDS}")?;
+        return Ok(Some(Text::new(words)));
+    };
+    match types_in(alloc, params)? {
+        None => {
+            let words = format!(in alloc;
+                "';{params}' after '{column}={word}' isn't ;type=WORD, once for each type"
+            )?;
+            Ok(Some(Text::new(words)))
+        }
+        Some(types) if !types.is_empty() && !target.has_types => {
+            let words = format!(in alloc; "'{word}' has no types")?;
+            Ok(Some(Text::new(words)))
+        }
+        Some(_) => Ok(None),
+    }
+}
+
+/// What is wrong with the first faulty entry.
+fn first_fault(alloc: Global, wished: &str) -> Result<Option<Text>, NoMemory> {
+    for entry in wished.split(',') {
+        if let Some(words) = entry_fault(alloc, entry)? {
+            return Ok(Some(words));
+        }
+    }
+    Ok(None)
+}
+
+/// The names of the columns of the header, if a row has all columns of the wishes.
+fn wished_names(alloc: Global, head: &[u8], wished: &str) -> Result<Option<Items<Text>>, NoMemory> {
+    match find_header(alloc, head, wished)? {
+        Some(header) => {
+            let rest = head.get(header.start..).unwrap_or(&[]);
+            let row = first_row(alloc, rest, header.delimiter)?;
+            Ok(Some(column_names(alloc, &row)?))
+        }
+        None => Ok(None),
+    }
+}
+
+/// The names with commas between them.
+fn listed(alloc: Global, names: &[Text]) -> Result<String, NoMemory> {
+    let mut list = String::new(alloc);
+    for name in names {
+        if !list.is_empty() {
+            list.push_str(", ")?;
+        }
+        list.push_str(name.as_str())?;
+    }
+    Ok(list)
+}
+
+/// The words for the first column of a wish that isn't among these.
+fn missing_column(
+    alloc: Global,
+    wishes: &[Wish<'_>],
+    names: &[Text],
+) -> Result<Option<Text>, NoMemory> {
+    for wish in wishes {
+        if !has_column(alloc, wish, names)? {
+            let column = wish.column;
+            let list = listed(alloc, names)?;
+            let list = list.as_str();
+            let words = format!(in alloc; "there is no column '{column}'; there are: {list}")?;
+            return Ok(Some(Text::new(words)));
+        }
+    }
+    let words = format!(in alloc; "no row has all these columns")?;
+    Ok(Some(Text::new(words)))
+}
+
+/// The words for the first wish about columns that earlier ones are about.
+fn second_wish(
+    alloc: Global,
+    wishes: &[Wish<'_>],
+    chosen: &[usize],
+) -> Result<Option<Text>, NoMemory> {
+    for index in 0..wishes.len() {
+        if !chosen.iter().any(|it| *it == index) {
+            let column = wishes[index].column;
+            let words = format!(in alloc; "'{column}' is given more than once")?;
+            return Ok(Some(Text::new(words)));
+        }
+    }
+    Ok(None)
+}
+
+/// The words for the first column that is given to a property which another column has.
+fn second_column(
+    alloc: Global,
+    wishes: &[Wish<'_>],
+    names: &[Text],
+    chosen: &[usize],
+) -> Result<Option<Text>, NoMemory> {
+    let read = columns_of(alloc, names, wishes)?;
+    let columns = read.columns.as_slice();
+    for place in 0..columns.len() {
+        let index = chosen.get(place).copied().unwrap_or(wishes.len());
+        let column = &columns[place];
+        if let Some(wish) = wishes.get(index) {
+            if column.property.is_empty() && !column.is_left_out {
+                let name = column.name.as_str();
+                let word = wish.word;
+                let words = format!(in alloc; "'{name}' isn't the only column given to {word}")?;
+                return Ok(Some(Text::new(words)));
+            }
+        }
+    }
+    Ok(None)
+}
+
+/// The words for what is wrong with the wishes of a header that has all their columns.
+fn doubled(alloc: Global, wishes: &[Wish<'_>], names: &[Text]) -> Result<Option<Text>, NoMemory> {
+    let chosen = chosen_wishes(alloc, names, wishes)?;
+    if let Some(words) = second_wish(alloc, wishes, chosen.as_slice())? {
+        return Ok(Some(words));
+    }
+    second_column(alloc, wishes, names, chosen.as_slice())
+}
+
+/// What is wrong with what the user says of the columns of a file, in words: an entry that can't be
+/// read, a column that no row among the first lines has, a column with two entries, or two columns
+/// for one value. `None` if nothing is. `head` is the beginning of the file. The only `Err` is out of memory.
+pub fn wish_fault(alloc: Global, head: &[u8], wished: &str) -> Result<Option<Text>, NoMemory> {
+    if let Some(words) = first_fault(alloc, wished)? {
+        return Ok(Some(words));
+    }
+    let wishes = read_wishes(alloc, wished)?;
+    let wishes = wishes.as_slice();
+    match wished_names(alloc, head, wished)? {
+        Some(names) => doubled(alloc, wishes, names.as_slice()),
+        None => {
+            let names = first_names(alloc, head)?;
+            missing_column(alloc, wishes, names.as_slice())
+        }
+    }
+}

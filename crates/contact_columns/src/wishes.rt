@@ -1,0 +1,221 @@
+//! What the user says of the columns of a file: `Name=fn,E-Mail=email;type=work,#7=-`.
+
+use crate::meaning::Meaning;
+use crate::targets::{Target, target_of};
+use std::alloc::Global;
+use vcard_text::{NoMemory, Text};
+
+/// What is said of one column.
+#[derive(Drop)]
+pub(crate) struct Wish<'a> {
+    /// The column's name, or `#` and its number, counted from 1.
+    pub(crate) column: &'a str,
+    /// The word for what its cells become.
+    pub(crate) word: &'a str,
+    /// What its cells become.
+    pub(crate) target: Target,
+    /// The types of the property, with commas between them; empty if there are none.
+    types: Text,
+}
+
+impl Wish<'_> {
+    /// Whether the column is left out.
+    pub(crate) fn leaves_out(&self) -> bool {
+        self.target.property.is_empty()
+    }
+
+    /// What the column means. The columns of an address without types belong to the one that common
+    /// names give, as `Street`; those of an address with types to that of Outlook.
+    pub(crate) fn meaning(&self) -> Meaning<'_> {
+        let types = self.types.as_str();
+        let is_plain = self.target.property == "ADR" && types.is_empty();
+        Meaning {
+            property: self.target.property,
+            key: if is_plain { "1" } else { "" },
+            part: self.target.part,
+            types,
+        }
+    }
+}
+
+/// The parts of an entry: the column, the word for its property, and the parameters after it, each
+/// with a semicolon before it.
+pub(crate) fn entry_parts(entry: &str) -> Option<(&str, &str, &str)> {
+    let (column, rest) = entry.split_once('=')?;
+    let column = column.trim();
+    if column.is_empty() {
+        return None;
+    }
+    match rest.split_once(';') {
+        Some((word, params)) => Some((column, word.trim(), params)),
+        None => Some((column, rest.trim(), "")),
+    }
+}
+
+fn is_type_char(c: char) -> bool {
+    c.is_ascii_alphanumeric() || c == '-'
+}
+
+/// The type in a parameter `type=work`.
+fn type_in(param: &str) -> Option<&str> {
+    let (name, value) = param.split_once('=')?;
+    let value = value.trim();
+    let is_word = !value.is_empty() && value.chars().all(is_type_char);
+    if is_word && name.trim().eq_ignore_ascii_case("type") {
+        Some(value)
+    } else {
+        None
+    }
+}
+
+/// The types of the parameters, with commas between them. `None` if one isn't a type.
+pub(crate) fn types_in(alloc: Global, params: &str) -> Result<Option<Text>, NoMemory> {
+    let mut types = String::new(alloc);
+    if params.is_empty() {
+        return Ok(Some(Text::new(types)));
+    }
+    for param in params.split(';') {
+        let Some(word) = type_in(param) else {
+            return Ok(None);
+        };
+        if !types.is_empty() {
+            types.push(',')?;
+        }
+        for c in word.chars() {
+            types.push(c.to_ascii_lowercase())?;
+        }
+    }
+    Ok(Some(Text::new(types)))
+}
+
+/// What the entry says, unless something is wrong with it.
+fn wish_of<'a>(alloc: Global, entry: &'a str) -> Result<Option<Wish<'a>>, NoMemory> {
+    let Some((column, word, params)) = entry_parts(entry) else {
+        return Ok(None);
+    };
+    let Some(target) = target_of(word) else {
+        return Ok(None);
+    };
+    let Some(types) = types_in(alloc, params)? else {
+        return Ok(None);
+    };
+    if !types.is_empty() && !target.has_types {
+        return Ok(None);
+    }
+    Ok(Some(Wish {
+        column,
+        word,
+        target,
+        types,
+    }))
+}
+
+/// What is said of the columns, entry by entry. An entry with which something is wrong says nothing
+/// (see `wish_fault`).
+pub(crate) fn read_wishes<'a>(alloc: Global, wished: &'a str) -> Result<Vec<Wish<'a>>, NoMemory> {
+    let mut wishes = Vec::new(alloc);
+    for entry in wished.split(',') {
+        if let Some(wish) = wish_of(alloc, entry)? {
+            wishes.push(wish)?;
+        }
+    }
+    Ok(wishes)
+}
+
+/// Whether the names are the same, in any case.
+fn is_same_name(alloc: Global, one: &str, other: &str) -> Result<bool, NoMemory> {
+    if one.eq_ignore_ascii_case(other) {
+        return Ok(true);
+    }
+    if one.is_ascii() || other.is_ascii() {
+        return Ok(false);
+    }
+    let one = one.to_lowercase(alloc)?;
+    let other = other.to_lowercase(alloc)?;
+    Ok(one.as_str() == other.as_str())
+}
+
+/// The number after `#`, counted from 1.
+fn number_in(column: &str) -> Option<u64> {
+    let digits = column.strip_prefix("#")?;
+    match digits.parse::<u64>() {
+        Ok(number) => Some(number),
+        Err(_) => None,
+    }
+}
+
+/// Whether the wish is about the column of this name at the index.
+fn is_about(alloc: Global, wish: &Wish<'_>, place: usize, name: &str) -> Result<bool, NoMemory> {
+    if let Some(number) = number_in(wish.column) {
+        let place = place as u64;
+        return Ok(number == place.saturating_add(1));
+    }
+    is_same_name(alloc, wish.column, name)
+}
+
+/// For each column of these names the index of the first wish about it, or the number of wishes.
+pub(crate) fn chosen_wishes(
+    alloc: Global,
+    names: &[Text],
+    wishes: &[Wish<'_>],
+) -> Result<Vec<usize>, NoMemory> {
+    let mut chosen = Vec::new(alloc);
+    for place in 0..names.len() {
+        chosen.push(wish_index(alloc, wishes, place, names[place].as_str())?)?;
+    }
+    Ok(chosen)
+}
+
+/// The index of the first wish about the column of this name at the index, or the number of wishes.
+fn wish_index(
+    alloc: Global,
+    wishes: &[Wish<'_>],
+    place: usize,
+    name: &str,
+) -> Result<usize, NoMemory> {
+    for index in 0..wishes.len() {
+        if is_about(alloc, &wishes[index], place, name)? {
+            return Ok(index);
+        }
+    }
+    Ok(wishes.len())
+}
+
+/// Whether one of the columns of these names is the one of the wish.
+pub(crate) fn has_column(alloc: Global, wish: &Wish<'_>, names: &[Text]) -> Result<bool, NoMemory> {
+    for place in 0..names.len() {
+        if is_about(alloc, wish, place, names[place].as_str())? {
+            return Ok(true);
+        }
+    }
+    Ok(false)
+}
+
+/// Whether each wish has a column among those of these names.
+pub(crate) fn have_columns(
+    alloc: Global,
+    wishes: &[Wish<'_>],
+    names: &[Text],
+) -> Result<bool, NoMemory> {
+    for wish in wishes {
+        if !has_column(alloc, wish, names)? {
+            return Ok(false);
+        }
+    }
+    Ok(true)
+}
+
+/// The columns that are left out, with commas between them. Empty if there are none. The only `Err`
+/// is out of memory.
+pub fn left_out_columns(alloc: Global, wished: &str) -> Result<Text, NoMemory> {
+    let mut columns = String::new(alloc);
+    for wish in &read_wishes(alloc, wished)? {
+        if wish.leaves_out() {
+            if !columns.is_empty() {
+                columns.push_str(", ")?;
+            }
+            columns.push_str(wish.column)?;
+        }
+    }
+    Ok(Text::new(columns))
+}

@@ -1,0 +1,8 @@
+use Rattle.database_files.proofs.RestartLemmas.{fails_with_cause, opens_as}
+use Rattle.database_files.proofs.runs.open_again.Goals as goal
+
+pub returns-clause-opens : goal.returns-clause-opens
+returns-clause-opens g c = opens_as c.args.files c.open_files.result c.open_files.ensures.opened c.open_files.ensures.found
+
+pub returns-clause-cause : goal.returns-clause-cause
+returns-clause-cause g c = fails_with_cause c.args.files c.open_files.result c.open_files.ensures.cause

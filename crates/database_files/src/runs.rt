@@ -1,0 +1,58 @@
+//! The end of a run, a crash, and the opening of the next run.
+ghost use Rattle.database_files.specs.Restarts.{HasOpenCause, HoldsListed, LeaveOneOf, ShowsOpened};
+ghost use Rattle.sqlite.specs.Effect.{Database};
+ghost use Rattle.sqlite.specs.Files.{HoldsDatabase, IsCleanLeft, file_state, image_of};
+ghost use Rattle.sqlite.specs.Held.{IsNew};
+ghost use Rattle.sqlite.specs.State.{HasCleanDisk};
+ghost use Rattle.sqlite.specs.Tree.{Trees};
+ghost use Rattle.sqlite.specs.WalFiles.{outcomes};
+ghost use Rattle.sqlite.specs.WalReads.{AreClean};
+ghost use Rattle.std.specs.Prelude.{IfErr, IfOk, IsTrue};
+
+use sqlite::{Connection, Error, FileStore, Files, Leftover, Options};
+use sqlite_disk::{Crash, Disk};
+use std::alloc::Global;
+
+/// Ends the use of a connection without writing: a transaction that is open is rolled back. Returns
+/// the files.
+///
+/// What a crash leaves of them is what it could leave of the connection. That is so whatever came
+/// before, also if the disk failed and the connection is closed.
+pub fn into_files<D: Disk + Drop>(connection: Connection<FileStore<D>>) -> Files<D>
+    ensures leaves { LeaveOneOf D.Disk result (file_state connection).may_leave }
+    ensures clean { AreClean D.Disk result.log result.db → HasCleanDisk (file_state connection) }
+{
+    connection.into_store().close()
+}
+
+/// The files after a crash.
+pub fn crash_files<D: Crash>(files: Files<D>) -> Files<D>
+    ensures crash { outcomes D.Disk files.log files.db (image_of D.Disk result) }
+    ensures clean { AreClean D.Disk result.log result.db → AreClean D.Disk files.log files.db }
+    ensures log { IsTrue (D.Disk.is_usable result.log) }
+    ensures db { IsTrue (D.Disk.is_usable result.db) }
+{
+    let Files { mut log, mut db } = files;
+    log.crash();
+    db.crash();
+    Files { log, db }
+}
+
+/// Opens the files. If they hold a database, the connection shows it, with the schema that it
+/// lists; and an error has a cause.
+pub fn open_again<D: Disk + Drop>(
+    alloc: Global,
+    files: Files<D>,
+    options: Options,
+) -> Result<Connection<FileStore<D>>, (Error, Leftover<D>)>
+    requires log { IsTrue (D.Disk.is_usable files.log) }
+    requires db { IsTrue (D.Disk.is_usable files.db) }
+    ensures fresh { IfOk result IsNew }
+    ensures opens { (db : Database) → HoldsListed (image_of D.Disk files) db
+        → IfOk result (λ c. HasCleanDisk (file_state c) → ShowsOpened (file_state c) db) }
+    ensures cause { (db : Trees) → HoldsDatabase (image_of D.Disk files) db
+        → IfErr result (λ refused. IsCleanLeft refused.1
+        → HasOpenCause files refused.1 refused.0) }
+{
+    Connection::open_files(alloc, files, options)
+}

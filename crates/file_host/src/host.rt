@@ -1,0 +1,165 @@
+//! The host that the program runs on.
+ghost use Rattle.std.specs.Prelude.{◌≡◌, IfOk};
+ghost use Rattle.file_host.specs.FileHosts.{standard_limits};
+
+use crate::causes::{port_cause, rows_cause, socket_cause, store_cause};
+use crate::ports::{listen_at, listener_at};
+use crate::reading::{rows_from, site_from};
+use crate::restoring::restore_file;
+use crate::store_files::BookFiles;
+use base_types::{Items, Text};
+use book_store::{CopyFault, FileBooks, SqlStore};
+use cli_host::Host;
+use cli_orders::{Address, FoundCause, Restored, Stop};
+use request_log::RequestLog;
+use site_files::{Site, read_site};
+use socket_endpoint::SocketEndpoint;
+use std::alloc::Global;
+use std::io::{IsTerminal, Write};
+use std::net::TcpListener;
+use std::rt::HostRuntime;
+use std::time::Instant;
+use std::{fs, io};
+use store_check::faults::FaultyRow;
+use store_migration::migrate;
+use store_schema::OpenFault;
+use sync_core::Limits;
+
+/// The host that the program runs on, with its files and ports.
+#[derive(Clone, Copy)]
+pub struct FileHost {
+    rt: HostRuntime,
+}
+
+impl FileHost {
+    /// The host of the program that has this handle of the system.
+    pub fn new(rt: HostRuntime) -> FileHost {
+        FileHost { rt }
+    }
+}
+
+impl RequestLog for FileHost {
+    fn print(&self, line: &[u8]) {
+        RequestLog::print(&self.rt, line)
+    }
+
+    fn now(&self) -> Option<Instant> {
+        RequestLog::now(&self.rt)
+    }
+
+    fn micros_since(&self, start: Option<Instant>) -> u64 {
+        RequestLog::micros_since(&self.rt, start)
+    }
+}
+
+/// The limits of the stores that the program creates and opens.
+fn limits() -> Limits
+    ensures { result ≡ standard_limits }
+{
+    Limits::standard()
+}
+
+impl Host<FileBooks, SocketEndpoint, TcpListener> for FileHost {
+    ghost use Rattle.file_host.specs.FileHosts.{IsAnyCall};
+
+    ghost calls = { IsAnyCall };
+
+    fn create(&mut self, file: &str) -> Result<FileBooks, OpenFault>
+        ensures limits { IfOk result (λ store. store.limits ≡ standard_limits) }
+    {
+        SqlStore::create(&self.rt, file, limits())
+    }
+
+    fn is_vacant(&mut self, file: &str) -> bool {
+        match fs::metadata(&self.rt, file) {
+            Ok(metadata) => metadata.is_file() && metadata.len() == 0,
+            Err(error) => error.kind() == io::ErrorKind::NotFound,
+        }
+    }
+
+    fn open(&mut self, file: &str) -> Result<FileBooks, OpenFault>
+        ensures limits { IfOk result (λ store. store.limits ≡ standard_limits) }
+    {
+        SqlStore::open(&self.rt, file, limits())
+    }
+
+    fn find_fault(&mut self, file: &str) -> Result<Option<FaultyRow>, OpenFault> {
+        SqlStore::find_fault(&self.rt, file)
+    }
+
+    fn migrate_file(&mut self, file: &str) -> Result<u64, OpenFault> {
+        migrate(&self.rt, file)
+    }
+
+    fn copy_file(&mut self, file: &str, target: &str, without: &[Text]) -> Result<u64, Stop> {
+        match SqlStore::copy_file_without(&self.rt, file, target, without) {
+            Ok(books) => Ok(books),
+            Err(CopyFault::Refused(refusal)) => Err(Stop::Refused(refusal)),
+            Err(CopyFault::Open(fault)) => Err(Stop::Open(fault)),
+        }
+    }
+
+    fn restore_file(&mut self, backup: &str, file: &str, pairs: u64) -> Result<Restored, Stop> {
+        restore_file(&self.rt, &BookFiles, backup, file, pairs)
+    }
+
+    fn read_rows(&mut self, alloc: Global, file: &str) -> Result<Items<u8>, Stop> {
+        rows_from(alloc, fs::open(&self.rt, file))
+    }
+
+    fn read_site(&mut self, dir: &str) -> Result<Site, Stop> {
+        site_from(&self.rt, dir)
+    }
+
+    fn listen(
+        &mut self,
+        alloc: Global,
+        address: Address,
+        together: usize,
+    ) -> Result<(SocketEndpoint, Address), Stop> {
+        listen_at(&self.rt, alloc, address, together)
+    }
+
+    fn bind_listener(&mut self, port: u16) -> Result<(TcpListener, u16), Stop> {
+        listener_at(&self.rt, port)
+    }
+
+    fn octets_of(&self, file: &str) -> u64 {
+        match fs::metadata(&self.rt, file) {
+            Ok(metadata) => metadata.len(),
+            Err(_) => 0,
+        }
+    }
+
+    fn has_watcher(&self) -> bool {
+        self.rt.stderr().is_terminal()
+    }
+
+    fn say(&self, text: &[u8]) {
+        let _said = self.rt.stderr().write(text);
+    }
+
+    fn cause_of_store(&self, file: &str, makes_file: bool) -> FoundCause {
+        store_cause(&self.rt, file, makes_file)
+    }
+
+    fn cause_of_rows(&self, file: &str) -> FoundCause {
+        rows_cause(&self.rt, file)
+    }
+
+    fn cause_of_socket(&self, path: &str) -> FoundCause {
+        socket_cause(&self.rt, path)
+    }
+
+    fn cause_of_port(&self, port: u16) -> FoundCause {
+        port_cause(&self.rt, port)
+    }
+
+    fn has_site(&self, dir: &str) -> bool {
+        read_site(&self.rt, dir).is_ok()
+    }
+
+    fn finish(&mut self, endpoint: SocketEndpoint) {
+        endpoint.finish()
+    }
+}

@@ -1,0 +1,3 @@
+pub mod SpellingLemmas
+pub mod PrefixLemmas
+pub mod CardLemmas

@@ -1,0 +1,73 @@
+-- Changes that don't say that a line is left out, or joined to another.
+use Rattle.std.proofs.Common.{◌≡◌, Bool, true, false, cond, ◌||◌, ◌+◌, ℕ, List, [], ◌∷◌, ◌++◌, map, refl, ap, arith, count_by, Result, Ok, Err, true≢false}
+use Rattle.std.specs.Prelude.{IfOk}
+use Rattle.std.specs.List.{list_any}
+use Rattle.std.proofs.lemmas.Bool.{false≢true}
+use Rattle.std.proofs.lemmas.List.Sums.{sum_by-cons}
+use Rattle.vcard_lines.specs.declared.line.Line.{Line}
+use Rattle.vcard_property.specs.declared.change_kind.ChangeKind.{ChangeKind}
+use Rattle.vcard_property.specs.declared.change_kind.ChangeKind.TheVariants.{Rewritten, Renamed, KeptAside, Unreadable, Added, Joined, LeftOut, Labelled}
+use Rattle.vcard_import.specs.Conversions.{addition}
+use Rattle.vcard_import.specs.Labels.{HaveAddresses, fits, is_joined, says_joined}
+use Rattle.vcard_import.specs.LeftOut.{has_left_out, says_left_out}
+use Rattle.vcard_import.specs.internal.Steps.{has_joined}
+use Rattle.vcard_import.specs.declared.card_lines.CardLines.{CardLines}
+use Rattle.vcard_import.specs.declared.change.Change.{Change}
+
+or_false : (s t : Bool) → (s || t) ≡ false → (s ≡ false) × (t ≡ false)
+or_false true t e = absurd (true≢false e)
+or_false false t e = (refl, e)
+
+both_false : (s t : Bool) → s ≡ false → t ≡ false → (s || t) ≡ false
+both_false s t x y = rw (x, y) refl
+
+pub kind_stays : (kind : ChangeKind) (line : Line) → fits kind line ≡ true → says_left_out kind ≡ false
+kind_stays Rewritten line e = refl
+kind_stays Renamed line e = refl
+kind_stays KeptAside line e = refl
+kind_stays Unreadable line e = refl
+kind_stays Added line e = refl
+kind_stays Joined line e = absurd (false≢true e)
+kind_stays LeftOut line e = absurd (false≢true e)
+kind_stays Labelled line e = refl
+
+pub kind_is_unjoined : (kind : ChangeKind) (line : Line) → fits kind line ≡ true → says_joined kind ≡ false
+kind_is_unjoined Rewritten line e = refl
+kind_is_unjoined Renamed line e = refl
+kind_is_unjoined KeptAside line e = refl
+kind_is_unjoined Unreadable line e = refl
+kind_is_unjoined Added line e = refl
+kind_is_unjoined Joined line e = absurd (false≢true e)
+kind_is_unjoined LeftOut line e = absurd (false≢true e)
+kind_is_unjoined Labelled line e = refl
+
+pub none_in_both : (p : Change → Bool) (before after : List Change) → list_any p before ≡ false → list_any p after ≡ false → list_any p (before ++ after) ≡ false
+none_in_both p [] after b a = a
+none_in_both p (change ∷ before) after b a =
+    let parts = or_false (p change) (list_any p before) b in
+    both_false (p change) (list_any p (before ++ after)) parts.0 (none_in_both p before after parts.1 a)
+
+pub none_more : (p : Change → Bool) (changes : List Change) (change : Change) → p change ≡ false → list_any p changes ≡ false → list_any p (changes ++ change ∷ []) ≡ false
+none_more p changes change e n = none_in_both p changes (change ∷ []) n (both_false (p change) false e refl)
+
+pub none_added : (lines : List Line) → has_left_out (map addition lines) ≡ false
+none_added [] = refl
+none_added (line ∷ lines) = none_added lines
+
+none_counted : (p : Change → Bool) (changes : List Change) → list_any p changes ≡ false → count_by p changes ≡ 0
+none_counted p [] e = refl
+none_counted p (change ∷ changes) e =
+    let parts = or_false (p change) (list_any p changes) e in
+    let more : count_by p (change ∷ changes) ≡ cond (p change) 1 0 + count_by p changes = sum_by-cons (λ c. cond (p c) 1 0) change changes in
+    let none : ◌≡◌ {A = ℕ} (cond (p change) 1 0) 0 = ap (λ t. cond t 1 0) parts.0 in
+    let rest : count_by p changes ≡ 0 = none_counted p changes parts.1 in
+    omega (arith, more, none, rest)
+
+-- where no label is joined, none lacks an address
+pub need_none : (changes : List Change) → has_joined changes ≡ false → HaveAddresses changes
+need_none changes e =
+    let none : count_by is_joined changes ≡ 0 = none_counted is_joined changes e in omega (arith, none)
+
+pub ok_need_none : {E : Type 0} (made : Result CardLines E) → IfOk made (λ m. has_joined m.changes ≡ false) → IfOk made (λ m. HaveAddresses m.changes)
+ok_need_none (Ok m) e = need_none m.changes e
+ok_need_none (Err fault) e = tt

@@ -1,0 +1,47 @@
+-- The logical lines that may have no line of their own: labels, which vCard 4.0 has as a parameter
+-- of their address (RFC 6350, section 6.3.1), and photos and the like (sections 6.2.4, 6.6.3 and
+-- 6.7.5) of a card that would be too long with them. This project's own.
+use Rattle.std.specs.Prelude.{Bool, true, false, ◌||◌, List, codes}
+use Rattle.std.specs.List.{list_any}
+use Rattle.import_text.specs.RawLines.{is_encoded_as}
+use Rattle.import_text.specs.declared.raw_line.RawLine.{RawLine}
+use Rattle.vcard_property.specs.declared.change_kind.ChangeKind.{ChangeKind}
+use Rattle.vcard_property.specs.declared.change_kind.ChangeKind.TheVariants.{Rewritten, Renamed}
+use Rattle.vcard_property.specs.declared.change_kind.ChangeKind.TheVariants.{KeptAside, Unreadable}
+use Rattle.vcard_property.specs.declared.change_kind.ChangeKind.TheVariants.{Added, Joined, LeftOut}
+use Rattle.vcard_property.specs.declared.change_kind.ChangeKind.TheVariants.{Labelled}
+use Rattle.vcard_import.specs.declared.change.Change.{Change}
+
+-- the head of the logical line has the name of a property with pictures or sounds
+abbrev pub is_media : RawLine → Bool
+is_media raw = is_encoded_as (codes "PHOTO") raw.octets || is_encoded_as (codes "LOGO") raw.octets
+    || is_encoded_as (codes "SOUND") raw.octets
+
+-- the change may say what became of the logical line, if that has no line of its own
+abbrev pub may_go : ChangeKind → RawLine → Bool
+may_go Rewritten raw = false
+may_go Renamed raw = false
+may_go KeptAside raw = false
+may_go Unreadable raw = false
+may_go Added raw = false
+may_go Joined raw = is_encoded_as (codes "LABEL") raw.octets
+may_go LeftOut raw = is_media raw
+may_go Labelled raw = false
+
+abbrev pub says_left_out : ChangeKind → Bool
+says_left_out Rewritten = false
+says_left_out Renamed = false
+says_left_out KeptAside = false
+says_left_out Unreadable = false
+says_left_out Added = false
+says_left_out Joined = false
+says_left_out LeftOut = true
+says_left_out Labelled = false
+
+-- the change says that a line is left out
+abbrev pub is_left_out : Change → Bool
+is_left_out change = says_left_out change.kind
+
+-- one of the changes says so
+abbrev pub has_left_out : List Change → Bool
+has_left_out changes = list_any is_left_out changes

@@ -1,0 +1,253 @@
+"""`contacts convert` of several files, and what its report says of many lines.
+
+The expected rows and lines are worked out by hand. What is converted of several files is compared
+with what is converted of each of them alone.
+"""
+
+import csv
+import io
+import os
+import resource
+import unittest
+
+from conversion_reports import digest, numbers
+from converted_cards import added_uid, card
+from order_trials import OrderTest
+from program import Ended, run
+
+HEAD = b"uid,vcard\n"
+
+
+def text(lines, end="\r\n"):
+    return "".join(line + end for line in lines)
+
+
+def rows_of(octets):
+    """The rows of a CSV text, without the header."""
+    return list(csv.reader(io.StringIO(octets.decode(), newline="")))[1:]
+
+
+class ConvertFiles(OrderTest):
+    maxDiff = None
+
+    def write(self, **files):
+        """Writes files, each named with an underscore for its full stop."""
+        for name, octets in files.items():
+            (self.folder / name.replace("_", ".")).write_bytes(octets)
+
+    def convert(self, *arguments, **more):
+        return run("convert", *arguments, cwd=self.folder, **more)
+
+    def names(self):
+        return sorted(path.name for path in self.folder.iterdir())
+
+    # ---- several files
+
+    def test_several_files(self):
+        """One header, and the rows of all, as each alone gives them."""
+        ann = text(card("3.0", "UID:a", "FN:Ann", "CLASS:PUBLIC", "TEL;CELL:1")).encode()
+        google = b"First Name,E-mail Address,Shoe\nBob,b@x.test,38\n"
+        export = b'uid,vcard\n' + f'c,"{text(card("4.0", "UID:c", "FN:Cy"))}"\n'.encode()
+        utf_16 = text(card("3.0", "UID:d", "FN:Dée")).encode("utf-16")
+        self.write(a_vcf=ann, b_csv=google, c_csv=export, d_vcf=utf_16)
+        files = ["a.vcf", "b.csv", "c.csv", "d.vcf"]
+        ended = self.convert(*files)
+        rows = [row for name in files for row in rows_of(self.convert(name).out)]
+        self.assertEqual(4, len(rows))
+        self.assertEqual(rows, rows_of(ended.out))
+        self.assertEqual(1, ended.out.count(HEAD))
+        told = ("a.vcf: card 1, line 5: CLASS kept as X-CLASS\n"
+                "b.csv: row 1, line 2: the cell of Shoe kept as X-SHOE\n"
+                "TEL: 1 line put into the form of vCard 4.0\n"
+                "look first at: a.vcf: card 1, line 5: CLASS kept as X-CLASS\n"
+                + numbers(4, 2, 2, 0))
+        self.assertEqual((0, told), (ended.status, ended.err.decode()))
+        (self.folder / "rows.csv").write_bytes(ended.out)
+        self.assertEqual(Ended(0, b"rows 4\n", b""), run("check", self.folder / "rows.csv"))
+
+    def test_the_report_of_several_files(self):
+        self.write(a_vcf=text(card("3.0", "UID:a", "FN:A", "TEL;CELL:1")).encode(),
+                   b_vcf=text(card("3.0", "UID:b", "FN:B", "TEL;CELL:2")).encode() + b"x\n")
+        ended = self.convert("a.vcf", "b.vcf", "--report", "r.txt")
+        lost = "b.vcf: line 7: not carried: no card begins here\n"
+        end = ("TEL: 2 lines put into the form of vCard 4.0\nlook first at: " + lost
+               + numbers(2, 2, 0, 1))
+        self.assertEqual((1, lost + end), (ended.status, ended.err.decode()))
+        listed = ("a.vcf: card 1, line 5: TEL rewritten\nb.vcf: card 2, line 5: TEL rewritten\n"
+                  + lost + end)
+        self.assertEqual(listed, (self.folder / "r.txt").read_text())
+
+    def test_the_same_card_in_two_files(self):
+        """It is written once. Another card with its UID gets one of its own; another row with it
+        isn't carried."""
+        ann, bob = (text(card("4.0", "UID:a", f"FN:{name}")).encode() for name in ("Ann", "Bob"))
+        rows = b"uid,fn,family,given,email,tel,org,note\na,Cy,,,,,,\nd,Dee,,,,,,\n"
+        self.write(a_vcf=ann, b_vcf=bob + ann, c_csv=rows, d_csv=rows.replace(b"Dee", b"Eve"))
+        ended = self.convert("a.vcf", "b.vcf", "c.csv", "c.csv", "d.csv")
+        own = added_uid(bob)
+        self.assertEqual(["a", own, "d"], [row[0] for row in rows_of(ended.out)])
+        why = "not carried: an earlier file has another card under the same UID\n"
+        for place in "c.csv: row 1, line 2", "d.csv: row 1, line 2", "d.csv: row 2, line 3":
+            self.assertIn(f"{place}: {why}", ended.err.decode())
+        self.assertIn(b"1 row with the cells of an earlier one isn't written again\n", ended.err)
+        self.assertEqual(1, ended.status)
+        moved = ("b.vcf: card 2, line 1: an earlier card has the same UID; "
+                 f"kept under {own}\n")
+        self.assertTrue(ended.err.decode().startswith(moved), ended)
+        self.assertIn(b"1 card the same as an earlier one isn't written again\n", ended.err)
+
+    def test_numbers_go_on(self):
+        """Files of cards are numbered through, and so are files of rows."""
+        cards = text(card("4.0", "UID:é", "FN:A")) + text(card("4.0", "UID:ö", "FN:B"))
+        more = text(card("4.0", "UID:ü", "FN:C"))
+        self.write(a_vcf=cards.encode(), b_vcf=more.encode())
+        (self.folder / "to").mkdir()
+        ended = self.convert("a.vcf", "b.vcf", "--to", "to")
+        self.assertEqual(Ended(0, b"", numbers(3, 0, 0, 0, 3).encode()), ended)
+        names = sorted(path.name for path in (self.folder / "to").iterdir())
+        self.assertEqual(["card-1.vcf", "card-2.vcf", "card-3.vcf"], names)
+        ended = self.convert("a.vcf", "b.vcf", "--rows", 2)
+        self.assertEqual(Ended(0, b"", numbers(3, 0, 0, 0, 2).encode()), ended)
+        counts = [len(rows_of((self.folder / f"a-{number}.csv").read_bytes())) for number in (1, 2)]
+        self.assertEqual([2, 1], counts)
+
+    def test_one_file_that_cannot_be_converted(self):
+        """Nothing is written before each file is known."""
+        self.write(a_vcf=text(card("4.0", "UID:a", "FN:A")).encode(), c_csv=b"Imi,Nazw\nA,B\n",
+                   d_pdf=b"%PDF-1.4\n",
+                   e_csv=b"First Name,E-mail Address,Birthday\nA,,05/04/1980\n")
+        (self.folder / "to").mkdir()
+        before = self.names()
+        for name, words in [
+            ("b.vcf", "b.vcf can't be read"),
+            ("c.csv", "c.csv has no header of contacts that is known"),
+            ("d.pdf", "d.pdf is a PDF"),
+            ("e.csv", "e.csv has dates that may be two"),
+            ("/dev/null", "/dev/null can't be read twice; convert it alone, or first"),
+        ]:
+            for options in [], ["--to", "to"], ["--rows", "1"], ["--report", "r"]:
+                for files in ["a.vcf", name], ["a.vcf", "a.vcf", name, "a.vcf"]:
+                    with self.subTest(files, options=options):
+                        ended = self.convert(*files, *options)
+                        self.assertEqual((3, b""), (ended.status, ended.out))
+                        self.assertTrue(ended.err.startswith(f"fault device 1: {words}".encode()))
+                        self.assertEqual(1, ended.err.count(b"\n"))
+        self.assertEqual(before, self.names())
+        self.assertEqual([], list((self.folder / "to").iterdir()))
+
+    def test_a_pipe_comes_first(self):
+        self.write(a_vcf=text(card("4.0", "UID:a", "FN:A")).encode())
+        b = text(card("4.0", "UID:b", "FN:B")).encode()
+        ended = self.convert("/dev/stdin", "a.vcf", input=b)
+        self.assertEqual((0, ["b", "a"]), (ended.status, [row[0] for row in rows_of(ended.out)]))
+
+    def test_options_hold_of_each_file(self):
+        head = "Wer,Mail,Geb\n"
+        self.write(a_csv=(head + "Ann,,05/04/1980\n").encode("utf-16-le"),
+                   b_csv=(head + "Bob,,15/04/1980\n").encode("utf-16-le"))
+        ended = self.convert("a.csv", "b.csv", "--columns", "Wer=fn,Geb=bday", "--day-first",
+                             "--charset", "UTF-16LE")
+        cards = "".join(row[1] for row in rows_of(ended.out))
+        self.assertIn("BDAY:19800405\r\n", cards)
+        self.assertIn("BDAY:19800415\r\n", cards)
+        # Without the option each file says the order by itself, or is refused.
+        ended = self.convert("b.csv", "a.csv", "--columns", "Wer=fn,Geb=bday", "--charset",
+                             "UTF-16LE")
+        self.assertEqual((3, b""), (ended.status, ended.out))
+        self.assertIn(b"fault device 1: a.csv has dates that may be two", ended.err)
+
+    # ---- the report
+
+    def test_changes_of_form_are_counted(self):
+        lines = [f"TEL;CELL:{number}" for number in range(1000)]
+        self.write(a_vcf=text(card("2.1", "UID:a", "FN:A", *lines)).encode())
+        ended = self.convert("a.vcf")
+        self.assertEqual("TEL: 1,000 lines put into the form of vCard 4.0\n" + numbers(1, 1, 0, 0),
+                         ended.err.decode())
+
+    def test_many_names(self):
+        """64 names are counted apart, and all others together."""
+        lines = [f"X-{number};A=1;CELL:v" for number in range(1, 101)]
+        self.write(a_vcf=text(card("2.1", "UID:a", "FN:A", *lines)).encode())
+        ended = self.convert("a.vcf")
+        told = [f"X-{number}: 1 line put into the form of vCard 4.0\n" for number in range(1, 65)]
+        told.append("other properties: 36 lines put into the form of vCard 4.0\n")
+        self.assertEqual("".join(told) + numbers(1, 1, 0, 0), ended.err.decode())
+
+    def test_many_changes_of_one_card(self):
+        lines = [f"CLASS:{number}" for number in range(30)]
+        self.write(a_vcf=text(card("3.0", "UID:a", "FN:A", *lines)).encode())
+        ended = self.convert("a.vcf")
+        listed = [f"card 1, line {number + 5}: CLASS kept as X-CLASS" for number in range(30)]
+        self.assertEqual(digest(listed, 1, 1, 0), ended.err.decode())
+        self.assertIn(b"line 12: CLASS kept as X-CLASS; and 22 more\n", ended.err)
+
+    def test_memory_of_the_report(self):
+        """It doesn't grow with the lines: 400,000 changes of form are told in 60 MB."""
+        numbers = ["TEL;CELL:1"] * 1000
+        cards = [text(card("2.1", f"FN:A{it}", *numbers), "\n") for it in range(400)]
+        self.write(a_vcf="".join(cards).encode())
+
+        def bounded():
+            resource.setrlimit(resource.RLIMIT_AS, (60_000_000, 60_000_000))
+
+        ended = self.convert("a.vcf", preexec_fn=bounded)
+        self.assertEqual(0, ended.status, ended.err)
+        self.assertEqual(3, ended.err.count(b"\n"), ended.err)
+        self.assertIn(b"TEL: 400,000 lines", ended.err)
+
+    def test_what_to_look_at_first(self):
+        kept = text(card("3.0", "UID:a", "FN:A", "CLASS:1"))
+        lost = text(card("2.1", "UID:b", "FN:A", "NOTE;CHARSET=ISO-8859-3:\xa5"))
+        self.write(a_vcf=(kept + lost).encode("latin-1") + b"x\n", b_vcf=kept.encode(),
+                   c_vcf=(kept + lost).encode("latin-1"))
+        for name, line in [("a.vcf", "line 13: not carried: no card begins here"),
+                           ("b.vcf", "card 1, line 5: CLASS kept as X-CLASS"),
+                           ("c.vcf", "card 2, line 7: NOTE has U+FFFD in place of characters that "
+                                     "couldn't be read")]:
+            with self.subTest(name):
+                told = self.convert(name).err.decode().splitlines()
+                self.assertEqual("look first at: " + line, told[-2])
+
+    def test_characters_that_are_lost(self):
+        """An octet that a character set has no character for is told as a loss."""
+        for octets in [
+            b"NOTE;CHARSET=ISO-8859-3:\xa5", b"NOTE;CHARSET=windows-1253;QUOTED-PRINTABLE:=D2",
+        ]:
+            lines = [b"BEGIN:VCARD", b"VERSION:2.1", b"UID:a", b"FN:A", octets, b"END:VCARD", b""]
+            self.write(a_vcf=b"\r\n".join(lines))
+            ended = self.convert("a.vcf")
+            told = ("card 1, line 1: NOTE has U+FFFD in place of characters that couldn't be "
+                    "read\n")
+            self.assertTrue(ended.err.decode().startswith(told), ended)
+            self.assertIn("look first at: " + told, ended.err.decode())
+        # So it is in a whole file of a character set, also in a spreadsheet.
+        self.write(a_csv=b"First Name,E-mail Address,Notes\nAnn,,\xa5\n")
+        ended = self.convert("a.csv", "--charset", "ISO-8859-3")
+        told = "row 1, line 2: NOTE has U+FFFD in place of characters that couldn't be read\n"
+        self.assertTrue(ended.err.decode().startswith(told), ended)
+
+    def test_lines_of_a_broken_row(self):
+        """A quote that isn't closed is told with the lines that it takes with it."""
+        head = "First Name,E-mail Address,Notes\n"
+        for rows, lines in [
+            ('A,,"x\n' + "y\n" * 300 + "B,,\n", 301),
+            ('A,,"x\nB,,\n', 1),
+            ('A,,"x\n' + "y\n" * 300, 301),
+            ('A,,"x\n', 1),
+            ("B,,\n" + 'A,,"x\n' + "y,y,y,y\n" * 250 + 'C,,"x\n' + "y\n" * 9 + "B,,\n", 261),
+        ]:
+            with self.subTest(rows[:8], lines=lines):
+                self.write(a_csv=(head + rows).encode())
+                ended = self.convert("a.csv")
+                place = 2 if rows.startswith("B") else 1
+                told = f"row {place}, line {place + 1}: not carried: a quote isn't closed in its row"
+                told += f", and {lines} lines are lost with it\n" if lines > 1 else "\n"
+                self.assertTrue(ended.err.decode().startswith(told), ended.err)
+                # The last row of the last file is that of its first person again.
+                told = 4 if place == 2 else 3
+                self.assertEqual(told, ended.err.count(b"\n"), ended.err)
+
+
+if __name__ == "__main__":
+    unittest.main()
