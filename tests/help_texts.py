@@ -313,8 +313,8 @@ The copy is one file, without a log beside it. It was opened and compared before
 It holds no text of a card that was removed or replaced, nor of a book that is left out. While a \
 server has the file open, it can't be copied.
 
-If a book is left out, the others keep their names and cards, but get new ids. So every device \
-copies them anew, as after `resync`.
+If a book is left out, those made after it keep their names and cards, but get new ids. So every \
+device copies them anew, as after `resync`.
 """
 
 HELP["restore"] = """\

@@ -178,17 +178,21 @@ class Convert(OrderTest):
                     self.assertEqual(["b", "c"], [row[0] for row in rows_of(ended.out)])
 
     def test_other_character_sets(self):
-        """The commands that OPERATING gives for them."""
-        page = (ROOT / "docs/OPERATING.md").read_text(encoding="utf-8")
-        script = page.partition("### Other character sets\n")[2].partition("<< 'END'\n")[2]
-        script = script.partition("END\n")[0]
+        """A program in Python makes UTF-8 of them."""
         lines = card("2.1", "UID:a", "FN;CHARSET=GB2312:\udcd2\udcbb, b",
                      "N;CHARSET=Shift_JIS;ENCODING=QUOTED-PRINTABLE:=88=9F;b=\r\n=3D", "TEL:1")
         (self.folder / "old.vcf").write_bytes(octets_of(text(lines)))
-        done = subprocess.run([sys.executable, "-", "old.vcf", "new.vcf"], cwd=self.folder,
-                              input=script.encode(), capture_output=True)
+        done = subprocess.run([sys.executable, ROOT / "examples/to-utf8.py", "old.vcf", "new.vcf"],
+                              cwd=self.folder, capture_output=True)
         self.assertEqual((0, b""), (done.returncode, done.stderr))
-        ended = self.convert((self.folder / "new.vcf").read_bytes())
+        made = (self.folder / "new.vcf").read_bytes()
+        # A second time it writes over nothing, and says so.
+        done = subprocess.run(done.args, cwd=self.folder, capture_output=True)
+        self.assertEqual(1, done.returncode)
+        self.assertIn(b"File exists: 'new.vcf'", done.stderr)
+        self.assertNotIn(b"Traceback", done.stderr)
+        self.assertEqual(made, (self.folder / "new.vcf").read_bytes())
+        ended = self.convert(made)
         self.assertEqual(0, ended.status, ended)
         made = card("4.0", "UID:a", "FN:一\\, b", "N:亜;b=", "TEL:1")
         self.assertEqual(made, unfolded(rows_of(ended.out)[0][1].encode()))

@@ -243,7 +243,9 @@ class ConvertFiles(OrderTest):
                 told = f"row {place}, line {place + 1}: not carried: a quote isn't closed in its row"
                 told += f", and {lines} lines are lost with it\n" if lines > 1 else "\n"
                 self.assertTrue(ended.err.decode().startswith(told), ended.err)
-                self.assertEqual(3, ended.err.count(b"\n"), ended.err)
+                # The last row of the last file is that of its first person again.
+                told = 4 if place == 2 else 3
+                self.assertEqual(told, ended.err.count(b"\n"), ended.err)
 
 
 if __name__ == "__main__":

@@ -38,8 +38,8 @@ pub(crate) fn copy_command<'a>(alloc: Global) -> Result<Command<'a>, AllocError>
         "Example:\n  contacts copy office.db backup.db\n\nThe copy is one file, without a log \
          beside it. It was opened and compared before the command ends. It holds no text of a card \
          that was removed or replaced, nor of a book that is left out. While a server has the file \
-         open, it can't be copied.\n\nIf a book is left out, the others keep their names and cards, \
-         but get new ids. So every device copies them anew, as after `resync`.",
+         open, it can't be copied.\n\nIf a book is left out, those made after it keep their names \
+         and cards, but get new ids. So every device copies them anew, as after `resync`.",
         Vec::from_array(alloc, [file_arg(alloc), target, without_option(alloc)])?,
     )
 }

@@ -1,5 +1,5 @@
-// What the server makes of a file of contacts: its cards, piece by piece (docs/API.md,
-// Conversions). Nothing is stored by that.
+// What a server that has `POST /convert` makes of a file of contacts: its cards, piece by piece.
+// Nothing is stored by that.
 import { Fault } from "./api.js";
 
 const PIECE = 262_144;

@@ -7,12 +7,8 @@ export const IMPORT_TEXTS = {
   importText:
     "Choose files of contacts, or drop them on the page. You see what is in them before anything " +
     "is stored.",
-  importKinds:
-    "Taken are vCards of any version (.vcf), and CSV of Google, Outlook, Thunderbird or any " +
-    "other program. Save a workbook of a spreadsheet as CSV first.",
-  emptyBookHint:
-    "Drop a file of contacts here, or choose one: vCards (.vcf), or CSV of Google, Outlook or " +
-    "any spreadsheet.",
+  importKinds: "Taken are vCards (.vcf) and CSV. Save a workbook of a spreadsheet as CSV first.",
+  emptyBookHint: "Drop a file of contacts here, or choose one: vCards (.vcf) or CSV.",
   dropHere: "Drop the files here to import them",
   dropTitle: "Which book shall this file go into?",
   importFile: "Files",
