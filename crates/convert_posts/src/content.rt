@@ -133,7 +133,8 @@ fn has_card(octets: &[u8]) -> bool {
 }
 
 /// Whether all octets are white space, perhaps after a byte order mark.
-fn is_blank(text: &[u8]) -> bool {
+fn is_blank(octets: &[u8]) -> bool {
+    let text = octets.strip_prefix(b"\xEF\xBB\xBF").unwrap_or(octets);
     text.iter().all(|octet| octet.is_ascii_whitespace())
 }
 

@@ -104,6 +104,15 @@ fn is_blank(row: &[u8]) -> bool {
     row.iter().all(|octet| *octet == b'\r' || *octet == b'\n')
 }
 
+/// The number of octets up to the end of the line that is at this place; all, if it doesn't end.
+fn len_through_line(text: &[u8], place: usize) -> usize {
+    let rest = text.get(place..).unwrap_or(&[]);
+    match rest.iter().position(|octet| *octet == b'\n') {
+        Some(found) => place.saturating_add(found).saturating_add(1),
+        None => text.len(),
+    }
+}
+
 /// The row at the front of the text, and the weight of the octets that were looked at beside it.
 /// `more` says that the text goes on.
 fn front_row(kind: RowKind, text: &[u8], more: bool) -> (Front, u64) {
@@ -115,7 +124,8 @@ fn front_row(kind: RowKind, text: &[u8], more: bool) -> (Front, u64) {
         Some(row) => (Front::Whole(row.len), 0),
         None if is_last => (Front::Whole(text.len()), 0),
         None if is_whole_text => (Front::Open, 0),
-        None => (Front::Long(window.len()), 0),
+        // What is left of its line would be read as another row.
+        None => (Front::Long(len_through_line(text, window.len())), 0),
     }
 }
 
