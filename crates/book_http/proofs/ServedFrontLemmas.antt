@@ -1,5 +1,5 @@
 -- What the connections to a service with a front before it are: the other requests are one run.
-use Rattle.std.proofs.Common.{◌≡◌, ◌∙◌, ℕ, Bool, true, false, List, [], ◌∷◌, Option, None, refl, sym, ap, subst}
+use Rattle.std.proofs.Common.{◌≡◌, ℕ, Bool, true, false, List, [], ◌∷◌, None, refl, ap, subst}
 use Rattle.std.specs.List.{AllByRecursion}
 use Rattle.book_http.proofs.ServedHubLemmas.{guard_serves, handled_run, pair_path, served}
 use Rattle.book_http.proofs.ServedSiteLemmas.{all_beside, all_replied}
