@@ -1,6 +1,5 @@
 -- The reply to a request for a conversion. This project's own.
 use Rattle.std.specs.Prelude.{ℕ, ◌≡◌, Bool, true, false, List, Result, Ok, Err, bytes_eq, codes}
-use Rattle.contact_columns.specs.declared.dates.DateOrder.{DateOrder}
 use Rattle.convert_posts.specs.ConvertRequests.{asked_in, is_for_convert}
 use Rattle.convert_posts.specs.PartValues.{part_value, unconverted_value}
 use Rattle.convert_posts.specs.Parts.{IsPart}

@@ -1,5 +1,5 @@
 //! What a request asks for.
-ghost use Rattle.std.specs.Prelude.{◌≡◌, option_map};
+ghost use Rattle.std.specs.Prelude.{option_map};
 ghost use Rattle.convert_posts.specs.ConvertRequests.{asked_in, asked_of, dates_of, flag_of};
 ghost use Rattle.convert_posts.specs.ConvertRequests.{place_in, place_of};
 ghost use Rattle.http_routes.specs.Queries.{pairs_of as pairs_in};

@@ -1,5 +1,5 @@
 //! Converts the text of a part.
-ghost use Rattle.std.specs.Prelude.{◌≡◌, [], IfOk, IfSome};
+ghost use Rattle.std.specs.Prelude.{IfOk, IfSome};
 ghost use Rattle.contact_csv.specs.Contacts.{IsReady};
 ghost use Rattle.convert_posts.specs.Parts.{IsOfContacts, IsOfPieces};
 

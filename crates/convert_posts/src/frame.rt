@@ -5,7 +5,7 @@ ghost use Rattle.convert_posts.specs.Parts.{IsOpen, IsPassed, only_refused};
 use crate::asked::Asked;
 use crate::converted::Converted;
 use crate::cut::Cut;
-use crate::part::{CardRow, Dates, Kind, Part, ReportLine};
+use crate::part::{Dates, Kind, Part, ReportLine};
 use crate::report::{passed_line, report_lines};
 use crate::row_list::Origin;
 use base_types::{Items, NoMemory, Text};

@@ -1,4 +1,4 @@
-use Rattle.std.proofs.Common.{◌≡◌, ◌∙◌, ℕ, List, Some, ap, codes}
+use Rattle.std.proofs.Common.{◌∙◌, ℕ, List, Some, ap, codes}
 use Rattle.std.proofs.lemmas.Result.{IfOk-weaker}
 use Rattle.http_replies.specs.Messages.{Message, message_octets}
 use Rattle.http_replies.proofs.replies.method_fault_bytes.Goals as goal
