@@ -223,6 +223,12 @@ class Cut(ConvertTest):
             for size in range(1, 400):
                 self.in_same_parts(octets, "rows.csv", [HEAD_OCTETS + 900, size])
 
+    def test_exports_are_cut_at_every_octet(self):
+        (self.folder / "cards.vcf").write_bytes(mixed_cards(HEAD_OCTETS + 4_000))
+        octets = run("convert", "cards.vcf", cwd=self.folder).out
+        for size in range(1, 400):
+            self.in_same_parts(octets, "rows.csv", [HEAD_OCTETS + 900, size])
+
     def in_same_parts(self, octets, name, sizes):
         """The parts are those of the whole, which is converted once."""
         if getattr(self, "whole_of", None) != octets:
