@@ -1,13 +1,17 @@
 //! Replies as JSON values.
-ghost use Rattle.std.specs.Prelude.{◌≡◌, IfOk, map};
-ghost use Rattle.serde_json.specs.View.{view};
+ghost use Rattle.std.specs.Prelude.{◌≡◌, IfOk, OnOk, fold, map};
+ghost use Rattle.serde_json.specs.Data.{no_members, put, string};
+ghost use Rattle.serde_json.specs.View.{members_view, view};
+ghost use Rattle.http_replies.specs.Objects.{json_number, with_number};
 ghost use Rattle.convert_posts.specs.PartValues.{dates_word, kind_word, line_value, part_value};
 ghost use Rattle.convert_posts.specs.PartValues.{row_value, unconverted_value};
+ghost use Rattle.convert_posts.specs.internal.Members.{named_number, part_numbers, with_lists};
+ghost use Rattle.convert_posts.specs.internal.Members.{with_words};
 
 use crate::part::{CardRow, Dates, Kind, Part, ReportLine};
 use crate::unconverted::Unconverted;
 use base_types::NoMemory;
-use serde_json::{Value, json};
+use serde_json::{Map, Value, json, put};
 use std::alloc::Global;
 
 /// The word for what a file has.
@@ -74,32 +78,91 @@ fn row_values(alloc: Global, rows: &[CardRow]) -> Result<Vec<Value>, NoMemory>
     Ok(values)
 }
 
-/// The value of a part.
+/// Adds a number under its name.
+fn put_number(
+    members: &mut Map<String, Value>,
+    alloc: Global,
+    name: &str,
+    number: u64,
+) -> Result<(), NoMemory>
+    ensures { OnOk result (members_view members.new.entries
+        ≡ put name.now (json_number number) (members_view members.old.entries)) }
+{
+    Ok(put(members, alloc, name, Value::from(number))?)
+}
+
+/// Adds a text under its name.
+fn put_text(
+    members: &mut Map<String, Value>,
+    alloc: Global,
+    name: &str,
+    text: &str,
+) -> Result<(), NoMemory>
+    ensures { OnOk result (members_view members.new.entries
+        ≡ put name.now (string text.now) (members_view members.old.entries)) }
+{
+    let text = String::from_str(alloc, text)?;
+    Ok(put(members, alloc, name, Value::String(text))?)
+}
+
+/// The numbers of a part, by name.
+fn part_numbers(part: &Part) -> [(&'static str, u64); 7]
+    ensures { map named_number result ≡ part_numbers part.now }
+{
+    let summary = part.summary;
+    [
+        ("card", part.card),
+        ("changed", summary.changed),
+        ("header", part.header as u64),
+        ("line", part.line),
+        ("not_carried", summary.refused),
+        ("taken", part.taken as u64),
+        ("written", summary.written),
+    ]
+}
+
+/// The members with the numbers of a part.
+fn number_members(alloc: Global, rows: &[(&str, u64)]) -> Result<Map<String, Value>, NoMemory>
+    ensures { IfOk result (λ members. members_view members.entries
+        ≡ fold with_number no_members (map named_number rows.now)) }
+{
+    let mut members = Map::new(alloc);
+    for (name, number) in rows {
+        put_number(&mut members, alloc, name, *number)?;
+    }
+    Ok(members)
+}
+
+/// Adds the words of a part.
+fn put_words(members: &mut Map<String, Value>, alloc: Global, part: &Part) -> Result<(), NoMemory>
+    ensures { OnOk result (members_view members.new.entries
+        ≡ with_words part.now (members_view members.old.entries)) }
+{
+    put_text(members, alloc, "columns", part.columns.as_str())?;
+    put_text(members, alloc, "dates", dates_word(part.dates))?;
+    put_text(members, alloc, "kind", kind_word(part.kind))
+}
+
+/// Adds the lists of a part.
+fn put_lists(members: &mut Map<String, Value>, alloc: Global, part: &Part) -> Result<(), NoMemory>
+    ensures { OnOk result (members_view members.new.entries
+        ≡ with_lists part.now (members_view members.old.entries)) }
+{
+    let report = line_values(alloc, part.report.as_slice())?;
+    put(members, alloc, "report", Value::Array(report))?;
+    let rows = row_values(alloc, part.rows.as_slice())?;
+    Ok(put(members, alloc, "rows", Value::Array(rows))?)
+}
+
+/// The value of a part. Its members are added one kind after another: one object with all twelve is
+/// too much for the prover.
 pub(crate) fn part_value(alloc: Global, part: &Part) -> Result<Value, NoMemory>
     ensures { IfOk result (λ value. view value ≡ part_value part.now) }
 {
-    let report = line_values(alloc, part.report.as_slice())?;
-    let rows = row_values(alloc, part.rows.as_slice())?;
-    let (card, line) = (part.card, part.line);
-    let (header, taken) = (part.header as u64, part.taken as u64);
-    let summary = part.summary;
-    let (changed, not_carried, written) = (summary.changed, summary.refused, summary.written);
-    let columns = part.columns.as_str();
-    let (dates, kind) = (dates_word(part.dates), kind_word(part.kind));
-    Ok(json!(in alloc; {
-        "card": card,
-        "changed": changed,
-        "columns": columns,
-        "dates": dates,
-        "header": header,
-        "kind": kind,
-        "line": line,
-        "not_carried": not_carried,
-        "report": report,
-        "rows": rows,
-        "taken": taken,
-        "written": written
-    })?)
+    let mut members = number_members(alloc, &part_numbers(part))?;
+    put_words(&mut members, alloc, part)?;
+    put_lists(&mut members, alloc, part)?;
+    Ok(Value::Object(members))
 }
 
 /// `{"columns":"..","fault":"not-converted","number":35,"text":".."}`
