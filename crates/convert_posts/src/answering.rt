@@ -1,9 +1,13 @@
 //! Answers a request for a conversion.
 ghost use Rattle.std.specs.Prelude.{◌≡◌, IfOk};
+ghost use Rattle.http_replies.specs.Replies.{json_octets};
 ghost use Rattle.convert_posts.specs.ConvertReplies.{IsConversionReply, IsConvertReply};
+ghost use Rattle.convert_posts.specs.PartValues.{part_value, unconverted_value};
 
 use crate::asked::{Asked, read_asked};
+use crate::part::Part;
 use crate::parts::convert_body;
+use crate::unconverted::Unconverted;
 use crate::values::{part_value, unconverted_value};
 use base_types::NoMemory;
 use http::StatusCode;
@@ -11,6 +15,27 @@ use http_replies::{json_bytes, method_fault_bytes, route_fault_bytes};
 use http_requests::Head;
 use http_routes::{NoCommand, split_target};
 use std::alloc::Global;
+
+/// The whole reply with a part.
+fn part_reply(alloc: Global, part: &Part, close: bool) -> Result<Vec<u8>, NoMemory>
+    ensures { IfOk result (λ reply. reply.items ≡ json_octets 200 (part_value part.now) close) }
+{
+    let value = part_value(alloc, part)?;
+    json_bytes(alloc, StatusCode::OK, &value, close)
+}
+
+/// The whole reply with why a file isn't converted (RFC 9110, section 15.5.21).
+fn unconverted_reply(
+    alloc: Global,
+    fault: &Unconverted,
+    close: bool,
+) -> Result<Vec<u8>, NoMemory>
+    ensures { IfOk result (λ reply.
+        reply.items ≡ json_octets 422 (unconverted_value fault.now) close) }
+{
+    let value = unconverted_value(alloc, fault)?;
+    json_bytes(alloc, StatusCode::UNPROCESSABLE_ENTITY, &value, close)
+}
 
 /// The whole reply with what becomes of the front of the body.
 fn conversion_reply(
@@ -22,14 +47,8 @@ fn conversion_reply(
     ensures { IfOk result (λ reply. IsConversionReply body.now close reply.items) }
 {
     match convert_body(alloc, asked, body)? {
-        Ok(part) => {
-            let value = part_value(alloc, &part)?;
-            json_bytes(alloc, StatusCode::OK, &value, close)
-        }
-        Err(fault) => {
-            let value = unconverted_value(alloc, &fault)?;
-            json_bytes(alloc, StatusCode::UNPROCESSABLE_ENTITY, &value, close)
-        }
+        Ok(part) => part_reply(alloc, &part, close),
+        Err(fault) => unconverted_reply(alloc, &fault, close),
     }
 }
 
