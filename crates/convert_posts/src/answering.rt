@@ -25,11 +25,7 @@ fn part_reply(alloc: Global, part: &Part, close: bool) -> Result<Vec<u8>, NoMemo
 }
 
 /// The whole reply with why a file isn't converted (RFC 9110, section 15.5.21).
-fn unconverted_reply(
-    alloc: Global,
-    fault: &Unconverted,
-    close: bool,
-) -> Result<Vec<u8>, NoMemory>
+fn unconverted_reply(alloc: Global, fault: &Unconverted, close: bool) -> Result<Vec<u8>, NoMemory>
     ensures { IfOk result (λ reply.
         reply.items ≡ json_octets 422 (unconverted_value fault.now) close) }
 {
