@@ -1,5 +1,6 @@
 -- The members of a part's object, one kind after another.
-use Rattle.std.specs.Prelude.{ℕ, List, [], ◌∷◌, Bor, codes, map}
+use Rattle.std.specs.Prelude.{ℕ, List, [], ◌∷◌, codes, map}
+use Rattle.std.specs.Borrow.{Bor}
 use Rattle.serde_json.specs.Data.{Members, put, string, array}
 use Rattle.serde_json.specs.View.{items_of}
 use Rattle.convert_posts.specs.PartValues.{dates_word, kind_word, line_value, row_value}
