@@ -184,8 +184,9 @@ class ConvertFiles(OrderTest):
 
     def test_memory_of_the_report(self):
         """It doesn't grow with the lines: 400,000 changes of form are told in 60 MB."""
-        one = text(card("2.1", "FN:A", *["TEL;CELL:1"] * 1000), "\n").encode()
-        self.write(a_vcf=one * 400)
+        numbers = ["TEL;CELL:1"] * 1000
+        cards = [text(card("2.1", f"FN:A{it}", *numbers), "\n") for it in range(400)]
+        self.write(a_vcf="".join(cards).encode())
 
         def bounded():
             resource.setrlimit(resource.RLIMIT_AS, (60_000_000, 60_000_000))
@@ -193,7 +194,7 @@ class ConvertFiles(OrderTest):
         ended = self.convert("a.vcf", preexec_fn=bounded)
         self.assertEqual(0, ended.status, ended.err)
         self.assertEqual(3, ended.err.count(b"\n"), ended.err)
-        self.assertIn(b"TEL: 1,000 lines", ended.err)
+        self.assertIn(b"TEL: 400,000 lines", ended.err)
 
     def test_what_to_look_at_first(self):
         kept = text(card("3.0", "UID:a", "FN:A", "CLASS:1"))
