@@ -1,7 +1,10 @@
 //! Answers a request for a conversion.
 ghost use Rattle.std.specs.Prelude.{◌≡◌, IfOk};
 ghost use Rattle.http_replies.specs.Replies.{json_octets};
-ghost use Rattle.convert_posts.specs.ConvertReplies.{IsConversionReply, IsConvertReply};
+ghost use Rattle.http_routes.specs.Queries.{pairs_of};
+ghost use Rattle.convert_posts.specs.ConvertReplies.{AnswersAsked, IsConversionReply};
+ghost use Rattle.convert_posts.specs.ConvertReplies.{IsConvertReply};
+ghost use Rattle.convert_posts.specs.ConvertRequests.{asked_in};
 ghost use Rattle.convert_posts.specs.PartValues.{part_value, unconverted_value};
 
 use crate::asked::{Asked, read_asked};
@@ -48,6 +51,23 @@ fn conversion_reply(
     }
 }
 
+/// The whole reply to what the query asks for, or the fault of a wrong query.
+fn query_reply(
+    alloc: Global,
+    query: &str,
+    body: &[u8],
+    close: bool,
+) -> Result<Vec<u8>, NoMemory>
+    ensures { IfOk result (λ reply.
+        AnswersAsked (asked_in (pairs_of query.now)) body.now close reply.items) }
+{
+    match read_asked(alloc, query) {
+        Ok(asked) => conversion_reply(alloc, &asked, body, close),
+        Err(NoCommand::Fault(fault)) => route_fault_bytes(alloc, fault, close),
+        Err(NoCommand::Memory) => Err(NoMemory),
+    }
+}
+
 /// The whole reply to a request for a conversion: what becomes of the front of its body, or why the
 /// file isn't converted; or the fault of the API for a wrong method or a wrong query. `NoMemory` if
 /// an allocation fails.
@@ -58,9 +78,5 @@ pub fn convert_reply(alloc: Global, head: &Head, body: &[u8]) -> Result<Vec<u8>,
         return method_fault_bytes(alloc, "POST", head.close);
     }
     let (_, query) = split_target(head.target.as_str());
-    match read_asked(alloc, query) {
-        Ok(asked) => conversion_reply(alloc, &asked, body, head.close),
-        Err(NoCommand::Fault(fault)) => route_fault_bytes(alloc, fault, head.close),
-        Err(NoCommand::Memory) => Err(NoMemory),
-    }
+    query_reply(alloc, query, body, head.close)
 }
