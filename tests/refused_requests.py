@@ -114,4 +114,9 @@ ROWS = [
     Row(32, {}, request("PUT", "/books/more", fields=["Sec-Fetch-Site: cross-site"])),
     Row(32, {}, request("PUT", "/books/more", fields=["Origin: https://other"])),
     Row(33, {}, request("PUT", "/books/staff/cards/q", card("q", "Quin"), ["If-Match: *"])),
+    Row(35, {"columns": "", "text": "LDIF; export the contacts as vCard or CSV"},
+        request("POST", "/convert", "dn: cn=Pat\n")),
+    Row(35, {"columns": "Kunde=fn,Mail (priv.)=email",
+             "text": "a header whose columns aren't known: Mail (priv.)"},
+        request("POST", "/convert", "Kunde,Mail (priv.)\nPat,pat@example.test\n")),
 ]

@@ -11,3 +11,4 @@ pub mod ConnectionLemmas
 pub mod ReaderLemmas
 pub mod ServedHubLemmas
 pub mod ServedSiteLemmas
+mod ServedFrontLemmas

@@ -36,7 +36,7 @@ own_reply request run reply (own, more, first, rest, replied, none, run_is, repl
     (subst (λ (t : List ℕ). IsReplyToRequest request own t) (sym first_is) replied)
 
 -- two pairs with the same parts
-pair_path : {A B : Type 0} (p q : A × B) → p.0 ≡ q.0 → p.1 ≡ q.1 → p ≡ q
+pub pair_path : {A B : Type 0} (p q : A × B) → p.0 ≡ q.0 → p.1 ≡ q.1 → p ≡ q
 pair_path {A} {B} p q first second = let pair : A → B → A × B = λ x y. (x, y) in ap₂ pair first second
 
 module _ {S : Type 0} (model : StoreModel S) where
@@ -92,7 +92,7 @@ module _ {S : Type 0} (model : StoreModel S) where
   ServesRequests does = (old new : S) (head : Head) (body reply : List ℕ) → does.step old head body reply new → AnswersRequest model old head body reply new
 
   -- what a handler of the service handled, the service handled
-  served : (does : HandlerRelation S) → ServesRequests does → (handled : List HandledRequest) (old new : S) → HandledInTurn does old handled new → HandledInTurn (ServiceStep model) old handled new
+  pub served : (does : HandlerRelation S) → ServesRequests does → (handled : List HandledRequest) (old new : S) → HandledInTurn does old handled new → HandledInTurn (ServiceStep model) old handled new
   unfolding HandledInTurn
   served does serves [] old new same = same
   served does serves (one ∷ handled) old new (middle, good, done, rest) =
@@ -123,7 +123,7 @@ module _ {S : Type 0} (model : StoreModel S) where
   answered old new (Ok command) close octets same answers = (answers.0, performed old new command answers.0 answers.1, answers.2)
   answered old new (Err fault) close octets same answers = (answers.0, pair_path old new (sym same) answers.1)
 
-  guard_serves : ServesRequests (behind_guard model) (guarded (ServiceStep model))
+  pub guard_serves : ServesRequests (behind_guard model) (guarded (ServiceStep model))
   guard_serves old new head body reply done =
       answered old new (requested_command head.method head.target body) head.close reply done.0 done.1
 

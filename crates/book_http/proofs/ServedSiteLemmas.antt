@@ -33,7 +33,7 @@ module _ {S : Type 0} (model : StoreModel S) where
   replied_own None one old middle done = tt
 
   -- the requests beside the site's, in turn; no step changes the files
-  all_beside : (files : List SiteFile) (handled : List HandledRequest) (old new : ServerState S) → old.1.0 ≡ files → HandledInTurn (ServerStep model) old handled new
+  pub all_beside : (files : List SiteFile) (handled : List HandledRequest) (old new : ServerState S) → old.1.0 ≡ files → HandledInTurn (ServerStep model) old handled new
       → HandledInTurn (ServiceStep model) old.1.1 (beside_site files handled) new.1.1
   unfolding HandledInTurn
   all_beside files [] old new is same = ap (λ (s : ServerState S). s.1.1) same
@@ -43,7 +43,7 @@ module _ {S : Type 0} (model : StoreModel S) where
       let answers = subst (λ (f : List SiteFile). AnswersBeside (ServiceStep model) (own_reply f one) old.1.1 (head_of one.request.head) one.request.body one.reply middle.1.1) is step.1 in
       handled_beside (own_reply files one) one (beside_site files handled) old.1.1 middle.1.1 new.1.1 good answers (all_beside files handled middle new kept rest)
 
-  all_replied : (files : List SiteFile) (handled : List HandledRequest) (old new : ServerState S) → old.1.0 ≡ files → HandledInTurn (ServerStep model) old handled new → AllByRecursion (GetsOwnReply files) handled
+  pub all_replied : (files : List SiteFile) (handled : List HandledRequest) (old new : ServerState S) → old.1.0 ≡ files → HandledInTurn (ServerStep model) old handled new → AllByRecursion (GetsOwnReply files) handled
   unfolding HandledInTurn
   all_replied files [] old new is same = tt
   all_replied files (one ∷ handled) old new is (middle, good, done, rest) =

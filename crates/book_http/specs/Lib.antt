@@ -12,3 +12,4 @@ pub mod OctetRuns
 pub mod OctetPromise
 pub mod ServedHubs
 pub mod ServedSites
+pub mod ServedFronts

@@ -9,12 +9,13 @@ use Rattle.cli_host.specs.declared.exit.ProgramExit.{ProgramExit}
 use Rattle.cli_orders.specs.declared.stop.Stop.{Stop}
 use Rattle.hub_server.specs.EndpointRuns.{EndpointRelation}
 use Rattle.sync_core.specs.StoreModels.{StoreModel}
+use Rattle.http_fronts.specs.Fronts.{FrontRelation}
 
-module _ {S P L Connection H : Type 0} (model : StoreModel S) (effects : EndpointRelation P) (stream : ConnectionModel Connection) (coming : L → Option (List (Option Connection))) (calls : HostCall S P L → H → H → Type 0) where
+module _ {S P L Connection H : Type 0} (model : StoreModel S) (front : FrontRelation) (effects : EndpointRelation P) (stream : ConnectionModel Connection) (coming : L → Option (List (Option Connection))) (calls : HostCall S P L → H → H → Type 0) where
   pub ran_ends : (r : Result (Unit {0}) Stop) (old new : H) (order : Order) (before after errors_before errors_after : Option (List ℕ)) (exit : ProgramExit)
-      → OnOk r (LogsCalls calls old new (RunsOnHost model effects stream coming order before after)) → IfErr r (λ stop. LogsCalls calls old new (StopsOnHost model effects stream coming order stop before after))
+      → OnOk r (LogsCalls calls old new (RunsOnHost model front effects stream coming order before after)) → IfErr r (λ stop. LogsCalls calls old new (StopsOnHost model front effects stream coming order stop before after))
       → IfErr r (λ stop. KeepsOrderOutput order stop before after) → ReportsResult r errors_before errors_after exit
-      → LogsCalls calls old new (EndsOrder model effects stream coming order before after errors_before errors_after exit)
+      → LogsCalls calls old new (EndsOrder model front effects stream coming order before after errors_before errors_after exit)
   ran_ends (Ok done) old new order before after errors_before errors_after exit runs stops output_kept e = record {
     log = runs.log;
     made = runs.made;

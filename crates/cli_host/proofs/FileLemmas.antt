@@ -2,6 +2,7 @@
 use Rattle.std.proofs.Common.{◌≡◌, ◌⊎◌, ℕ, Bool, List, Option, Some, None, Result, Ok, Err, IfErr, inl, inr}
 use Rattle.book_http.specs.ConnectionModels.{ConnectionModel}
 use Rattle.book_http.specs.OctetPromise.{ServiceStep}
+use Rattle.http_fronts.specs.Fronts.{FrontRelation, with_front}
 use Rattle.http_replies.specs.Replies.{head_fault_octets}
 use Rattle.http_requests.specs.GuardedHandlers.{guarded}
 use Rattle.http_requests.specs.HandlerRuns.{HandlerRelation}
@@ -117,21 +118,21 @@ module _ {S P L State : Type 0} (does : HandlerRelation State) (effects : Endpoi
     | inr serving ↦ serving_stop_leaves does head_fault_octets effects serving.address limits (state_of s.store) serving.new serving.endpoint serving.endpoint_after before after stop serving.stops
   ]
 
-module _ {S P L : Type 0} (model : StoreModel S) (effects : EndpointRelation P) where
+module _ {S P L : Type 0} (model : StoreModel S) (front : FrontRelation) (effects : EndpointRelation P) where
   folder_leaves : (dir file : List ℕ) (creates : Bool) (names : List (List ℕ)) (requested : Address) (limits : ServeLimits) (stop : Stop) (before after : Option (List ℕ)) (log : List (HostCall S P L))
-      → StopsFolder model effects dir file creates names requested limits stop before after log → KeepsOutput stop before after ⊎ ((stop ≡ out_of_memory) × WritesListeningLine before after)
+      → StopsFolder model front effects dir file creates names requested limits stop before after log → KeepsOutput stop before after ⊎ ((stop ≡ out_of_memory) × WritesListeningLine before after)
   folder_leaves dir file creates names requested limits stop before after log (inl (unread, inl s)) = inl (keeps_leaves stop before after s.unwritten)
   folder_leaves dir file creates names requested limits stop before after log (inl (unread, inr s)) = inl (keeps_leaves stop before after s.unwritten)
   folder_leaves dir file creates names requested limits stop before after log (inr s) =
-      serve_leaves (guarded (with_site (ServiceStep model))) effects (λ store. (names, (s.files, store))) file creates requested limits stop before after s.later s.stops
+      serve_leaves (guarded (with_front front (with_site (ServiceStep model)))) effects (λ store. (names, (s.files, store))) file creates requested limits stop before after s.later s.stops
 
   run_leaves : (file : List ℕ) (creates : Bool) (names : List (List ℕ)) (requested : Address) (limits : ServeLimits) (site : Option (List ℕ)) (stop : Stop) (before after : Option (List ℕ)) (log : List (HostCall S P L))
-      → StopsRun model effects file creates names requested limits site stop before after log → KeepsOutput stop before after ⊎ ((stop ≡ out_of_memory) × WritesListeningLine before after)
-  run_leaves file creates names requested limits None stop before after log s = serve_leaves (guarded (ServiceStep model)) effects (λ store. (names, store)) file creates requested limits stop before after log s
+      → StopsRun model front effects file creates names requested limits site stop before after log → KeepsOutput stop before after ⊎ ((stop ≡ out_of_memory) × WritesListeningLine before after)
+  run_leaves file creates names requested limits None stop before after log s = serve_leaves (guarded (with_front front (ServiceStep model))) effects (λ store. (names, store)) file creates requested limits stop before after log s
   run_leaves file creates names requested limits (Some dir) stop before after log s = folder_leaves dir file creates names requested limits stop before after log s
 
-module _ {S P L Connection : Type 0} (model : StoreModel S) (effects : EndpointRelation P) (stream : ConnectionModel Connection) (coming : L → Option (List (Option Connection))) where
-  work_leaves : (work : Work) (stop : Stop) (before after : Option (List ℕ)) (log : List (HostCall S P L)) → StopsWork model effects stream coming work stop before after log → KeepsWorkOutput work stop before after
+module _ {S P L Connection : Type 0} (model : StoreModel S) (front : FrontRelation) (effects : EndpointRelation P) (stream : ConnectionModel Connection) (coming : L → Option (List (Option Connection))) where
+  work_leaves : (work : Work) (stop : Stop) (before after : Option (List ℕ)) (log : List (HostCall S P L)) → StopsWork model front effects stream coming work stop before after log → KeepsWorkOutput work stop before after
   work_leaves Nothing stop before after log s = inl (keeps_leaves stop before after s.1.unwritten)
   work_leaves PrintVersion stop before after log s = inl (output_kept_by_device stop before after s.1.stop_is)
   work_leaves (CheckFile file) stop before after log s = elim (checking_leaves file stop before after log s) [
@@ -143,7 +144,7 @@ module _ {S P L Connection : Type 0} (model : StoreModel S) (effects : EndpointR
   work_leaves (CopyFile file target without) stop before after log s = inl (copying_leaves file target without stop before after log s)
   work_leaves (RestoreFile backup file pairs) stop before after log s = inl (restoring_leaves backup file pairs stop before after log s)
   work_leaves (ServeFile file port connections) stop before after log s = inl (turns_leave model stream coming file port connections stop before after log s)
-  work_leaves (RunFile file creates names address limits is_logged site) stop before after log s = elim (run_leaves model effects file creates names address limits site stop before after log s) [
+  work_leaves (RunFile file creates names address limits is_logged site) stop before after log s = elim (run_leaves model front effects file creates names address limits site stop before after log s) [
     | inl kept ↦ inl kept
     | inr announced ↦ inr (inl announced)
   ]
@@ -154,6 +155,6 @@ module _ {S P L Connection : Type 0} (model : StoreModel S) (effects : EndpointR
   work_leaves (UseFile file work) stop before after log s = inl (in_file_leaves model file work stop before after log s)
 
   pub stopped_work_leaves : {H : Type 0} (calls : HostCall S P L → H → H → Type 0) (r : Result (Unit {0}) Stop) (old new : H) (work : Work) (before after : Option (List ℕ))
-      → IfErr r (λ stop. LogsCalls calls old new (StopsWork model effects stream coming work stop before after)) → IfErr r (λ stop. KeepsWorkOutput work stop before after)
+      → IfErr r (λ stop. LogsCalls calls old new (StopsWork model front effects stream coming work stop before after)) → IfErr r (λ stop. KeepsWorkOutput work stop before after)
   stopped_work_leaves calls (Ok done) old new work before after s = tt
   stopped_work_leaves calls (Err stop) old new work before after s = work_leaves work stop before after s.log s.holds

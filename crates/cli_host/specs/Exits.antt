@@ -14,6 +14,7 @@ use Rattle.cli_host.specs.Hosts.{HostCall}
 use Rattle.cli_host.specs.OrdersOnHost.{KeepsOrderOutput, RunsOnHost, StopsOnHost}
 use Rattle.cli_host.specs.declared.exit.ProgramExit.{ProgramExit}
 use Rattle.sync_core.specs.StoreModels.{StoreModel}
+use Rattle.http_fronts.specs.Fronts.{FrontRelation}
 
 -- a line with its line feed
 abbrev pub with_line_feed : List ℕ → List ℕ
@@ -72,15 +73,16 @@ pub record IsTryStopped (input : List ℕ) (before after : Option (List ℕ))
   pub output_kept : KeepsTryOutput stop input before after
   pub reports_stop : ReportsStop stop errors_before errors_after exit
 
--- A store is represented by its books, an endpoint by the effects of its calls, a connection by its
--- octets, and a listener by the connections that arrive at it.
-module _ {S P L Connection : Type 0} (model : StoreModel S) (effects : EndpointRelation P)
-    (stream : ConnectionModel Connection) (coming : L → Option (List (Option Connection))) where
+-- A store is represented by its books, a front by what it answers, an endpoint by the effects of its
+-- calls, a connection by its octets, and a listener by the connections that arrive at it.
+module _ {S P L Connection : Type 0} (model : StoreModel S) (front : FrontRelation)
+    (effects : EndpointRelation P) (stream : ConnectionModel Connection)
+    (coming : L → Option (List (Option Connection))) where
   -- the order succeeded with this log of calls: its output was printed, and nothing was reported
   pub record IsOrderDone (order : Order) (before after : Option (List ℕ))
       (errors_before errors_after : Option (List ℕ)) (exit : ProgramExit)
       (log : List (HostCall S P L)) : Type 0 where
-    pub runs : RunsOnHost model effects stream coming order before after log
+    pub runs : RunsOnHost model front effects stream coming order before after log
     pub succeeds : Succeeds errors_before errors_after exit
 
   -- the order stopped with this log of calls, and the stop was reported
@@ -88,7 +90,7 @@ module _ {S P L Connection : Type 0} (model : StoreModel S) (effects : EndpointR
       (errors_before errors_after : Option (List ℕ)) (exit : ProgramExit)
       (log : List (HostCall S P L)) : Type 0 where
     pub stop : Stop
-    pub stops : StopsOnHost model effects stream coming order stop before after log
+    pub stops : StopsOnHost model front effects stream coming order stop before after log
     pub output_kept : KeepsOrderOutput order stop before after
     pub reports_stop : ReportsStop stop errors_before errors_after exit
 

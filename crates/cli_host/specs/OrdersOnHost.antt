@@ -7,6 +7,7 @@ use Rattle.book_commands.specs.declared.command.Command.TheVariants.{Import as I
 use Rattle.book_http.specs.ConnectionModels.{ConnectionModel}
 use Rattle.book_http.specs.OctetPromise.{ServiceStep}
 use Rattle.cli_args.specs.declared.order.Order.{Order}
+use Rattle.http_fronts.specs.Fronts.{FrontRelation, with_front}
 use Rattle.http_replies.specs.Replies.{head_fault_octets}
 use Rattle.http_requests.specs.GuardedHandlers.{guarded}
 use Rattle.http_requests.specs.HandlerRuns.{FaultReplies, HandlerRelation}
@@ -390,35 +391,37 @@ module _ {S P L State : Type 0} (does : HandlerRelation State) (effects : Endpoi
       ⊎ (((store : S) × GetsStore file creates (Ok store) log × StopsForMemory stop before after)
       ⊎ StopsServingStore file creates requested limits stop before after log)
 
--- A store is represented by its books, and an endpoint by the effects of its calls.
-module _ {S P L : Type 0} (model : StoreModel S) (effects : EndpointRelation P) where
-  -- the file's store was opened, or created if that was asked for, and served behind a guard of a
-  -- server with these names
+-- A store is represented by its books, a front by what it answers, and an endpoint by the effects of
+-- its calls.
+module _ {S P L : Type 0} (model : StoreModel S) (front : FrontRelation)
+    (effects : EndpointRelation P) where
+  -- the file's store was opened, or created if that was asked for, and served with the front before
+  -- it, behind a guard of a server with these names
   abbrev pub RunsGuarded : List ℕ → Bool → List (List ℕ) → Address → ServeLimits
       → Option (List ℕ) → Option (List ℕ) → List (HostCall S P L) → Type 0
   RunsGuarded file creates names requested limits before after log =
-      ServesStore (guarded (ServiceStep model)) effects (λ store. (names, store)) file creates
-      requested limits before after log
+      ServesStore (guarded (with_front front (ServiceStep model))) effects
+      (λ store. (names, store)) file creates requested limits before after log
 
   -- why it wasn't
   abbrev pub StopsGuarded : List ℕ → Bool → List (List ℕ) → Address → ServeLimits → Stop
       → Option (List ℕ) → Option (List ℕ) → List (HostCall S P L) → Type 0
   StopsGuarded file creates names requested limits stop before after log =
-      StopsStore (guarded (ServiceStep model)) effects (λ store. (names, store)) file creates
-      requested limits stop before after log
+      StopsStore (guarded (with_front front (ServiceStep model))) effects
+      (λ store. (names, store)) file creates requested limits stop before after log
 
   -- the same with these files of a site beside the service
   abbrev pub RunsSite : List SiteFile → List ℕ → Bool → List (List ℕ) → Address → ServeLimits
       → Option (List ℕ) → Option (List ℕ) → List (HostCall S P L) → Type 0
   RunsSite files file creates names requested limits before after log =
-      ServesStore (guarded (with_site (ServiceStep model))) effects
+      ServesStore (guarded (with_front front (with_site (ServiceStep model)))) effects
       (λ store. (names, (files, store))) file creates requested limits before after log
 
   -- why it wasn't
   abbrev pub StopsSite : List SiteFile → List ℕ → Bool → List (List ℕ) → Address → ServeLimits
       → Stop → Option (List ℕ) → Option (List ℕ) → List (HostCall S P L) → Type 0
   StopsSite files file creates names requested limits stop before after log =
-      StopsStore (guarded (with_site (ServiceStep model))) effects
+      StopsStore (guarded (with_front front (with_site (ServiceStep model)))) effects
       (λ store. (names, (files, store))) file creates requested limits stop before after log
 
   -- the files of the folder were read first, and are the site
@@ -464,10 +467,11 @@ module _ {S P L : Type 0} (model : StoreModel S) (effects : EndpointRelation P) 
 
 -- ---- all orders
 
--- A store is represented by its books, an endpoint by the effects of its calls, a connection by its
--- octets, and a listener by the connections that arrive at it.
-module _ {S P L Connection : Type 0} (model : StoreModel S) (effects : EndpointRelation P)
-    (stream : ConnectionModel Connection) (coming : L → Option (List (Option Connection))) where
+-- A store is represented by its books, a front by what it answers, an endpoint by the effects of its
+-- calls, a connection by its octets, and a listener by the connections that arrive at it.
+module _ {S P L Connection : Type 0} (model : StoreModel S) (front : FrontRelation)
+    (effects : EndpointRelation P) (stream : ConnectionModel Connection)
+    (coming : L → Option (List (Option Connection))) where
   -- the work was done, and its output is printed
   abbrev pub DoesWork : Work → Option (List ℕ) → Option (List ℕ) → List (HostCall S P L) → Type 0
   DoesWork Nothing before after log = ⊥
@@ -482,7 +486,7 @@ module _ {S P L Connection : Type 0} (model : StoreModel S) (effects : EndpointR
   DoesWork (ServeFile file port connections) before after log =
       ServesFile model stream coming file port connections before after log
   DoesWork (RunFile file creates names address limits is_logged site) before after log =
-      RunsFile model effects file creates names address limits site before after log
+      RunsFile model front effects file creates names address limits site before after log
   DoesWork (VerifyFile file) before after log = VerifiesFile model file before after log
   DoesWork (UseFile file work) before after log = DoesInFile model file work before after log
 
@@ -503,7 +507,7 @@ module _ {S P L Connection : Type 0} (model : StoreModel S) (effects : EndpointR
   StopsWork (ServeFile file port connections) stop before after log =
       StopsServe model stream coming file port connections stop before after log
   StopsWork (RunFile file creates names address limits is_logged site) stop before after log =
-      StopsRun model effects file creates names address limits site stop before after log
+      StopsRun model front effects file creates names address limits site stop before after log
   StopsWork (VerifyFile file) stop before after log =
       StopsVerifying model file stop before after log
   StopsWork (UseFile file work) stop before after log =

@@ -113,7 +113,7 @@ fn run_other_order<
     E: Write,
 >(alloc: Global, host: &mut M, order: Order, writer: &mut W, errors: &mut E) -> ProgramExit
     ensures { LogsCalls M.calls host.old host.new
-        (EndsOrder S.model P.calls L.Stream.model L.coming order
+        (EndsOrder S.model M.Front.answers P.calls L.Stream.model L.coming order
         (W.contents writer.old) (W.contents writer.new)
         (E.contents errors.old) (E.contents errors.new) result) }
 {
@@ -159,7 +159,7 @@ pub fn run_and_report<
     // whole log of calls that were made of the host is that of the order.
     ensures other_order { (other : TheOrder) → order ≡ Ok other → other ≢ TheOrder.Try →
         LogsCalls M.calls host.old host.new
-        (EndsOrder S.model P.calls L.Stream.model L.coming other
+        (EndsOrder S.model M.Front.answers P.calls L.Stream.model L.coming other
         (W.contents writer.old) (W.contents writer.new)
         (E.contents errors.old) (E.contents errors.new) result) }
 

@@ -8,6 +8,7 @@ ghost use Rattle.cli_orders.specs.Stops.{out_of_memory};
 
 use base_types::{Items, Text};
 use cli_orders::{Address, FoundCause, Restored, Stop};
+use http_fronts::Front;
 use request_log::RequestLog;
 use site_files::Site;
 use std::alloc::Global;
@@ -25,6 +26,9 @@ use store_schema::OpenFault;
 /// for why a file, a socket or a port couldn't be used. These are no calls: what an order does and
 /// prints doesn't depend on them.
 pub trait Host<S, P, L>: RequestLog {
+    /// What answers some requests of `run` before the books and a site do.
+    type Front: Front + Drop;
+
     /// What is known of a call: its result, and the host before and after it.
     ghost calls: { HostCall S P L → Self → Self → Type 0 };
 
@@ -92,6 +96,9 @@ pub trait Host<S, P, L>: RequestLog {
         ensures called { calls (BindsListener port result) self.old self.new }
         ensures port { IfOk result (λ bound. port ≢ 0 → bound.1 ≡ port) }
         ensures stop { IfErr result (λ stop. stop ≡ Stop.Device) };
+
+    /// The front of the server. Making it calls nothing.
+    fn front(&self) -> Self::Front;
 
     /// The number of octets of a file; 0 if the host can't read it.
     fn octets_of(&self, file: &str) -> u64;

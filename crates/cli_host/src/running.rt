@@ -162,10 +162,10 @@ fn do_work<S: AdminStore + Drop, P: Endpoint, L: Listener + Drop, M: Host<S, P, 
     writer: &mut W,
 ) -> Result<(), Stop>
     ensures done { OnOk result (LogsCalls M.calls host.old host.new
-        (DoesWork S.model P.calls L.Stream.model L.coming work
+        (DoesWork S.model M.Front.answers P.calls L.Stream.model L.coming work
         (W.contents writer.old) (W.contents writer.new))) }
     ensures stopped { IfErr result (λ stop. LogsCalls M.calls host.old host.new
-        (StopsWork S.model P.calls L.Stream.model L.coming work stop
+        (StopsWork S.model M.Front.answers P.calls L.Stream.model L.coming work stop
         (W.contents writer.old) (W.contents writer.new))) }
 {
     match work {
@@ -225,10 +225,10 @@ pub fn run_on_host<
 >(alloc: Global, host: &mut M, order: Order, writer: &mut W) -> Result<(), Stop>
     // The whole log of calls that were made of the host is that of the order.
     ensures done { OnOk result (LogsCalls M.calls host.old host.new
-        (RunsOnHost S.model P.calls L.Stream.model L.coming order
+        (RunsOnHost S.model M.Front.answers P.calls L.Stream.model L.coming order
         (W.contents writer.old) (W.contents writer.new))) }
     ensures stopped { IfErr result (λ stop. LogsCalls M.calls host.old host.new
-        (StopsOnHost S.model P.calls L.Stream.model L.coming order stop
+        (StopsOnHost S.model M.Front.answers P.calls L.Stream.model L.coming order stop
         (W.contents writer.old) (W.contents writer.new))) }
 
     // Nothing is written on a refusal, on a fault, or if the file can't be opened. But the order

@@ -11,6 +11,7 @@ use crate::progress::open_watched;
 use base_types::{Items, Text};
 use book_http::{Listener, Service};
 use cli_orders::{Address, Stop, announce_and_serve, announce_and_serve_in_turn};
+use http_fronts::WithFront;
 use http_requests::{Guarded, Handler};
 use hub_server::{Endpoint, ServeLimits};
 use request_log::{LoggedEndpoint, LoggedHandler};
@@ -119,8 +120,8 @@ pub(crate) fn run_serve<S: BookStore + Drop, P, L: Listener + Drop, M: Host<S, P
     announce_and_serve_in_turn(alloc, &mut service, listener, port, connections, writer)
 }
 
-/// Serves the books in the file at the address behind a guard of a server with these names, beside
-/// those of the loopback. The store is opened or created first.
+/// Serves the books in the file, with the host's front before them, at the address behind a guard of
+/// a server with these names, beside those of the loopback. The store is opened or created first.
 fn run_guarded<S: BookStore + Drop, P: Endpoint, L, M: Host<S, P, L>, W: Write>(
     alloc: Global,
     host: &mut M,
@@ -133,15 +134,16 @@ fn run_guarded<S: BookStore + Drop, P: Endpoint, L, M: Host<S, P, L>, W: Write>(
     writer: &mut W,
 ) -> Result<(), Stop>
     ensures done { OnOk result (LogsCalls M.calls host.old host.new
-        (RunsGuarded S.model P.calls file creates names address limits
+        (RunsGuarded S.model M.Front.answers P.calls file creates names address limits
         (W.contents writer.old) (W.contents writer.new))) }
     ensures stopped { IfErr result (λ stop. LogsCalls M.calls host.old host.new
-        (StopsGuarded S.model P.calls file creates names address limits stop
+        (StopsGuarded S.model M.Front.answers P.calls file creates names address limits stop
         (W.contents writer.old) (W.contents writer.new))) }
 {
     let store = get_store(alloc, host, file.as_str(), creates)?;
     let service = Service::new(alloc, store)?;
-    let handler = Guarded::new(names, service);
+    let fronted = WithFront::new(host.front(), service);
+    let handler = Guarded::new(names, fronted);
     serve_at(alloc, host, handler, address, limits, is_logged, writer)
 }
 
@@ -159,16 +161,17 @@ fn run_site<S: BookStore + Drop, P: Endpoint, L, M: Host<S, P, L>, W: Write>(
     writer: &mut W,
 ) -> Result<(), Stop>
     ensures done { OnOk result (LogsCalls M.calls host.old host.new
-        (RunsSite S.model P.calls site file creates names address limits
+        (RunsSite S.model M.Front.answers P.calls site file creates names address limits
         (W.contents writer.old) (W.contents writer.new))) }
     ensures stopped { IfErr result (λ stop. LogsCalls M.calls host.old host.new
-        (StopsSite S.model P.calls site file creates names address limits stop
+        (StopsSite S.model M.Front.answers P.calls site file creates names address limits stop
         (W.contents writer.old) (W.contents writer.new))) }
 {
     let store = get_store(alloc, host, file.as_str(), creates)?;
     let service = Service::new(alloc, store)?;
     let beside = WithSite::new(site, service);
-    let handler = Guarded::new(names, beside);
+    let fronted = WithFront::new(host.front(), beside);
+    let handler = Guarded::new(names, fronted);
     serve_at(alloc, host, handler, address, limits, is_logged, writer)
 }
 
@@ -186,10 +189,10 @@ fn run_folder<S: BookStore + Drop, P: Endpoint, L, M: Host<S, P, L>, W: Write>(
     writer: &mut W,
 ) -> Result<(), Stop>
     ensures done { OnOk result (LogsCalls M.calls host.old host.new
-        (RunsFolder S.model P.calls dir file creates names address limits
+        (RunsFolder S.model M.Front.answers P.calls dir file creates names address limits
         (W.contents writer.old) (W.contents writer.new))) }
     ensures stopped { IfErr result (λ stop. LogsCalls M.calls host.old host.new
-        (StopsFolder S.model P.calls dir file creates names address limits stop
+        (StopsFolder S.model M.Front.answers P.calls dir file creates names address limits stop
         (W.contents writer.old) (W.contents writer.new))) }
 {
     let site = host.read_site(dir.as_str())?;
@@ -213,10 +216,10 @@ pub(crate) fn run_file<S: BookStore + Drop, P: Endpoint, L, M: Host<S, P, L>, W:
     writer: &mut W,
 ) -> Result<(), Stop>
     ensures done { OnOk result (LogsCalls M.calls host.old host.new
-        (RunsFile S.model P.calls file creates names address limits site
+        (RunsFile S.model M.Front.answers P.calls file creates names address limits site
         (W.contents writer.old) (W.contents writer.new))) }
     ensures stopped { IfErr result (λ stop. LogsCalls M.calls host.old host.new
-        (StopsRun S.model P.calls file creates names address limits site stop
+        (StopsRun S.model M.Front.answers P.calls file creates names address limits site stop
         (W.contents writer.old) (W.contents writer.new))) }
 {
     match site {

@@ -6,15 +6,12 @@
 mod streams;
 
 use base_types::Text;
-use book_http::Listener;
 use cli_args::{LineFault, Order};
 use cli_convert::{DateOrder, RowsOutlet, Wanted, run_convert};
-use cli_host::{AdminStore, Host, note_waiting, order_of_args, run_and_report};
+use cli_host::{note_waiting, order_of_args, run_and_report};
 use file_host::FileHost;
-use hub_server::Endpoint;
-use std::alloc::Global;
 use std::env;
-use std::io::{IsTerminal, Read, Write};
+use std::io::IsTerminal;
 use std::process::ExitCode;
 use streams::hold_streams;
 
@@ -68,27 +65,6 @@ fn conversion_of(order: &Result<Order, LineFault>) -> Option<Wanted<'_>> {
     }
 }
 
-/// Runs the order on the host, reports a stop, and returns the exit status. (Over the files
-/// and sockets of the system the prover would spell out the whole contract of `run_and_report`.)
-fn run_on<
-    S: AdminStore + Drop,
-    P: Endpoint,
-    L: Listener + Drop,
-    M: Host<S, P, L>,
-    R: Read,
-    W: Write,
-    E: Write,
->(
-    alloc: Global,
-    host: &mut M,
-    order: Result<Order, LineFault>,
-    reader: &mut R,
-    writer: &mut W,
-    errors: &mut E,
-) -> u8 {
-    run_and_report(alloc, host, order, reader, writer, errors).status
-}
-
 /// Converts, and returns the exit status.
 fn convert(rt: &HostRuntime, wanted: Wanted<'_>) -> u8 {
     let mut rows = RowsOutlet {
@@ -97,26 +73,18 @@ fn convert(rt: &HostRuntime, wanted: Wanted<'_>) -> u8 {
     run_convert(rt.alloc(), rt, wanted, &mut rows, rt.stderr())
 }
 
-/// Runs the order on the host and the streams of the system, and returns the exit status. (One body
-/// that names both the host of the program and its streams is more than the prover takes.)
-fn run_on_streams<S: AdminStore + Drop, P: Endpoint, L: Listener + Drop, M: Host<S, P, L>>(
-    rt: &HostRuntime,
-    host: &mut M,
-    order: Result<Order, LineFault>,
-) -> u8 {
-    run_on(
+/// Runs another order on the files and ports of the system, and returns the exit status.
+fn run(rt: &HostRuntime, order: Result<Order, LineFault>) -> u8 {
+    let mut host = FileHost::new(*rt);
+    let exit = run_and_report(
         rt.alloc(),
-        host,
+        &mut host,
         order,
         &mut rt.stdin(),
         &mut rt.stdout(),
         &mut rt.stderr(),
-    )
-}
-
-/// Runs another order on the files and ports of the system, and returns the exit status.
-fn run(rt: &HostRuntime, order: Result<Order, LineFault>) -> u8 {
-    run_on_streams(rt, &mut FileHost::new(*rt), order)
+    );
+    exit.status
 }
 
 fn main(rt: HostRuntime) -> ExitCode {

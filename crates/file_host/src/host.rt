@@ -11,6 +11,7 @@ use base_types::{Items, Text};
 use book_store::{CopyFault, FileBooks, SqlStore};
 use cli_host::Host;
 use cli_orders::{Address, FoundCause, Restored, Stop};
+use convert_posts::Converter;
 use request_log::RequestLog;
 use site_files::{Site, read_site};
 use socket_endpoint::SocketEndpoint;
@@ -62,7 +63,13 @@ fn limits() -> Limits
 impl Host<FileBooks, SocketEndpoint, TcpListener> for FileHost {
     ghost use Rattle.file_host.specs.FileHosts.{IsAnyCall};
 
+    type Front = Converter;
+
     ghost calls = { IsAnyCall };
+
+    fn front(&self) -> Converter {
+        Converter
+    }
 
     fn create(&mut self, file: &str) -> Result<FileBooks, OpenFault>
         ensures limits { IfOk result (λ store. store.limits ≡ standard_limits) }

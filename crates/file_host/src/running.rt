@@ -9,6 +9,8 @@ use book_store::FileBooks;
 use cli_args::Order;
 use cli_host::run_on_host;
 use cli_orders::Stop;
+use convert_posts::Converter;
+use http_fronts::Front;
 use hub_server::Endpoint;
 use socket_endpoint::SocketEndpoint;
 use std::io::Write;
@@ -23,12 +25,12 @@ use sync_core::BookStore;
 /// log.
 pub fn run_order<W: Write>(rt: &HostRuntime, order: Order, writer: &mut W) -> Result<(), Stop>
     ensures done { OnOk result (HasLog (RunsOnHost ⟦<FileBooks as BookStore>⟧.model
-        ⟦<SocketEndpoint as Endpoint>⟧.calls ⟦<TcpStream as Connection>⟧.model
-        ⟦<TcpListener as Listener>⟧.coming order
+        ⟦<Converter as Front>⟧.answers ⟦<SocketEndpoint as Endpoint>⟧.calls
+        ⟦<TcpStream as Connection>⟧.model ⟦<TcpListener as Listener>⟧.coming order
         (W.contents writer.old) (W.contents writer.new))) }
     ensures stopped { IfErr result (λ stop. HasLog (StopsOnHost ⟦<FileBooks as BookStore>⟧.model
-        ⟦<SocketEndpoint as Endpoint>⟧.calls ⟦<TcpStream as Connection>⟧.model
-        ⟦<TcpListener as Listener>⟧.coming order stop
+        ⟦<Converter as Front>⟧.answers ⟦<SocketEndpoint as Endpoint>⟧.calls
+        ⟦<TcpStream as Connection>⟧.model ⟦<TcpListener as Listener>⟧.coming order stop
         (W.contents writer.old) (W.contents writer.new))) }
 
     // Nothing is written on a refusal, on a fault, or if the file can't be opened. But the order

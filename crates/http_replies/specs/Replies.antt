@@ -97,3 +97,15 @@ abbrev pub route_fault_octets : RouteFault → Bool → List ℕ
 route_fault_octets fault close =
     message_octets (message_of (route.route_fault_status fault) (allow_field fault)
     (json (fault_value (route.route_fault_text fault) (route.route_fault_number fault)))) close
+
+-- ---- replies to requests that aren't for the books
+
+-- the octets of a reply with this status and this value
+abbrev pub json_octets : ℕ → Data → Bool → List ℕ
+json_octets status value close = message_octets (message_of status None (json value)) close
+
+-- the octets for a method that a path doesn't have; it has these
+abbrev pub method_fault_octets : List ℕ → Bool → List ℕ
+method_fault_octets methods close =
+    message_octets (message_of 405 (Some (codes "Allow", methods))
+    (json (fault_value (codes "bad-method") 28))) close

@@ -12,4 +12,6 @@ mod replies;
 mod statuses;
 mod values;
 
-pub use replies::{head_fault_bytes, reply_bytes, route_fault_bytes};
+pub use replies::{
+    head_fault_bytes, json_bytes, method_fault_bytes, reply_bytes, route_fault_bytes,
+};

@@ -1,7 +1,10 @@
 //! The octets to send for each reply and each fault.
-ghost use Rattle.std.specs.Prelude.{◌≡◌, IfOk, option_map};
+ghost use Rattle.std.specs.Prelude.{◌≡◌, false, IfOk, option_map};
 ghost use Rattle.http_replies.specs.Replies.{allow_field, head_fault_octets, reply_octets};
-ghost use Rattle.http_replies.specs.Replies.{retry_field, route_fault_octets};
+ghost use Rattle.http_replies.specs.Replies.{json_octets, method_fault_octets, retry_field};
+ghost use Rattle.http_replies.specs.Replies.{route_fault_octets};
+ghost use Rattle.serde_json.specs.View.{view};
+ghost use Rattle.serde_json.specs.Written.{has_float};
 
 use crate::bodies::{JSON, body_of, fault_json, media_type_of};
 use crate::message::{Field, Message, message_octets};
@@ -10,6 +13,7 @@ use book_commands::Reply;
 use http::StatusCode;
 use http_requests::HeadFault;
 use http_routes::RouteFault;
+use serde_json::Value;
 use std::alloc::Global;
 use vcard_text::NoMemory;
 
@@ -90,6 +94,47 @@ pub fn route_fault_bytes(alloc: Global, fault: RouteFault, close: bool) -> Resul
         media_type: JSON,
         more: allow_field(fault),
         body,
+    };
+    message_octets(alloc, &message, close)
+}
+
+/// The octets to send for a reply to a request that isn't for the books, with this status and this
+/// value in JSON. `NoMemory` if an allocation fails.
+pub fn json_bytes(
+    alloc: Global,
+    status: StatusCode,
+    value: &Value,
+    close: bool,
+) -> Result<Vec<u8>, NoMemory>
+    ensures { has_float (view value.now) ≡ false → IfOk result (λ octets.
+        octets.items ≡ json_octets status (view value.now) close) }
+{
+    let message = Message {
+        status,
+        media_type: JSON,
+        more: None,
+        body: value.to_vec(alloc)?,
+    };
+    message_octets(alloc, &message, close)
+}
+
+/// The octets to send for a method that the path of a request doesn't have: it has `methods`.
+/// `NoMemory` if an allocation fails.
+pub fn method_fault_bytes(
+    alloc: Global,
+    methods: &'static str,
+    close: bool,
+) -> Result<Vec<u8>, NoMemory>
+    ensures { IfOk result (λ octets. octets.items ≡ method_fault_octets methods.now close) }
+{
+    let message = Message {
+        status: StatusCode::METHOD_NOT_ALLOWED,
+        media_type: JSON,
+        more: Some(Field {
+            name: "Allow",
+            value: methods,
+        }),
+        body: fault_json(alloc, "bad-method", 28)?,
     };
     message_octets(alloc, &message, close)
 }

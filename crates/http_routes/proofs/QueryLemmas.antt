@@ -52,7 +52,7 @@ only names pairs =
     list_all (λ pair. list_any (λ name. pair_is_named name pair) names) pairs
     && list_all (λ name. nat_le (count_pairs_named name pairs) 1) names
 
-only-is : (names : List (Bor (List ℕ))) (pairs : List Pair) → only (map (λ name. name.now) names) pairs ≡ (known names pairs && at_most_once names pairs)
+pub only-is : (names : List (Bor (List ℕ))) (pairs : List Pair) → only (map (λ name. name.now) names) pairs ≡ (known names pairs && at_most_once names pairs)
 only-is names pairs =
     ap (λ v. v && list_all (λ name. nat_le (count_pairs_named name pairs) 1) (map (λ name. name.now) names)) (known-is names pairs)
     ∙ ap (λ v. known names pairs && v) (all-map (λ name. nat_le (count_pairs_named name pairs) 1) names)

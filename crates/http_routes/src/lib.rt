@@ -16,6 +16,7 @@ mod router;
 pub use action::Action;
 pub use fault::RouteFault;
 pub use no_command::NoCommand;
-pub use request::read_request;
+pub use query::{has_only_names, number_of, pairs_of, query_value};
+pub use request::{read_request, split_target};
 pub use route::Route;
 pub use router::Routes;

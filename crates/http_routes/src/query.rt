@@ -29,8 +29,8 @@ fn raw_pairs_of(alloc: Global, query: &[u8]) -> Result<Vec<(&[u8], &[u8])>, Allo
     raw_pairs(query).collect(alloc)
 }
 
-/// The names with their values, in the order of the query.
-pub(crate) fn pairs_of(alloc: Global, query: &[u8]) -> Result<Vec<(Text, Text)>, NoMemory>
+/// The names with their values, decoded, in the order of the query. The only `Err` is out of memory.
+pub fn pairs_of(alloc: Global, query: &[u8]) -> Result<Vec<(Text, Text)>, NoMemory>
     ensures { IfOk result (λ pairs. pairs.items ≡ queries.pairs_of query.now) }
 {
     let raw = raw_pairs_of(alloc, query)?;
@@ -117,6 +117,13 @@ fn names_of(action: Action) -> &'static [&'static str]
     }
 }
 
+/// Whether the pairs have no names but these, and none of them twice.
+pub fn has_only_names(names: &[&str], pairs: &[(Text, Text)]) -> bool
+    ensures { result ≡ queries.has_only_names (map (λ name. name.now) names.now) pairs.now }
+{
+    all_known(names, pairs) && none_repeated(names, pairs)
+}
+
 /// Whether no name is unknown, repeated or missing.
 pub(crate) fn has_valid_names(action: Action, pairs: &[(Text, Text)]) -> bool
     ensures { result ≡ queries.has_valid_names action pairs.now }
@@ -133,7 +140,7 @@ pub(crate) fn has_valid_names(action: Action, pairs: &[(Text, Text)]) -> bool
 }
 
 /// The value of the first pair with the name.
-pub(crate) fn query_value<'a>(name: &str, pairs: &'a [(Text, Text)]) -> Option<&'a str>
+pub fn query_value<'a>(name: &str, pairs: &'a [(Text, Text)]) -> Option<&'a str>
     ensures { option_map (λ value. value.now) result ≡ queries.query_value name.now pairs.now }
 {
     let mut rest = pairs;
@@ -173,8 +180,8 @@ pub(crate) fn parse_number(text: &str) -> Result<u64, NoCommand>
 }
 
 /// The value of the name as a number, or `None` if the name is absent. `BadQuery` if the value
-/// isn't a number.
-pub(crate) fn number_of(name: &str, pairs: &[(Text, Text)]) -> Result<Option<u64>, NoCommand>
+/// isn't a number of 1 to 15 digits.
+pub fn number_of(name: &str, pairs: &[(Text, Text)]) -> Result<Option<u64>, NoCommand>
     ensures { MatchesExpected
         (queries.optional_number (queries.query_value name.now pairs.now)) result }
 {

@@ -19,7 +19,7 @@ use book_commands::Command;
 use std::alloc::Global;
 
 /// The path and the query of a target: the text before and after the first question mark.
-fn split_target(target: &str) -> (&str, &str)
+pub fn split_target(target: &str) -> (&str, &str)
     ensures path { result.0.now ≡ commands.path_in target.now }
     ensures query { result.1.now ≡ commands.query_in target.now }
 {

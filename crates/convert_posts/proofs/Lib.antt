@@ -1,0 +1,3 @@
+mod FloatLemmas
+mod PartLemmas
+mod RowLemmas

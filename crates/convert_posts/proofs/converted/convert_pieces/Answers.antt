@@ -1,0 +1,12 @@
+use Rattle.std.proofs.Common.{[], subst, sym}
+use Rattle.card_conversion.specs.declared.ledger.Summary.{Summary}
+use Rattle.convert_posts.specs.Parts.{IsOfPieces}
+use Rattle.convert_posts.specs.declared.row_list.RowList.{RowList}
+use Rattle.convert_posts.proofs.RowLemmas.{pieces_done}
+use Rattle.convert_posts.proofs.converted.convert_pieces.Goals as goal
+
+pub returns-in-Ok : goal.returns-in-Ok
+returns-in-Ok g c =
+    subst (λ (s : Summary). IsOfPieces (g.R.Read.remaining c.args.reader) s c.convert_more_cards.new.outlet.rows) (sym c.summary.ensures)
+    (pieces_done (λ (list : RowList). list.rows) (g.R.Read.remaining c.args.reader) c.new-course.result c.convert_more_cards.new.course c.new-rows.result c.convert_more_cards.new.outlet
+    c.written_cards_differ.ensures.rules c.written_cards_differ.ensures.distinct c.new-course.ensures.counts c.new-rows.ensures (c.in-Ok.ensures [] c.new-course.ensures.uids))

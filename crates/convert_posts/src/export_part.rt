@@ -1,0 +1,88 @@
+//! Converts a part of a file of rows of an export.
+ghost use Rattle.std.specs.Prelude.{◌≤◌, IfOk, IfSome, length};
+ghost use Rattle.convert_posts.specs.Parts.{IsPart};
+
+use crate::asked::Asked;
+use crate::card_cut::front;
+use crate::card_part::read_all;
+use crate::converted::convert_pieces;
+use crate::cut::{Cut, count_feeds};
+use crate::frame::{Frame, finished_part, open_part, small_part};
+use crate::part::{Dates, Kind, Part};
+use crate::row_cut::{RowKind, cut_rows, header_len};
+use base_types::{NoMemory, Text};
+use csv_cards::ExportText;
+use import_text::{is_card, split_piece};
+use std::alloc::Global;
+
+/// For each card of a text the number of line feeds before it.
+fn starts_in(alloc: Global, text: &[u8]) -> Result<Vec<u64>, NoMemory> {
+    let mut starts = Vec::new(alloc);
+    let mut feeds: u64 = 0;
+    let mut rest = text;
+    for _piece in 0..u64::MAX {
+        if rest.is_empty() {
+            break;
+        }
+        let (piece, after) = split_piece(rest);
+        if is_card(piece) {
+            starts.push(feeds)?;
+        }
+        feeds = feeds.saturating_add(count_feeds(piece));
+        rest = after;
+    }
+    Ok(starts)
+}
+
+/// Converts the rows of a body up to where it is cut. `None` if they can't be read.
+fn convert_cut(
+    alloc: Global,
+    asked: &Asked,
+    body: &[u8],
+    header: usize,
+    taken: usize,
+    cut: &Cut,
+) -> Result<Option<Part>, NoMemory>
+    requires { taken ≤ length body.now }
+    ensures { IfOk result (λ done. IfSome done (IsPart body.now)) }
+{
+    let text = read_all(alloc, ExportText::new(alloc, front(body, taken)))?;
+    let text = text.as_slice();
+    let starts = starts_in(alloc, text)?;
+    let frame = Frame {
+        kind: Kind::Rows,
+        header,
+        taken,
+        origin: asked.origin(),
+        cards: starts.len() as u64,
+        feeds: count_feeds(text),
+    };
+    if let Some(part) = small_part(alloc, frame, cut)? {
+        return Ok(Some(part));
+    }
+    match convert_pieces(alloc, text, frame.origin, starts.as_slice())? {
+        Some(converted) => {
+            let columns = Text::copy_of(alloc, "")?;
+            let part = finished_part(alloc, frame, converted, columns, Dates::None)?;
+            Ok(Some(part))
+        }
+        None => Ok(None),
+    }
+}
+
+/// Converts the front of a body of rows of an export. `None` if it can't be read.
+pub(crate) fn export_part(
+    alloc: Global,
+    asked: &Asked,
+    body: &[u8],
+) -> Result<Option<Part>, NoMemory>
+    ensures { IfOk result (λ done. IfSome done (IsPart body.now)) }
+{
+    let header = header_len(RowKind::Export, body);
+    let (taken, cut) = cut_rows(alloc, RowKind::Export, body, header, asked.more)?;
+    if asked.more && cut.is_empty() {
+        let part = open_part(alloc, asked, Kind::Rows)?;
+        return Ok(Some(part));
+    }
+    convert_cut(alloc, asked, body, header, taken, &cut)
+}

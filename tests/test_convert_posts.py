@@ -1,0 +1,468 @@
+"""`POST /convert`: what a file becomes, part by part, before it is imported.
+
+A file that is sent in parts gets the rows, the report and the numbers that `contacts convert` gives
+for the whole file, wherever it is cut. What is too large or too slow is told in words, and holds up
+no other client for long.
+"""
+
+import csv
+import io
+import json
+import re
+import threading
+import time
+import unittest
+from urllib.parse import quote
+
+from card_rows import octets as octets_of
+from contact_rows import EXPORTS
+from converted_cards import CARDS
+from http_requests import books, card, create, get, put, request, tally
+from order_trials import OrderTest
+from program import Server, run
+
+csv.field_size_limit(10_000_000)
+
+HEAD_OCTETS = 16_384
+PIECE = 262_144
+KEYS = ["card", "changed", "columns", "dates", "header", "kind", "line", "not_carried", "report",
+        "rows", "taken", "written"]
+PLACE = re.compile(r"(?:card|row) (\d+), line (\d+): (.*)|line (\d+): (.*)")
+GOOGLE = "Name,E-mail 1 - Value,Notes,Labels,Birthday\n"
+BAD_QUERY = {"fault": "bad-query", "number": 30}
+
+
+def reported(text):
+    """The lines of a whole report, as the reply has them, and the numbers of its last line."""
+    *lines, last = text.decode().splitlines()
+    report = []
+    for line in lines:
+        found = PLACE.fullmatch(line)
+        if found:
+            card_number, line_number, words, other, other_words = found.groups()
+            report.append({"card": int(card_number or 0), "line": int(line_number or other),
+                           "text": words or other_words})
+    written, changed, _aside, refused = [int(word) for word in re.findall(r"\d+", last)]
+    return report, [written, changed, refused]
+
+
+def old_card(number, *lines):
+    """A card of vCard 3.0 without a UID, which is changed."""
+    return "".join(f"{line}\n" for line in [
+        "BEGIN:VCARD", "VERSION:3.0", f"N:Lee;Ann {number};;;", "CLASS:PUBLIC",
+        f"TEL;TYPE=CELL:+1 {number}", *lines, "END:VCARD"]).encode()
+
+
+def mixed_cards(octets):
+    """Cards of all kinds, text between them, of about so many octets."""
+    text, number = b"", 0
+    while len(text) < octets:
+        number += 1
+        text += old_card(number, "NOTE:" + "x" * (number % 97))
+        if number % 5 == 0:
+            text += card(f"u{number}", f"Bob {number}").encode()
+        if number % 7 == 0:
+            text += b"no card\n\n" if number % 2 else b"\r\n \n"
+        if number % 11 == 0:
+            text += b"BEGIN:VCARD\nVERSION:4.0\nFN:open %d\n" % number
+    return text
+
+
+def mixed_rows(octets, end="\n"):
+    """Rows of contacts: cells with line feeds, broken quotes, empty lines, wrong widths."""
+    text, number = GOOGLE, 0
+    while len(text) < octets:
+        number += 1
+        text += f'Ann {number},a{number}@x.test,"first\nsecond, and ""third""",A ::: B,' + end
+        if number % 5 == 0:
+            text += f'Bob {number},"b{number}@x.test,,,{end}'
+        if number % 7 == 0:
+            text += f"{end}{end}only one cell {number}{end}"
+        if number % 11 == 0:
+            text += f'Cy {number},c{number}@x.test,5" pipe,,31/12/1980{end}'
+    return text.encode()
+
+
+class ConvertTest(OrderTest):
+    """A test with a server that runs."""
+
+    def setUp(self):
+        super().setUp()
+        more = ["--create", "--host", "office"]
+        self.server = Server(self.folder / "office.db", order="run", more=more)
+        self.addCleanup(self.server.kill)
+        self.connection = self.server.connect()
+        self.addCleanup(self.connection.socket.close)
+
+    def ask(self, octets):
+        """The status and the body of the reply on the test's own connection."""
+        self.connection.send(octets)
+        head, _, body = self.connection.reply().partition(b"\r\n\r\n")
+        return int(head.split()[1]), body
+
+    def post(self, body, query=""):
+        """The status and the value of the reply to a body."""
+        return self.read(*self.ask(request("POST", f"/convert{query}", body)))
+
+    def read(self, status, text):
+        """The status and the value of a reply, which is written without spaces, names in order."""
+        value = json.loads(text)
+        self.assertEqual(text, json.dumps(value, separators=(",", ":"), sort_keys=True,
+                                          ensure_ascii=False).encode())
+        return status, value
+
+    def part(self, body, query=""):
+        status, value = self.post(body, query)
+        self.assertEqual(200, status, value)
+        self.assertEqual(KEYS, list(value))
+        self.assertLessEqual(value["taken"], len(body))
+        return value
+
+    def in_parts(self, octets, sizes, more=""):
+        """All rows, reports and numbers of a file whose bodies have these sizes, then the rest."""
+        header, at, line, number = b"", 0, 1, 1
+        rows, report, numbers, parts = [], [], [0, 0, 0], []
+        sizes = list(sizes)
+        while True:
+            size = sizes.pop(0) if sizes else len(octets)
+            goes_on = at + size < len(octets)
+            body = header + octets[at:at + size]
+            query = f"?line={line}&card={number}{more}" + ("&more=1" if goes_on else "")
+            part = self.part(body, query)
+            parts.append(part)
+            rows += part["rows"]
+            report += part["report"]
+            numbers = [a + b for a, b in zip(
+                numbers, [part["written"], part["changed"], part["not_carried"]])]
+            if part["taken"]:
+                at += part["taken"] - len(header)
+                line, number = part["line"], part["card"]
+                header = header or octets[:part["header"]]
+            else:
+                self.assertTrue(goes_on or not octets[at:], part)
+            if at >= len(octets):
+                return rows, report, numbers, parts
+
+    def converted(self, octets, name, *options):
+        """The rows, the report and the numbers of `contacts convert`."""
+        (self.folder / name).write_bytes(octets)
+        report = self.folder / "report.txt"
+        if report.exists():
+            report.unlink()
+        ended = run("convert", name, "--report", report.name, *options, cwd=self.folder)
+        rows = list(csv.reader(io.StringIO(ended.out.decode(), newline="")))[1:]
+        return rows, *reported(report.read_bytes())
+
+    def compare(self, octets, name, sizes=(), options=(), more=""):
+        """The parts are what `contacts convert` gives. Returns them."""
+        rows, report, numbers, parts = self.in_parts(octets, sizes, more)
+        wanted, wanted_report, wanted_numbers = self.converted(octets, name, *options)
+        self.assertEqual(wanted, [[row["uid"], row["vcard"]] for row in rows])
+        self.assertEqual(wanted_report, report)
+        self.assertEqual(wanted_numbers, numbers)
+        return parts
+
+
+class Converted(ConvertTest):
+    def test_each_example_is_converted_as_by_the_order(self):
+        for title, lines, _card, _report in CARDS:
+            for end in "\r\n", "\n", "\r":
+                with self.subTest(title, end=end):
+                    self.compare(octets_of("".join(line + end for line in lines)), "cards.vcf")
+        for export in EXPORTS:
+            with self.subTest(export.title):
+                parts = self.compare(export.octets, "contacts.csv")
+                self.assertEqual({"contacts"}, {part["kind"] for part in parts})
+
+    def test_each_row_has_its_card_and_its_line(self):
+        octets = mixed_cards(1_000)
+        for row in self.part(octets)["rows"]:
+            line = octets.splitlines(True)[row["line"] - 1]
+            self.assertEqual(b"BEGIN:VCARD", line.strip())
+            begun = octets.splitlines()[:row["line"]].count(b"BEGIN:VCARD")
+            self.assertEqual(begun, row["card"])
+        octets = mixed_rows(1_000)
+        for row in self.part(octets)["rows"]:
+            line = octets.splitlines()[row["line"] - 1].decode()
+            self.assertIn(line.split(",")[0], row["vcard"])
+
+    def test_an_export_is_read_again(self):
+        for octets in create("staff"), put("staff", "a", "Ann"), put("staff", "b", "Bob"):
+            self.ask(octets)
+        _, octets = self.ask(request("GET", "/books/staff/export"))
+        part = self.part(octets)
+        self.assertEqual(("rows", ["a", "b"], 10), (
+            part["kind"], [row["uid"] for row in part["rows"]], part["header"]))
+        self.assertEqual([card("a", "Ann"), card("b", "Bob")],
+                         [row["vcard"] for row in part["rows"]])
+
+    def test_the_same_card_twice_in_a_part_is_passed(self):
+        octets = card("a", "Ann").encode() * 2 + card("a", "Anna").encode()
+        part = self.part(octets)
+        self.assertEqual(["an earlier card is the same"],
+                         [it["text"] for it in part["report"] if it["card"] == 2])
+        self.assertEqual([1, 3], [row["card"] for row in part["rows"]])
+        self.compare(octets, "cards.vcf")
+
+    def test_blank_and_empty_bodies_have_no_cards(self):
+        for octets in b"", b"\n", b" \r\n\n", b"\xef\xbb\xbf":
+            part = self.part(octets)
+            self.assertEqual(([], 0, len(octets)), (
+                part["rows"], part["not_carried"], part["taken"]))
+
+
+class Cut(ConvertTest):
+    def test_cards_are_cut_at_every_octet(self):
+        octets = mixed_cards(HEAD_OCTETS + 4_000)
+        for size in range(1, 400):
+            self.in_same_parts(octets, "cards.vcf", [HEAD_OCTETS + 900, size])
+
+    def test_rows_are_cut_at_every_octet(self):
+        for end in "\n", "\r\n":
+            octets = mixed_rows(HEAD_OCTETS + 4_000, end)
+            for size in range(1, 400):
+                self.in_same_parts(octets, "rows.csv", [HEAD_OCTETS + 900, size])
+
+    def test_exports_are_cut_at_every_octet(self):
+        (self.folder / "cards.vcf").write_bytes(mixed_cards(HEAD_OCTETS + 4_000))
+        octets = run("convert", "cards.vcf", cwd=self.folder).out
+        for size in range(1, 400):
+            self.in_same_parts(octets, "rows.csv", [HEAD_OCTETS + 900, size])
+
+    def in_same_parts(self, octets, name, sizes):
+        """The parts are those of the whole, which is converted once."""
+        if getattr(self, "whole_of", None) != octets:
+            self.whole, self.whole_of = self.converted(octets, name), octets
+        rows, report, numbers, _ = self.in_parts(octets, sizes)
+        with self.subTest(name, sizes=sizes):
+            self.assertEqual(self.whole, (
+                [[row["uid"], row["vcard"]] for row in rows], report, numbers))
+
+    def test_large_files_are_converted_in_pieces(self):
+        for octets, name in (mixed_cards(600_000), "cards.vcf"), (mixed_rows(400_000), "a.csv"):
+            parts = self.compare(octets, name, [PIECE] * 100)
+            self.assertLess(3, len(parts))
+            for part in parts:
+                self.assertLessEqual(part["taken"], 131_072 + 1_000)
+                self.assertLessEqual(len(part["rows"]), 400)
+
+    def test_a_short_first_piece_is_left_for_a_longer_one(self):
+        for octets in mixed_cards(9_000), mixed_rows(9_000):
+            part = self.part(octets, "?more=1")
+            self.assertEqual((0, [], 1, 1), (
+                part["taken"], part["rows"], part["card"], part["line"]))
+
+
+class Columns(ConvertTest):
+    def test_what_becomes_of_the_columns_is_said(self):
+        part = self.part(b"First Name,Last Name,Mobile Phone,Business Fax,Hobby,E-mail Address\n"
+                         b"Ann,Lee,1,2,tea,a@x.test\n")
+        self.assertEqual("First Name=n.given,Last Name=n.family,Mobile Phone=tel;type=cell,"
+                         "Business Fax=tel;type=work;type=fax,E-mail Address=email",
+                         part["columns"])
+        columns = quote("Hobby=note,#3=-")
+        part = self.part(b"First Name,Last Name,Mobile Phone,Hobby,E-mail Address\n"
+                         b"Ann,Lee,1,tea,a@x.test\n", f"?columns={columns}")
+        self.assertEqual("First Name=n.given,Last Name=n.family,Mobile Phone=-,Hobby=note,"
+                         "E-mail Address=email", part["columns"])
+        self.assertIn("NOTE:tea", part["rows"][0]["vcard"])
+        self.assertNotIn("TEL", part["rows"][0]["vcard"])
+
+    def test_dates_are_told(self):
+        rows = [("05/04/1980", "unknown"), ("15/04/1980", "day"), ("04/15/1980", "month"),
+                ("1980-04-05", "none"), ("04/04/1980", "none"), ("", "none")]
+        for date, dates in rows:
+            with self.subTest(date):
+                octets = (GOOGLE + f"Ann,a@x.test,,,{date}\n").encode()
+                self.assertEqual(dates, self.part(octets)["dates"])
+        octets = (GOOGLE + "Ann,a@x.test,,,05/04/1980\n").encode()
+        for query, line in [("", "BDAY;VALUE=text:05/04/1980"), ("?dates=day", "BDAY:19800405"),
+                            ("?dates=month", "BDAY:19800504")]:
+            part = self.part(octets, query)
+            self.assertIn(line, part["rows"][0]["vcard"].splitlines())
+        self.compare(octets, "a.csv", options=["--day-first"], more="&dates=day")
+
+    def test_an_unknown_header_gets_columns_to_begin_with(self):
+        status, value = self.post(b"Kunde,Mail (priv.)\nAnn,a@x.test\n")
+        self.assertEqual((422, "not-converted", 35), (status, value["fault"], value["number"]))
+        self.assertEqual("Mail (priv.)=email,Kunde=fn", value["columns"])
+        query = "?columns=" + quote(value["columns"])
+        part = self.part(b"Kunde,Mail (priv.)\nAnn,a@x.test\n", query)
+        self.assertEqual((1, value["columns"]), (part["written"], part["columns"]))
+
+
+class Refused(ConvertTest):
+    def test_other_formats_are_told(self):
+        for octets, words in [
+            (b"version: 1\ndn: cn=Ann\n", "LDIF"), (b"PK\x03\x04 xl/", "Excel workbook"),
+            (b"%PDF-1.7", "PDF"), (b"\x1f\x8b\x08", "gzip"), (b"<?xml ?>", "XML"),
+            ("BEGIN:VCARD".encode("utf-16"), "UTF-16"), (b"hello\n", "no card"),
+        ]:
+            status, value = self.post(octets)
+            self.assertEqual((422, 35), (status, value["number"]), octets)
+            self.assertIn(words, value["text"])
+
+    def test_wrong_columns_are_told(self):
+        octets = (GOOGLE + "Ann,a@x.test,,,\n").encode()
+        for columns, words in [
+            ("Nme=fn", "there is no column 'Nme'"), ("Name", "isn't COLUMN"),
+            ("Name=nm", "'nm' is no property"), ("Name=fn,#1=note", "more than"),
+        ]:
+            status, value = self.post(octets, f"?columns={quote(columns)}")
+            self.assertEqual(422, status)
+            self.assertIn(words, value["text"])
+        status, value = self.post(card("a", "Ann").encode(), "?columns=Name%3Dfn")
+        self.assertEqual((422, "--columns: the file has cards, and no columns"),
+                         (status, value["text"]))
+
+    def test_columns_that_take_too_long_are_told(self):
+        names = [f"C{number:04}" for number in range(900)]
+        wide = ",".join(["Name", *names]).encode() + b"\nAnn" + b"," * 900 + b"\n"
+        umlauts = wide.replace(b"C0", "\u00c4".encode())
+        for octets, columns, words in [
+            (wide, ",".join(f"{name}=-" for name in names[:257]), "more than 256 columns"),
+            (wide, ",".join(f"{name}=-" for name in names[:200]), "too many columns"),
+            (umlauts, ",".join(f"\u00c4{number:03}=-" for number in range(30)), "too many columns"),
+            (b"a," * 1_001 + b"\n", "", "more than 1,000 cells"),
+        ]:
+            status, value = self.post(octets, f"?columns={quote(columns)}" if columns else "")
+            self.assertEqual(422, status, words)
+            self.assertIn(words, value["text"])
+        part = self.part(wide, "?columns=" + quote(",".join(f"{name}=-" for name in names[:70])))
+        self.assertEqual(1, part["written"])
+
+    def test_wrong_queries(self):
+        for query in ["?more=2", "?more=", "?line=0", "?card=0", "?line=x", "?line=1&line=2",
+                      "?dates=year", "?charset=latin1", "?a=b", "?card=1234567890123456"]:
+            with self.subTest(query):
+                self.assertEqual((400, BAD_QUERY), self.post(b"", query))
+
+    def test_only_post(self):
+        for method in "GET", "PUT", "DELETE", "OPTIONS", "post":
+            self.connection.send(request(method, "/convert", b""))
+            head, _, body = self.connection.reply().partition(b"\r\n\r\n")
+            self.assertIn(b"405 Method Not Allowed", head)
+            self.assertIn(b"\r\nAllow: POST\r\n", head)
+            self.assertEqual({"fault": "bad-method", "number": 28}, json.loads(body))
+
+    def test_other_paths_are_the_apis(self):
+        for target in "/convert/", "/converts", "/Convert", "/convert%3Fa", "//convert":
+            status, _ = self.ask(request("POST", target, b""))
+            self.assertEqual(404, status, target)
+
+    def test_the_guard(self):
+        for fields, number in [(["Origin: http://evil.example"], 32),
+                               (["Sec-Fetch-Site: cross-site"], 32), (["If-Match: *"], 33)]:
+            reply = self.server.ask(request("POST", "/convert", b"", fields=fields))
+            self.assertIn(f'"number":{number}'.encode(), reply)
+        reply = self.server.ask(request("POST", "/convert", b"", fields=["Host: evil"], host=False))
+        self.assertIn(b'"number":31', reply)
+
+    def test_serve_has_no_conversions(self):
+        run("init", self.folder / "other.db")
+        with Server(self.folder / "other.db", connections=1) as server:
+            self.assertIn(b'"number":27', server.ask(request("POST", "/convert", b"")))
+
+    def test_no_book_is_changed(self):
+        self.ask(create("staff"))
+        self.ask(put("staff", "a", "Ann"))
+        before = self.ask(tally("staff"))
+        self.part(card("a", "Other").encode())
+        self.assertEqual(before, self.ask(tally("staff")))
+        self.assertIn(b"FN:Ann", self.ask(get("staff", "a"))[1])
+
+
+# Bodies that would be slow, if what is done at once weren't bounded. The most octets of a body:
+MOST = 8_388_608
+PHOTO = old_card(1, "PHOTO;ENCODING=b;TYPE=JPEG:" + "\n ".join(["QUJD" * 18] * 3_000), "")
+WORST = {
+    "cards with photos": PHOTO * 30,
+    "small cards": b"".join(old_card(number) for number in range(40_000)),
+    "the shortest rows": GOOGLE.encode() + b"A,,,,\n" * 1_000_000,
+    "empty lines": GOOGLE.encode() + b"\n" * 8_000_000,
+    "quotes": GOOGLE.encode() + b'"' * 8_000_000,
+    "open quotes": GOOGLE.encode() + b'"a\n' * 2_000_000,
+    "quotes that close late": GOOGLE.encode() + (b'x","\n' * 100_000 + b'x"\n') * 16,
+    "quotes in cells": GOOGLE.encode() + b'a"b,' * 2_000_000,
+    "BEGIN:VCARD alone": b"BEGIN:VCARD\n" * 600_000,
+    "no line feed": b"BEGIN:VCARD\nVERSION:3.0\nNOTE:" + b"x" * 8_000_000,
+    "a million parameters":
+        b"BEGIN:VCARD\nVERSION:3.0\nTEL" + b";A=b" * 1_000_000 + b":1\nEND:VCARD\n",
+    "short lines": b"BEGIN:VCARD\nVERSION:3.0\n" + b"A:\n" * 170_000 + b"END:VCARD\n",
+    "labels": b"BEGIN:VCARD\nVERSION:3.0\n" + b"ADR:;;a\nLABEL:b\n" * 2_400 + b"END:VCARD\n",
+    "agents": b"BEGIN:VCARD\nVERSION:2.1\n" + b"AGENT:\nBEGIN:VCARD\n" * 400_000,
+    "many cells":
+        b"Name,Phone 1 - Value" + b",c" * 900 + b"\n" + (b"A,1" + b",v" * 900 + b"\n") * 4_000,
+    "many values": GOOGLE.encode() + b"A," + b"a ::: " * 1_000_000 + b",,,\n",
+    "a long header": b"a," * 4_000_000 + b"\n",
+    "a wide header": b",".join(b"Phone %d - Value" % n for n in range(900)) + b",Name\n",
+    "nothing but text": b"hello, world\n" * 600_000,
+}
+# What another client may wait in the meantime, in seconds. A part should take 20 ms; a machine that
+# does other work may need many times as much. All at once would take several seconds.
+PATIENCE = 1
+
+
+class Worst(ConvertTest):
+    def watched(self, octets):
+        """The status and the body of the reply, and another client's longest wait till then."""
+        waits, done = [], threading.Event()
+
+        def ask_for_books():
+            with self.server.connect() as other:
+                while not waits or not done.is_set():
+                    started = time.monotonic()
+                    other.send(books())
+                    other.reply()
+                    waits.append(time.monotonic() - started)
+
+        client = threading.Thread(target=ask_for_books)
+        client.start()
+        try:
+            status, text = self.ask(octets)
+        finally:
+            done.set()
+            client.join()
+        return status, text, max(waits)
+
+    def test_no_body_holds_up_another_client(self):
+        for title, octets in WORST.items():
+            with self.subTest(title):
+                query = "?more=1" if len(octets) > MOST else ""
+                body = octets[:MOST]
+                status, text, longest = self.watched(request("POST", f"/convert{query}", body))
+                status, value = self.read(status, text)
+                self.assertIn(status, (200, 422))
+                self.assertLess(longest, PATIENCE)
+                if status == 200:
+                    self.assertLess(0, value["taken"], value)
+                    # All of the line of a row that is too large is passed.
+                    if value["kind"] == "cards" or value["written"]:
+                        self.assertLessEqual(value["taken"], 600_000)
+
+    def test_cards_that_are_too_large_are_told(self):
+        large = old_card(1, "NOTE:" + "x" * 600_000)
+        heavy = old_card(2, *["A:"] * 20_000)
+        octets = large + heavy + old_card(3)
+        rows, report, numbers, _ = self.in_parts(octets, [])
+        self.assertEqual(["not carried: it has more than 524,288 octets",
+                          "not carried: no card begins here",
+                          "not carried: it has too many lines, cells or parameters"],
+                         [it["text"] for it in report if "not carried" in it["text"]])
+        self.assertEqual(([3], 1, 3), ([row["card"] for row in rows], numbers[0], numbers[2]))
+        self.assertEqual(octets.splitlines().index(b"N:Lee;Ann 3;;;") - 1, rows[0]["line"])
+
+    def test_rows_that_are_too_large_are_told(self):
+        octets = GOOGLE.encode() + b"Ann,a@x.test," + b"x" * 600_000 + b",,\nBob,b@x.test,,,\n"
+        rows, report, numbers, _ = self.in_parts(octets, [])
+        self.assertIn("not carried: it has more than 524,288 octets", report[0]["text"])
+        self.assertEqual(("b@x.test", 3), (
+            re.search("EMAIL[^:]*:(.*)\r", rows[0]["vcard"])[1], rows[0]["line"]))
+
+    def test_lines_that_end_with_a_carriage_return_alone(self):
+        octets = mixed_cards(3_000).replace(b"\r\n", b"\n").replace(b"\n", b"\r")
+        self.compare(octets, "cards.vcf")
+
+
+if __name__ == "__main__":
+    unittest.main()
