@@ -119,7 +119,8 @@ EXPORTS = [
             "X-NOTES:again",
         ],
         ["row 1, line 2: the cell of Birthday kept as text: its day, month or year isn't certain",
-         "row 1, line 2: the cell of Notes kept as X-NOTES"],
+         "row 1, line 2: the cell of Notes kept as X-NOTES",
+         "row 1, line 2: the cell of Notes rewritten"],
     ),
     Export(
         "an octet that isn't UTF-8 is a character of Latin-1",

@@ -39,7 +39,8 @@ def form_of(words):
 def weight(line):
     if ": not carried: " in line:
         return 3
-    return 2 if " left out" in line or "U+FFFD" in line else 1
+    lost = (" left out", "U+FFFD", "lost the fraction of a second", "the card has no END")
+    return 2 if any(words in line for words in lost) else 1
 
 
 def digest(lines, written, changed, refused, files=None):

@@ -476,4 +476,29 @@ CARDS = [
          "EMAIL;TYPE=internet:ann@example.test", "FN:ann@example.test"],
         ["line 5: EMAIL kept as X-EMAIL", "line 6: EMAIL rewritten", "line 1: FN added"],
     ),
+    Converted(
+        "a soft line break right before the END, which isn't a part of the value",
+        ["BEGIN:VCARD", "VERSION:2.1", "UID:a", "FN:Ann",
+         "NOTE;ENCODING=QUOTED-PRINTABLE:a=3Db=", "end:vCard "],
+        ["UID:a", "FN:Ann", "NOTE:a=b"],
+        ["line 5: NOTE rewritten"],
+    ),
+    Converted(
+        "white space after a name is no part of it",
+        card("3.0", "UID:a", "FN:Ann", "TEL ;TYPE=home:1", "a.EMAIL :b@example.test", "CLASS\t:x"),
+        ["UID:a", "FN:Ann", "TEL;TYPE=home:1", "a.EMAIL:b@example.test", "X-CLASS:x"],
+        ["line 5: TEL rewritten", "line 6: EMAIL rewritten", "line 7: CLASS kept as X-CLASS"],
+    ),
+    Converted(
+        "a time in vCard 4.0 has no fraction of a second (RFC 6350, section 4.3.2): one in the "
+        "extended form loses it",
+        card("3.0", "UID:a", "FN:Ann", "BDAY:1980-04-12T10:22:33.5Z",
+             "ANNIVERSARY:1980-04-12T10:22:33,25-05:00", "BDAY:1980-04-12T10:22:33Z",
+             "ANNIVERSARY:19800412T102233.5Z", "REV:1980-04-12T10:22:33.5Z"),
+        ["UID:a", "FN:Ann", "BDAY:19800412T102233Z", "ANNIVERSARY:19800412T102233-0500",
+         "BDAY:19800412T102233Z", "ANNIVERSARY:19800412T102233.5Z", "REV:19800412T102233Z"],
+        ["line 5: BDAY lost the fraction of a second",
+         "line 6: ANNIVERSARY lost the fraction of a second", "line 7: BDAY rewritten",
+         "line 9: REV rewritten"],
+    ),
 ]

@@ -252,11 +252,11 @@ class ConvertContacts(OrderTest):
         rows = [["a", first], ["b", "two"], [more[0]], [more[1], ""], ["", more[2], "e"]]
         ended = self.convert(csv_text([["uid", "vcard"], *rows]).encode(), name="export.csv")
         report = digest([
-            "card 1, line 1: UID added",
-            "line 5: not carried: no card begins here",
-            "card 2, line 7: UID added",
-            "card 3, line 10: UID added",
-            "card 4, line 13: UID added",
+            "card 1, line 2: UID added",
+            "line 6: not carried: no card begins here",
+            "card 2, line 8: UID added",
+            "card 3, line 11: UID added",
+            "card 4, line 14: UID added",
         ], 4, 4, 1)
         self.assertEqual((1, report), (ended.status, ended.err.decode()))
         made = rows_of(ended.out)
@@ -366,6 +366,38 @@ class ConvertContacts(OrderTest):
                 report = digest([f"row 1, line 2: not carried: {why}"], 1, 0, 1)
                 self.assertEqual((1, report), (ended.status, ended.err.decode()))
                 self.assertEqual(["Bob"], self.names(ended))
+
+    def test_lines_of_rows(self):
+        """A row is told with its own line: not with that of an empty one before it."""
+        lines = ["First Name,E-mail Address,Shoe,Notes", "", "", 'A,,1,"a\nb"', "", "B,,2,",
+                 'C,,3,"x', "D,,4,"]
+        kept = "the cell of Shoe kept as X-SHOE"
+        report = digest([f"row 1, line 4: {kept}", f"row 2, line 7: {kept}",
+                         "row 3, line 8: not carried: a quote isn't closed in its row",
+                         f"row 4, line 9: {kept}"], 3, 3, 1)
+        for end in "\n", "\r\n":
+            for last in end, "", 3 * end:
+                with self.subTest(end=end, last=last):
+                    ended = self.convert((end.join(lines) + last).encode())
+                    self.assertEqual((1, report), (ended.status, ended.err.decode()))
+
+    def test_cells_that_stand_for_nothing(self):
+        """What stands for no date is kept where it is none; a control character is told."""
+        header = "First Name,E-mail Address,Birthday,Notes\n"
+        for row, lines, has in [
+            ("Ann,a@x.test,0/0/00,", [], "FN:Ann"),
+            ("Ann,a@x.test,,0/0/00", ["the cell of Notes kept as X-NOTES"], "X-NOTES:0/0/00"),
+            ("0.0.00,a@x.test,,", ["the cell of First Name kept as X-FIRST-NAME"],
+             "X-FIRST-NAME:0.0.00"),
+            ("Ann,a@x.test,,a\x01b\x7f", ["the cell of Notes rewritten"], "NOTE:a b "),
+            ("Ann,a@x.test,,a\tb", [], "NOTE:a\tb"),
+        ]:
+            with self.subTest(row):
+                ended = self.convert((header + row + "\n").encode())
+                report = digest([f"row 1, line 2: {it}" for it in lines], 1, len(lines), 0)
+                self.assertEqual((0, report), (ended.status, ended.err.decode()))
+                [card] = rows_of(ended.out)
+                self.assertIn(has, self.lines(card))
 
     def test_rows_that_are_no_loss(self):
         octets = b"First Name,E-mail Address\nAnn,a@x.test\n,\nAnn,a@x.test\nBob,\n\n"

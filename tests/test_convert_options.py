@@ -240,7 +240,7 @@ class ConvertOptions(OrderTest):
             ("Imię,Nazwisko,Poczta\nAnn,Lee,a@x.test\n", "Imię=fn"),
             ("First Name;Labels;Mail (priv.);Mobil 2\nA;b;a@x.test;1\n",
              "Mail (priv.)=email,Mobil 2=tel;type=cell"),
-            ("Wer,Mail,alt,Tel=2,O'Hara Fax\n", "#4=tel,#5=tel;type=fax,Wer=fn"),
+            ("Wer,Mail,alt,Tel=2,O'Hara Fax\n", "Wer=fn,#4=tel,#5=tel;type=fax"),
             ('"Mail, alt",Kd-Nr\na@x.test,1\n', "#1=email,Kd-Nr=fn"),
         ]:
             with self.subTest(text):

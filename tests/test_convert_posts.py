@@ -285,7 +285,7 @@ class Columns(ConvertTest):
     def test_an_unknown_header_gets_columns_to_begin_with(self):
         status, value = self.post(b"Kunde,Mail (priv.)\nAnn,a@x.test\n")
         self.assertEqual((422, "not-converted", 35), (status, value["fault"], value["number"]))
-        self.assertEqual("Mail (priv.)=email,Kunde=fn", value["columns"])
+        self.assertEqual("Kunde=fn,Mail (priv.)=email", value["columns"])
         query = "?columns=" + quote(value["columns"])
         part = self.part(b"Kunde,Mail (priv.)\nAnn,a@x.test\n", query)
         self.assertEqual((1, value["columns"]), (part["written"], part["columns"]))

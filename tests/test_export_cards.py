@@ -104,6 +104,17 @@ class ExportCards(OrderTest):
                           "N:;Ann;;;", *row.back, "END:VCARD"]
                 self.assertEqual(wanted, unfolded(back.encode()))
 
+    def test_texts_in_place_of_uris(self):
+        """VALUE=text makes a text of what else is a URI or a date: it is escaped as one."""
+        lines = ["UID;VALUE=text:a\\\\b", "FN:Ann", "N:;Ann;;;",
+                 "RELATED;VALUE=text:C:\\\\new\\, d, e\\;", "RELATED:x\\\\y",
+                 "KEY;VALUE=TEXT:a\\\\b", "BDAY;VALUE=text:circa 1800\\, in May"]
+        older = ["UID;VALUE=text:a\\\\b", "FN:Ann", "N:;Ann;;;",
+                 "RELATED;VALUE=text:C:\\\\new\\, d\\, e\\;", "RELATED:x\\\\\\\\y",
+                 "KEY;VALUE=TEXT:a\\\\b", "BDAY;VALUE=text:circa 1800\\, in May"]
+        self.make_book(csv_of([("", text(card("4.0", *lines)).decode())]))
+        self.assertEqual(text(card("3.0", *older)), self.export("--vcf", "--as", "3.0"))
+
     def test_missing_names(self):
         """vCard 3.0 requires an N, which is made of the first FN, as one component."""
         for names, made in [(["FN:Ann Lee"], "N:Ann Lee;;;;"),

@@ -342,7 +342,7 @@ def file_older(trial, page, office):
 @arriving()
 def file_bad(trial, page, office):
     """Files that are none, and rows that can't be carried, are said with what is to be done."""
-    drop(page, ("book.xlsx", "PK\x03\x04 and more"))
+    drop(page, ("book.xlsx", "PK\x03\x04 xl/workbook.xml and more"))
     page.wait(f"{DIALOG}.innerText.includes('save it as CSV')")
     assert page.run(f"{GO}.disabled")
     drop(page, ("rows.csv", "First Name,E-mail Address\nAnn,a@x.test\nBo,b@x.test,c,d\n"))

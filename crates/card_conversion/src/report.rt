@@ -8,6 +8,7 @@ use crate::line_cursor::{PieceLines, find_name};
 use crate::parts::{Parts, lost_words};
 use crate::reporting::{Report, Weight};
 use base_types::NoMemory;
+use import_text::{is_card, is_word_line};
 use std::alloc::Global;
 use std::io::Write;
 use vcard_import::{Change, ChangeKind, Conversion};
@@ -23,17 +24,18 @@ pub(crate) struct Place {
 /// The most characters of a name in a report.
 const NAME_CHARS_MAX: usize = 60;
 
-/// What stands before the value and the parameters of a line, without its group.
+/// What stands before the value and the parameters of a line, without its group and white space.
 fn head_of(line: &[u8]) -> &[u8] {
     let end = line
         .iter()
         .position(|octet| *octet == b':' || *octet == b';')
         .unwrap_or(line.len());
     let head = line.get(..end).unwrap_or(line);
-    match head.iter().rposition(|octet| *octet == b'.') {
+    let name = match head.iter().rposition(|octet| *octet == b'.') {
         Some(dot) => head.get(dot + 1..).unwrap_or(head),
         None => head,
-    }
+    };
+    name.trim_ascii()
 }
 
 /// The name of a line in upper case, with a hyphen for each octet that no name may have.
@@ -151,6 +153,12 @@ fn change_words(
                 format!(in alloc; "{name} rewritten")?,
             )
         }
+        ChangeKind::Shortened => {
+            (
+                Said::Content(Weight::Lost),
+                format!(in alloc; "{name} lost the fraction of a second")?,
+            )
+        }
         ChangeKind::Renamed => (
             Said::Form(FormKind::Renamed),
             format!(in alloc; "{name} renamed")?,
@@ -239,6 +247,38 @@ fn report_lost<E: Write, T: Write>(
     Ok(())
 }
 
+/// Whether each card that begins in the piece ends there.
+fn is_ended(piece: &[u8]) -> bool {
+    let mut open: u64 = 0;
+    for line in piece.split(|octet| *octet == b'\n') {
+        if is_card(line) || is_word_line(line, b"AGENT:BEGIN:VCARD") {
+            open = open.saturating_add(1);
+        } else if is_word_line(line, b"END:VCARD") {
+            open = open.saturating_sub(1);
+        }
+    }
+    open == 0
+}
+
+/// Reports that a card has no end, if it has none.
+fn report_unended<E: Write, T: Write>(
+    alloc: Global,
+    place: Place,
+    piece: &[u8],
+    parts: &mut Parts,
+    report: &mut Report<E, T>,
+) -> Result<(), ConversionFault> {
+    if is_ended(piece) {
+        return Ok(());
+    }
+    let words = "the card has no END: lines of it may be missing";
+    report.list_line(alloc, card_line(alloc, place, words)?.as_str())?;
+    let line = place.line;
+    let text = format!(in alloc; "line {line}: {words}")?;
+    parts.add(Weight::Lost, text.as_str())?;
+    Ok(())
+}
+
 /// Reports the changes of a card that begins at the place, after the parts that there are.
 fn report_changes<E: Write, T: Write>(
     alloc: Global,
@@ -263,6 +303,7 @@ fn report_changes<E: Write, T: Write>(
         report.count_aside();
     }
     report_lost(alloc, place, lines, parts, report)?;
+    report_unended(alloc, place, piece, parts, report)?;
     if parts.is_empty() {
         return Ok(());
     }

@@ -13,6 +13,9 @@ use csv_cards::ExportText;
 use std::alloc::Global;
 use std::io::{Read, Write};
 
+/// What stands for the header of an export, so that the lines of its rows are counted after it.
+const HEADER_LINE: &[u8] = b"\n";
+
 /// A reader of contacts, after its header. `reader` begins with the header.
 fn read_contacts<R: Read + Drop>(
     alloc: Global,
@@ -43,7 +46,7 @@ pub(crate) fn convert_to<R: Read + Drop, O: Outlet, E: Write, T: Write>(
 {
     match content {
         Content::Export => {
-            let text = ExportText::new(alloc, reader);
+            let text = HEADER_LINE.chain(ExportText::new(alloc, reader));
             convert_more_file(alloc, course, text, outlet, report)
         }
         Content::Contacts(header) => {

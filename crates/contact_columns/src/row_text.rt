@@ -35,7 +35,8 @@ enum Mode {
 /// closed, or is followed by other text than a quote, a delimiter or the end of the line, it gives a
 /// row with the cell `BROKEN_ROW`, and reads on with the line after that of the quote. A quote is
 /// one that isn't closed if there are 200 lines or 8,388,608 octets after it, or if its row has
-/// several lines and not as many cells as the header. It gives as many line feeds as the file has.
+/// several lines and not as many cells as the header. It gives as many line feeds as the file has,
+/// and at the end of a file that doesn't end with one, the end of its first line.
 #[derive(Drop)]
 pub struct RowText<R> {
     alloc: Global,
@@ -52,6 +53,10 @@ pub struct RowText<R> {
     made: Vec<u8>,
     given: usize,
     mode: Mode,
+    /// Whether what was read is nothing, or ends with a line feed.
+    is_line_ended: bool,
+    /// Whether a carriage return is before the first line feed.
+    has_returns: Option<bool>,
 }
 
 fn no_memory() -> Error {
@@ -84,6 +89,12 @@ fn broken_row(alloc: Global, octets: &[u8]) -> io::Result<Vec<u8>> {
     Ok(made)
 }
 
+/// Whether a carriage return is before the first line feed; `None` if there is no line feed.
+fn has_returns(octets: &[u8]) -> Option<bool> {
+    let place = octets.iter().position(|octet| *octet == b'\n')?;
+    Some(octets.get(..place).unwrap_or(&[]).ends_with(b"\r"))
+}
+
 /// The number of octets up to the end of the first line, and whether it ends.
 fn line_len(octets: &[u8]) -> (usize, bool) {
     match octets.iter().position(|octet| *octet == b'\n') {
@@ -108,6 +119,8 @@ impl<R: Read + Drop> RowText<R> {
             made: Vec::new(alloc),
             given: 0,
             mode: Mode::Rows,
+            is_line_ended: true,
+            has_returns: None,
         }
     }
 
@@ -135,6 +148,10 @@ impl<R: Read + Drop> RowText<R> {
             return Err(no_memory());
         };
         self.is_at_end = chunk.len() < size;
+        if let Some(last) = chunk.as_slice().last() {
+            self.is_line_ended = *last == b'\n';
+        }
+        self.has_returns = self.has_returns.or(has_returns(input.as_slice()));
         self.input = input;
         self.start = 0;
         Ok(())
@@ -193,11 +210,31 @@ impl<R: Read + Drop> RowText<R> {
         }
     }
 
-    /// Finds what is given next. Nothing is if the source has ended.
+    /// Ends the last line of the source, if it doesn't end.
+    fn end_last_line(&mut self) -> io::Result<()> {
+        if self.is_line_ended {
+            return Ok(());
+        }
+        let end: &[u8] = if self.has_returns == Some(true) {
+            b"\r\n"
+        } else {
+            b"\n"
+        };
+        let mut made = Vec::new(self.alloc);
+        if made.extend_from_slice(end).is_err() {
+            return Err(no_memory());
+        }
+        self.made = made;
+        self.given = 0;
+        self.is_line_ended = true;
+        Ok(())
+    }
+
+    /// Finds what is given next. Nothing is if the source has ended with a line.
     fn find_next(&mut self) -> io::Result<()> {
         for _more in 0..READS_MAX {
             if self.unread().is_empty() && self.is_at_end {
-                return Ok(());
+                return self.end_last_line();
             }
             let is_found = match self.mode {
                 Mode::Rows if self.unread().is_empty() => false,

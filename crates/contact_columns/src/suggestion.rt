@@ -1,6 +1,6 @@
 //! What to say of columns that aren't known, to begin with.
 
-use crate::columns::{column_names, columns_of, has_names, lower};
+use crate::columns::{Column, column_names, columns_of, has_names, lower};
 use crate::header::{DELIMITERS, first_row};
 use std::alloc::Global;
 use vcard_text::{Items, NoMemory, Text};
@@ -87,30 +87,45 @@ fn names_someone(word: &str) -> bool {
     word == "fn" || word.starts_with("n.") || word.starts_with("org")
 }
 
-/// What to say of the columns of these names: a guess for each that isn't known. If none has names,
-/// the first one for which there is no guess has them.
-fn suggestion_for(alloc: Global, names: &[Text]) -> Result<String, NoMemory> {
-    let read = columns_of(alloc, names, &[])?;
-    let columns = read.columns.as_slice();
-    let mut is_named = has_names(read.slots.as_slice());
+/// The first column for which there is no guess, unless columns have names without it.
+fn name_place(
+    alloc: Global,
+    columns: &[Column],
+    is_named: bool,
+) -> Result<Option<usize>, NoMemory> {
+    let mut is_named = is_named;
     let mut free: Option<usize> = None;
-    let mut text = String::new(alloc);
-    for place in 0..columns.len() {
-        let name = columns[place].name.as_str();
-        if !columns[place].property.is_empty() {
+    for (place, column) in columns.iter().enumerate() {
+        if !column.property.is_empty() {
             continue;
         }
-        match guess(alloc, name)? {
-            Some(word) => {
-                push_entry(alloc, &mut text, place, name, word)?;
-                is_named = is_named || names_someone(word);
-            }
+        match guess(alloc, column.name.as_str())? {
+            Some(word) => is_named = is_named || names_someone(word),
             None => free = free.or(Some(place)),
         }
     }
-    if let Some(place) = free {
-        if !is_named && place < columns.len() {
-            push_entry(alloc, &mut text, place, columns[place].name.as_str(), "fn")?;
+    if is_named {
+        return Ok(None);
+    }
+    Ok(free)
+}
+
+/// What to say of the columns of these names, in their order: a guess for each that isn't known. If
+/// none has names, the first one for which there is no guess has them.
+fn suggestion_for(alloc: Global, names: &[Text]) -> Result<String, NoMemory> {
+    let read = columns_of(alloc, names, &[])?;
+    let columns = read.columns.as_slice();
+    let named = name_place(alloc, columns, has_names(read.slots.as_slice()))?;
+    let mut text = String::new(alloc);
+    for (place, column) in columns.iter().enumerate() {
+        if !column.property.is_empty() {
+            continue;
+        }
+        let name = column.name.as_str();
+        if named == Some(place) {
+            push_entry(alloc, &mut text, place, name, "fn")?;
+        } else if let Some(word) = guess(alloc, name)? {
+            push_entry(alloc, &mut text, place, name, word)?;
         }
     }
     Ok(text)

@@ -1,5 +1,5 @@
 -- What the loop over the cells keeps, and the UID of the card.
-use Rattle.std.proofs.Common.{◌≡◌, ◌≤◌, ◌+◌, ℕ, List, [], ◌∷◌, ◌++◌, codes, get_or, length, true, None, inl, inr, map, ap, refl, sym, subst, ◌∙◌, arith}
+use Rattle.std.proofs.Common.{◌≡◌, ◌≤◌, ◌+◌, ℕ, List, [], ◌∷◌, ◌++◌, get_or, length, true, None, inl, inr, map, ap, refl, sym, subst, ◌∙◌, arith}
 use Rattle.std.specs.Char.{to_ascii_uppercase}
 use Rattle.std.specs.Str.{str_to_ascii_uppercase}
 use Rattle.std.specs.List.{Contains, list_any}
@@ -14,10 +14,9 @@ use Rattle.vcard_import.specs.declared.change.Change.{Change}
 use Rattle.vcard_lines.specs.declared.line.Line.{Line}
 use Rattle.vcard_text.specs.Cards.{uid_of}
 use Rattle.vcard_text.specs.Making.{upper_line, upper_lines}
-use Rattle.vcard_property.specs.Lines.{plain_line}
 use Rattle.vcard_property.specs.declared.change_kind.ChangeKind.{ChangeKind}
 use Rattle.vcard_property.specs.declared.change_kind.ChangeKind.TheVariants.{Rewritten, KeptAside}
-use Rattle.contact_csv.specs.Carrying.{IsCarried, IsAsideName, column_at, component_in, change, is_date_column, is_date_name, as_date, in_parts, kept_aside, whole}
+use Rattle.contact_csv.specs.Carrying.{IsCarried, column_at, component_in, change, is_date_column, is_date_name, as_date, in_parts, kept_aside, whole}
 use Rattle.contact_csv.specs.internal.Keeping.{BeginsWithUid, IsCarriedWhole, KeepsAside, KeepsCell, Keeps, ReportsOnly}
 use Rattle.contact_columns.specs.declared.columns.Column.{Column}
 use Rattle.contact_csv.specs.declared.keeping.Kept.{Kept}
@@ -115,6 +114,13 @@ pub row_kept : (uid : List ℕ) (columns : List Column) (row : List (List ℕ)) 
 row_kept uid columns row made is keeps = record {
   cells = λ place small. subst (λ text. IsCarried (column_at columns place) place text made.lines made.changes) (get_or-map cell_text row place [] [] small) (keeps.cells place small);
   uid = subst (IsRowUid columns (map cell_text row)) (sym (ap uid_of keeps.begins.lines_are)) is;
+}
+
+-- changes alone
+pub keeps_reported : (uid : List ℕ) (columns : List Column) (texts : List (List ℕ)) (count : ℕ) (old new : Kept) → Keeps uid columns texts count old → ReportsOnly old new → Keeps uid columns texts count new
+keeps_reported uid columns texts count old new keeps reports = record {
+  begins = subst (BeginsWithUid uid) (sym reports.lines_are) keeps.begins;
+  cells = λ place small. let kept = report_keeps (column_at columns place) place (get_or texts place []) old new (keeps.cells place small) reports in kept.carried;
 }
 
 -- fewer cells

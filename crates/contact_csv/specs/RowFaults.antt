@@ -1,5 +1,5 @@
 -- Why a row isn't converted. This project's own.
-use Rattle.std.specs.Prelude.{ℕ, ◌≡◌, ◌==◌, Bool, true, false, List, [], ◌∷◌}
+use Rattle.std.specs.Prelude.{ℕ, ◌==◌, Bool, List, [], ◌∷◌}
 use Rattle.std.specs.Prelude.{get_or, length, map, nat_eq}
 use Rattle.std.specs.List.{list_all, list_any, starts_with}
 use Rattle.contact_columns.specs.Cells.{cell_text, is_void}

@@ -10,7 +10,7 @@ ghost use Rattle.contact_csv.specs.RowUids.{row_uid};
 
 use crate::entries::push_lines;
 use crate::exchange::push_shown_addresses;
-use crate::keeping::{Kept, extra_column, keep_cells};
+use crate::keeping::{Kept, extra_column, keep_row};
 use crate::names::push_missing_name;
 use crate::row_fault::are_void;
 use crate::row_lines::RowLines;
@@ -70,7 +70,7 @@ fn contact_lines(
     let extra = extra_column(alloc)?;
     let names = columns.columns.as_slice();
     let uid = chosen_uid(alloc, names, &extra, texts, may_own)?;
-    keep_cells(alloc, names, &extra, uid, texts, draft)
+    keep_row(alloc, names, &extra, uid, row, texts, draft)
 }
 
 /// Converts a row of a file of contacts to a card of vCard 4.0.
@@ -79,8 +79,10 @@ fn contact_lines(
 /// none, the UID is computed from its cells.
 ///
 /// Each cell's text is in the card, or a change has the cell's index, from 0, as its `place`. Only
-/// tested: there are no other changes, and they are in the order of their cells; `Rewritten` is a
-/// date in another form, and `KeptAside` a cell that is kept under a name that begins with `X-`.
+/// tested: there are no other changes, and they are in the order of their cells, but for those of
+/// control characters, which come last. `Rewritten` is a date in another form or a cell with a
+/// control character, which is a space in the card; and `KeptAside` a cell that is kept under a name
+/// that begins with `X-`.
 ///
 /// An `Err` is the first fault of such lines, by the tests `NoName` if no cell of the row has a
 /// value, and else mostly `TooLong`, if the card has more than 262,144 octets. `Memory` may replace

@@ -14,7 +14,8 @@ use crate::carried::{
 };
 use crate::row_lines::RowLines;
 use crate::uid::is_uid_column;
-use contact_columns::{Column, component_of, is_void};
+use contact_columns::{Column, component_of, is_void, row_field};
+use csv::ByteRecord;
 use std::alloc::Global;
 use vcard_import::{Change, ChangeKind};
 use vcard_property::{plain_line, with_upper_name};
@@ -68,6 +69,17 @@ fn aside_line(alloc: Global, column: &str, text: &str) -> Result<Line, NoMemory>
     Ok(with_upper_name(plain_line(alloc, name.as_str(), value)?))
 }
 
+/// Whether a void text (see `is_void`) stands for no value in a column of the property, which is
+/// empty if it isn't known: Google's `* ` does in one of labels, and Outlook's `0/0/00` and `0.0.00`
+/// do in one of dates.
+fn is_no_value(property: &str, text: &str) -> bool {
+    match text {
+        "* " => matches!(property, "" | "X-ABLABEL"),
+        "0/0/00" | "0.0.00" => matches!(property, "" | "BDAY" | "ANNIVERSARY" | "X-ABDATE"),
+        _ => true,
+    }
+}
+
 /// Whether the lines carry the cell of the column as it is.
 fn is_carried(
     alloc: Global,
@@ -82,10 +94,10 @@ fn is_carried(
     if column.is_left_out {
         return Ok(true);
     }
-    if is_void(text) {
-        return Ok(true);
-    }
     let property = column.property.as_str();
+    if is_void(text) {
+        return Ok(is_no_value(property, text));
+    }
     if property == "X-ABLABEL" {
         return holds_label(alloc, lines, home, text);
     }
@@ -177,6 +189,32 @@ impl Kept {
     }
 }
 
+/// Whether the cell has a control character that its text has as a space (see `cell_text`).
+fn has_controls(octets: &[u8]) -> bool {
+    octets.iter().any(|octet| octet.is_ascii_control() && !matches!(*octet, b'\t' | b'\n' | b'\r'))
+}
+
+/// Whether the user leaves the column at the index out.
+fn is_left_out(columns: &[Column], place: usize) -> bool {
+    columns
+        .get(place)
+        .map_or(false, |column| column.is_left_out)
+}
+
+impl Kept {
+    /// Reports each cell with a control character that became a space.
+    fn report_controls(&mut self, columns: &[Column], row: &ByteRecord) -> Result<(), NoMemory>
+        ensures { OnOk result (ReportsOnly self.old self.new) }
+    {
+        for place in 0..row.len() {
+            if has_controls(row_field(row, place)) && !is_left_out(columns, place) {
+                self.report(place, ChangeKind::Rewritten)?;
+            }
+        }
+        Ok(())
+    }
+}
+
 /// The column of cells to which the header gives none.
 pub(crate) fn extra_column(alloc: Global) -> Result<Column, NoMemory>
     ensures { IfOk result (λ column. column ≡ extra_column) }
@@ -213,7 +251,7 @@ pub(crate) fn column_at<'a>(columns: &'a [Column], place: usize, extra: &'a Colu
 
 /// The lines of the card with this UID, and the changes: those of the draft, and a line for each
 /// cell that they don't hold. `extra` is the column of cells to which the header gives none.
-pub(crate) fn keep_cells(
+fn keep_cells(
     alloc: Global,
     columns: &[Column],
     extra: &Column,
@@ -240,5 +278,25 @@ pub(crate) fn keep_cells(
         let home = home_of(homes.as_slice(), column, place);
         made.keep_cell(alloc, column, place, cells[place].as_str(), home)?;
     }
+    Ok(made)
+}
+
+/// The same, of a row whose cells have these texts. A control character of a cell that its text has
+/// as a space is reported, too.
+pub(crate) fn keep_row(
+    alloc: Global,
+    columns: &[Column],
+    extra: &Column,
+    uid: String,
+    row: &ByteRecord,
+    cells: &[Text],
+    draft: RowLines,
+) -> Result<Kept, NoMemory>
+    requires { extra.now ≡ extra_column }
+    ensures { IfOk result (λ made. Keeps (string_bytes uid) columns.now cells.now
+        (length cells.now) made) }
+{
+    let mut made = keep_cells(alloc, columns, extra, uid, cells, draft)?;
+    made.report_controls(columns, row)?;
     Ok(made)
 }

@@ -26,7 +26,7 @@ pub enum RowFault {
 }
 
 /// Whether the row stands for one in which a quote isn't closed (see `RowText`).
-fn is_broken(row: &ByteRecord) -> bool
+pub(crate) fn is_broken(row: &ByteRecord) -> bool
     ensures { result ≡ is_broken (fields_of row.now) }
 {
     row_field(row, 0).starts_with(b"\0\"")

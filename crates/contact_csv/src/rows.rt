@@ -8,7 +8,7 @@ ghost use Rattle.contact_csv.specs.Contacts.{rows_of, columns_of, delimiter_of};
 use crate::conversion::{convert_row, row_cells};
 use crate::fault::ContactFault;
 use crate::owners::Owners;
-use crate::row_fault::{RowFault, fault_of_row};
+use crate::row_fault::{RowFault, fault_of_row, is_broken};
 use contact_columns::{ContactColumns, Header, read_columns, row_field};
 use csv::{ByteRecord, Error, ErrorKind, Reader, ReaderBuilder};
 use std::alloc::Global;
@@ -23,8 +23,11 @@ pub struct ContactReader<R> {
     row: ByteRecord,
     columns: ContactColumns,
     owners: Owners,
-    /// The number of lines that the library counts late, and of those before the header.
-    late: u64,
+    /// The number of lines before the header.
+    lines_before: u64,
+    /// Whether the library passes the line feed at the end of a row only with the next row, as it
+    /// does where rows end with CR LF.
+    is_late: bool,
 }
 
 /// Why the library reads no record.
@@ -46,14 +49,10 @@ fn count_feeds(row: &ByteRecord) -> u64 {
     feeds
 }
 
-/// The number of lines that the library counts late: 1 where rows end with CR LF, since it passes
-/// the LF only with the next row. So after the header it is still at the header's last line.
-fn late_lines(header: &ByteRecord, line: u64) -> u64 {
-    if line <= count_feeds(header).saturating_add(1) {
-        1
-    } else {
-        0
-    }
+/// Whether the header ends with CR LF. The library is at this line after it: still at the header's
+/// last line then, since it passes the LF only with the next row.
+fn ends_late(header: &ByteRecord, line: u64) -> bool {
+    line <= count_feeds(header).saturating_add(1)
 }
 
 impl<R: Read + Drop> ContactReader<R> {
@@ -90,14 +89,14 @@ impl<R: Read + Drop> ContactReader<R> {
                     dates: header.dates,
                 };
                 let owners = Owners::new(alloc, columns.columns.as_slice());
-                let late = late_lines(&row, rows.position().line());
-                let late = late.saturating_add(header.lines);
+                let is_late = ends_late(&row, rows.position().line());
                 Ok(ContactReader {
                     rows,
                     row,
                     columns,
                     owners,
-                    late,
+                    lines_before: header.lines,
+                    is_late,
                 })
             }
             None => Err(ContactFault::UnknownHeader),
@@ -109,13 +108,25 @@ impl<R: Read + Drop> ContactReader<R> {
         &self.columns
     }
 
-    /// The number of the physical line at which the last row began, counted from 1. Rows end with
-    /// LF or CR LF, all alike; empty lines before the row are counted with it.
-    pub fn line(&self) -> u64 {
-        match self.row.position() {
-            Some(position) => position.line().saturating_add(self.late),
-            None => 0,
+    /// The number of the physical line after the last row, counted from 1. Rows end with LF or CR LF,
+    /// all alike; only that which stands for a broken row ends with LF in any case (see `RowText`).
+    pub fn end_line(&self) -> u64 {
+        let line = self
+            .rows
+            .position()
+            .line()
+            .saturating_add(self.lines_before);
+        if self.is_late && !is_broken(&self.row) {
+            line.saturating_add(1)
+        } else {
+            line
         }
+    }
+
+    /// The number of the physical line at which the last row began, counted from 1.
+    pub fn line(&self) -> u64 {
+        let lines = count_feeds(&self.row).saturating_add(1);
+        self.end_line().saturating_sub(lines)
     }
 
     /// Reads the next row, and returns whether there is one.

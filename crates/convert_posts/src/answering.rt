@@ -52,12 +52,7 @@ fn conversion_reply(
 }
 
 /// The whole reply to what the query asks for, or the fault of a wrong query.
-fn query_reply(
-    alloc: Global,
-    query: &str,
-    body: &[u8],
-    close: bool,
-) -> Result<Vec<u8>, NoMemory>
+fn query_reply(alloc: Global, query: &str, body: &[u8], close: bool) -> Result<Vec<u8>, NoMemory>
     ensures { IfOk result (λ reply.
         AnswersAsked (asked_in (pairs_of query.now)) body.now close reply.items) }
 {

@@ -61,9 +61,9 @@ fn order_of(dates: Dates) -> DateOrder {
     }
 }
 
-/// Where a part of contacts is in its file. `before` are the octets up to the end of the header. In a
+/// Where a part of rows is in its file. `before` are the octets up to the end of the header. In a
 /// later part they stand there again, and the part's lines begin after them.
-fn origin_of(asked: &Asked, before: &[u8]) -> Origin {
+pub(crate) fn origin_of(asked: &Asked, before: &[u8]) -> Origin {
     let origin = asked.origin();
     Origin {
         card: origin.card,

@@ -5,6 +5,7 @@ ghost use Rattle.convert_posts.specs.Parts.{IsPart};
 use crate::asked::Asked;
 use crate::card_cut::front;
 use crate::card_part::read_all;
+use crate::contact_part::origin_of;
 use crate::converted::convert_pieces;
 use crate::cut::{Cut, count_feeds};
 use crate::frame::{Frame, finished_part, open_part, small_part};
@@ -14,6 +15,10 @@ use base_types::{NoMemory, Text};
 use csv_cards::ExportText;
 use import_text::{is_card, split_piece};
 use std::alloc::Global;
+use std::io::Read;
+
+/// What stands for the header before the text of the cards.
+const HEADER_LINE: &[u8] = b"\n";
 
 /// For each card of a text the number of line feeds before it.
 fn starts_in(alloc: Global, text: &[u8]) -> Result<Vec<u64>, NoMemory> {
@@ -46,14 +51,15 @@ fn convert_cut(
     requires { taken ≤ length body.now }
     ensures { IfOk result (λ done. IfSome done (IsPart body.now)) }
 {
-    let text = read_all(alloc, ExportText::new(alloc, front(body, taken)))?;
+    let cards = ExportText::new(alloc, front(body, taken));
+    let text = read_all(alloc, HEADER_LINE.chain(cards))?;
     let text = text.as_slice();
     let starts = starts_in(alloc, text)?;
     let frame = Frame {
         kind: Kind::Rows,
         header,
         taken,
-        origin: asked.origin(),
+        origin: origin_of(asked, front(body, header)),
         cards: starts.len() as u64,
         feeds: count_feeds(text),
     };

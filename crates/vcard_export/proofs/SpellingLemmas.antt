@@ -4,7 +4,7 @@ use Rattle.std.specs.Str.{encode_utf8_all}
 use Rattle.std.proofs.Math.Utf8.{encode}
 use Rattle.std.proofs.lemmas.List.{append-nil}
 use Rattle.std.proofs.lemmas.Str.{encodes-append}
-use Rattle.vcard_export.specs.Spellings.{closing, mark_of, marked_char, plain_char, spelled, spelled_from}
+use Rattle.vcard_export.specs.Spellings.{mark_of, marked_char, plain_char, spelled, spelled_from}
 use Rattle.vcard_export.specs.declared.spelling.Spelling.{Spelling}
 use Rattle.vcard_export.specs.internal.SpellingLoop.{finished, spell_char, spelling_state}
 

@@ -12,6 +12,7 @@ use Rattle.vcard_export.specs.Names.{is_date_name, is_picture_name, is_uri_name,
 use Rattle.vcard_export.specs.declared.form.Form.{Form}
 use Rattle.vcard_export.specs.declared.form.Form.TheVariants.{Number, Day, Yearless, Place, Inline}
 use Rattle.vcard_export.specs.declared.form.Form.TheVariants.{Reference, Uri, Whole, Listed}
+use Rattle.vcard_export.specs.declared.form.Picture.{Picture}
 use Rattle.vcard_export.specs.declared.form.Picture.TheVariants.{Jpeg, Png, Gif}
 
 -- ---- prefixes
@@ -35,12 +36,13 @@ is_word word value = str_eq_ignore_ascii_case value.text word
 abbrev pub has_only : List ℕ → Param → Bool
 has_only word param = (length param.values == 1) && list_all (is_word word) param.values
 
-abbrev pub is_uri_param : Param → Bool
-is_uri_param param = is_param (codes "VALUE") param && has_only (codes "uri") param
+-- the parameter is VALUE, and the type of values that it names is the word
+abbrev pub names_type : List ℕ → Param → Bool
+names_type word param = is_param (codes "VALUE") param && has_only word param
 
--- a parameter says that the value is a URI (RFC 6350, section 5.2)
-abbrev pub says_uri : Line → Bool
-says_uri line = list_any is_uri_param line.params
+-- a parameter says that the value is of that type, as `uri` or `text` (RFC 6350, section 5.2)
+abbrev pub says_type : List ℕ → Line → Bool
+says_type word line = list_any (names_type word) line.params
 
 -- a parameter says what the value is
 abbrev pub has_value_type : Line → Bool
@@ -71,30 +73,43 @@ is_place value =
     && list_all is_place_octet (without_prefix (codes "geo:") value)
     && (count_by is_comma (without_prefix (codes "geo:") value) == 1)
 
+-- how the `data:` URI of a picture begins (RFC 2397)
+abbrev pub picture_prefix : Picture → List ℕ
+picture_prefix Jpeg = codes "data:image/jpeg;base64,"
+picture_prefix Png = codes "data:image/png;base64,"
+picture_prefix Gif = codes "data:image/gif;base64,"
+
 -- ---- forms
 
--- a picture within the card is a `data:` URI of a known format (RFC 2397)
+-- a picture within the card is a `data:` URI of a known format
 abbrev pub picture_form : List ℕ → Form
 picture_form value =
-    if starts_with nat_eq value (codes "data:image/jpeg;base64,") then Inline Jpeg
-    else (if starts_with nat_eq value (codes "data:image/png;base64,") then Inline Png
-    else (if starts_with nat_eq value (codes "data:image/gif;base64,") then Inline Gif
+    if starts_with nat_eq value (picture_prefix Jpeg) then Inline Jpeg
+    else (if starts_with nat_eq value (picture_prefix Png) then Inline Png
+    else (if starts_with nat_eq value (picture_prefix Gif) then Inline Gif
     else Reference))
+
+-- The value is a text because VALUE says so, where it would be a URI, a date or a key (sections
+-- 6.2.5, 6.2.6, 6.6.6, 6.7.6 and 6.8.1).
+abbrev pub is_text_instead : Line → Bool
+is_text_instead line =
+    (is_uri_name line || line_is_named (codes "KEY") line) && says_type (codes "text") line
 
 -- a value that isn't written in another way: an address, a value without escapes, or a text
 abbrev pub text_form : Line → Form
 text_form line =
     if line_is_named (codes "SOUND") line || line_is_named (codes "KEY") line then Reference
-    else (if is_uri_name line || says_uri line then Uri
+    else (if is_uri_name line || says_type (codes "uri") line then Uri
     else (if is_whole_name line then Whole else Listed))
 
 -- what the value of the line is
 abbrev pub form_of : Line → Form
 form_of line =
-    if line_is_named (codes "TEL") line && says_uri line
+    if is_text_instead line then Whole
+    else (if line_is_named (codes "TEL") line && says_type (codes "uri") line
     && starts_with nat_eq line.value (codes "tel:") then Number
     else (if is_date_name line && is_day line.value then Day
     else (if is_date_name line && is_yearless line.value then Yearless
     else (if line_is_named (codes "GEO") line && is_place line.value then Place
     else (if is_picture_name line then picture_form line.value
-    else text_form line))))
+    else text_form line)))))

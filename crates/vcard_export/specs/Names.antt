@@ -18,7 +18,7 @@ is_address_name line =
     || line_is_named (codes "IMPP") line || line_is_named (codes "FBURL") line
     || line_is_named (codes "CALURI") line || line_is_named (codes "CALADRURI") line
 
--- the value isn't a text, so that nothing is escaped in it
+-- the value isn't a text, unless VALUE says so, and nothing is escaped in it
 abbrev pub is_uri_name : Line → Bool
 is_uri_name line =
     is_address_name line

@@ -4,7 +4,7 @@ use Rattle.std.specs.Prelude.{ℕ, Bool, true, false, List, [], ◌∷◌, ◌++
 use Rattle.std.specs.Prelude.{encode_utf8, flat_map, if◌then◌else◌}
 use Rattle.base_types.specs.Octets.{hyphen}
 use Rattle.vcard_lines.specs.declared.line.Line.{Line}
-use Rattle.vcard_export.specs.Forms.{has_value_type, without_prefix}
+use Rattle.vcard_export.specs.Forms.{has_value_type, picture_prefix, without_prefix}
 use Rattle.vcard_export.specs.Spellings.{spelled}
 use Rattle.vcard_export.specs.declared.form.Form.{Form}
 use Rattle.vcard_export.specs.declared.form.Form.TheVariants as form
@@ -12,13 +12,7 @@ use Rattle.vcard_export.specs.declared.form.Picture.{Picture}
 use Rattle.vcard_export.specs.declared.form.Picture.TheVariants.{Jpeg, Png, Gif}
 use Rattle.vcard_export.specs.declared.spelling.Spelling.TheVariants as spelling
 
--- how the `data:` URI of a picture begins (RFC 2397)
-abbrev pub picture_prefix : Picture → List ℕ
-picture_prefix Jpeg = codes "data:image/jpeg;base64,"
-picture_prefix Png = codes "data:image/png;base64,"
-picture_prefix Gif = codes "data:image/gif;base64,"
-
--- its format in TYPE (RFC 2426, section 3.1.4)
+-- the format of a picture in TYPE (RFC 2426, section 3.1.4)
 abbrev pub picture_type : Picture → List ℕ
 picture_type Jpeg = codes "JPEG"
 picture_type Png = codes "PNG"

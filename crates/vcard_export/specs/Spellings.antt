@@ -6,7 +6,7 @@ use Rattle.std.specs.Str.{chars, encode_utf8_all}
 use Rattle.base_types.specs.Octets.{space, quote, comma, semicolon, backslash, lower_n}
 use Rattle.vcard_lines.specs.TextValues.{Escaped, decoded_char, text_char_of, written_chars}
 use Rattle.vcard_export.specs.declared.spelling.Spelling.{Spelling}
-use Rattle.vcard_export.specs.declared.spelling.Spelling.TheVariants.{Listed, Whole, Component}
+use Rattle.vcard_export.specs.declared.spelling.Spelling.TheVariants.{Whole, Component}
 use Rattle.vcard_export.specs.declared.spelling.Spelling.TheVariants.{Uri, Place, Param, Label}
 
 abbrev pub caret : ℕ

@@ -3,8 +3,9 @@ ghost use Rattle.std.specs.Prelude.{◌≡◌, count_by};
 ghost use Rattle.std.specs.List.{list_all};
 ghost use Rattle.base_types.specs.Octets.{is_digit};
 ghost use Rattle.vcard_export.specs.Forms.{form_of, has_only, has_value_type, is_comma, is_day};
-ghost use Rattle.vcard_export.specs.Forms.{is_param, is_place, is_place_octet, is_yearless};
-ghost use Rattle.vcard_export.specs.Forms.{is_uri_param, is_word, picture_form, says_uri, text_form};
+ghost use Rattle.vcard_export.specs.Forms.{is_param, is_place, is_place_octet, is_text_instead};
+ghost use Rattle.vcard_export.specs.Forms.{is_word, is_yearless, names_type, picture_form};
+ghost use Rattle.vcard_export.specs.Forms.{picture_prefix, says_type, text_form};
 
 use crate::names::{is_date_name, is_named, is_picture_name, is_uri_name, is_whole_name};
 use crate::prefix::{begins_with, without_prefix};
@@ -35,7 +36,7 @@ pub(crate) enum Form {
     Reference,
     /// Another URI, or a value in which nothing is escaped.
     Uri,
-    /// A text that is one part.
+    /// A text without lists, in which a comma is a part of it. That of ORG has components.
     Whole,
     /// Any other text.
     Listed,
@@ -65,20 +66,21 @@ pub(crate) fn has_only(param: &Param, word: &str) -> bool
     values.len() == 1 && are_word(values, word)
 }
 
-/// Whether the parameter says that the value is a URI.
-fn is_uri_param(param: &Param) -> bool
-    ensures { result ≡ is_uri_param param.now }
+/// Whether the parameter is VALUE, and the type of values that it names is the word.
+fn names_type(param: &Param, word: &str) -> bool
+    ensures { result ≡ names_type word.now param.now }
 {
-    is_param(param, "VALUE") && has_only(param, "uri")
+    is_param(param, "VALUE") && has_only(param, word)
 }
 
-fn says_uri(line: &Line) -> bool
-    ensures { result ≡ says_uri line.now }
+/// Whether a parameter says that the value is of that type, as `uri` or `text`.
+fn says_type(line: &Line, word: &str) -> bool
+    ensures { result ≡ says_type word.now line.now }
 {
     line.params
         .as_slice()
         .iter()
-        .any(|param| is_uri_param(param))
+        .any(|param| names_type(param, word))
 }
 
 /// Whether a parameter says what the value is.
@@ -144,19 +146,37 @@ fn comma_count(octets: &[u8]) -> usize
     count
 }
 
+/// How the `data:` URI of a picture of the format begins.
+pub(crate) fn picture_prefix(picture: Picture) -> &'static str
+    ensures { result.now ≡ picture_prefix picture }
+{
+    match picture {
+        Picture::Jpeg => "data:image/jpeg;base64,",
+        Picture::Png => "data:image/png;base64,",
+        Picture::Gif => "data:image/gif;base64,",
+    }
+}
+
 /// What a picture is.
 fn picture_form(value: &str) -> Form
     ensures { result ≡ picture_form value.now }
 {
-    if begins_with(value, "data:image/jpeg;base64,") {
+    if begins_with(value, picture_prefix(Picture::Jpeg)) {
         Form::Inline(Picture::Jpeg)
-    } else if begins_with(value, "data:image/png;base64,") {
+    } else if begins_with(value, picture_prefix(Picture::Png)) {
         Form::Inline(Picture::Png)
-    } else if begins_with(value, "data:image/gif;base64,") {
+    } else if begins_with(value, picture_prefix(Picture::Gif)) {
         Form::Inline(Picture::Gif)
     } else {
         Form::Reference
     }
+}
+
+/// Whether the value is a text because VALUE says so, where it would be a URI, a date or a key.
+fn is_text_instead(line: &Line) -> bool
+    ensures { result ≡ is_text_instead line.now }
+{
+    (is_uri_name(line) || is_named(line, "KEY")) && says_type(line, "text")
 }
 
 /// What a value is that isn't written in another way.
@@ -165,7 +185,7 @@ fn text_form(line: &Line) -> Form
 {
     if is_named(line, "SOUND") || is_named(line, "KEY") {
         Form::Reference
-    } else if is_uri_name(line) || says_uri(line) {
+    } else if is_uri_name(line) || says_type(line, "uri") {
         Form::Uri
     } else if is_whole_name(line) {
         Form::Whole
@@ -179,7 +199,9 @@ pub(crate) fn form_of(line: &Line) -> Form
     ensures { result ≡ form_of line.now }
 {
     let value = line.value.as_str();
-    if is_named(line, "TEL") && says_uri(line) && begins_with(value, "tel:") {
+    if is_text_instead(line) {
+        Form::Whole
+    } else if is_named(line, "TEL") && says_type(line, "uri") && begins_with(value, "tel:") {
         Form::Number
     } else if is_date_name(line) && is_day(value) {
         Form::Day

@@ -39,7 +39,7 @@ fn is_address_name(line: &Line) -> bool
         || is_named(line, "CALADRURI")
 }
 
-/// Whether nothing is escaped in the value.
+/// Whether the value isn't a text, unless VALUE says so, and nothing is escaped in it.
 pub(crate) fn is_uri_name(line: &Line) -> bool
     ensures { result ≡ is_uri_name line.now }
 {
@@ -52,7 +52,8 @@ pub(crate) fn is_uri_name(line: &Line) -> bool
         || is_date_name(line)
 }
 
-/// Whether the value is one text, in which a comma is a part of it.
+/// Whether the value is one text, in which a comma is a part of it. ORG has components, and no
+/// lists.
 pub(crate) fn is_whole_name(line: &Line) -> bool
     ensures { result ≡ is_whole_name line.now }
 {

@@ -14,7 +14,7 @@ use vcard_text::NoMemory;
 pub(crate) enum Spelling {
     /// A value in which commas or semicolons may separate parts.
     Listed,
-    /// A text that is one part, so that a comma is escaped.
+    /// A text without lists, so that a comma is escaped. That of ORG has components.
     Whole,
     /// A text that becomes a component, so that a semicolon is escaped too.
     Component,

@@ -1,24 +1,13 @@
 //! The value of a property in vCard 3.0.
 ghost use Rattle.std.specs.Prelude.{◌≡◌, ◌++◌, OnOk, codes, encode_utf8, flat_map, string_bytes};
 ghost use Rattle.vcard_export.specs.OlderValues.{added_params, day_text, older_value};
-ghost use Rattle.vcard_export.specs.OlderValues.{picture_prefix, picture_type, restates};
+ghost use Rattle.vcard_export.specs.OlderValues.{picture_type, restates};
 ghost use Rattle.vcard_export.specs.OlderValues.{yearless_text};
 
-use crate::form::{Form, Picture, has_value_type};
+use crate::form::{Form, Picture, has_value_type, picture_prefix};
 use crate::prefix::without_prefix;
 use crate::spelling::{Spelling, push_spelled};
 use vcard_text::{Line, NoMemory};
-
-/// How the `data:` URI of a picture of the format begins.
-fn picture_prefix(picture: Picture) -> &'static str
-    ensures { result.now ≡ picture_prefix picture }
-{
-    match picture {
-        Picture::Jpeg => "data:image/jpeg;base64,",
-        Picture::Png => "data:image/png;base64,",
-        Picture::Gif => "data:image/gif;base64,",
-    }
-}
 
 /// The name of the format in TYPE.
 fn picture_type(picture: Picture) -> &'static str

@@ -1,4 +1,5 @@
 pub mod BecomeLemmas
+mod EndLemmas
 mod FoldLemmas
 pub mod LeftOutLemmas
 mod MissingLemmas

@@ -14,6 +14,7 @@ use Rattle.vcard_property.specs.SameLines.{AreLine, has_encoding}
 use Rattle.vcard_property.specs.declared.change_kind.ChangeKind.TheVariants.{Added}
 use Rattle.vcard_import.specs.Delimiters.{is_delimiter}
 use Rattle.vcard_import.specs.DerivedUid.{derived_uid}
+use Rattle.vcard_import.specs.Ends.{without_end}
 use Rattle.vcard_import.specs.FirstUid.{first_uid}
 use Rattle.vcard_import.specs.Labels.{HaveAddresses, fits}
 use Rattle.vcard_import.specs.LeftOut.{has_left_out, may_go}
@@ -94,10 +95,10 @@ addition line = record { place = 0; kind = Added }
 
 -- ---- the card
 
--- the logical lines of the octets; how they are folded depends on the version, and a byte order
--- mark is no part of the first
+-- the logical lines of the octets but for the END:VCARD at their end; how they are folded depends
+-- on the version, and a byte order mark is no part of the first
 abbrev pub card_raw_lines : List ℕ → List RawLine
-card_raw_lines octets = raw_lines (folding_of octets) (without_bom octets)
+card_raw_lines octets = raw_lines (folding_of octets) (without_end (without_bom octets))
 
 -- The lines are those that the logical lines of the octets become, and then the FN and the UID that
 -- they lack. The changes are those of these lines, and then one for each line that was added. For

@@ -1,6 +1,7 @@
 pub mod Conversions
 pub mod Delimiters
 pub mod DerivedUid
+pub mod Ends
 pub mod FirstUid
 pub mod Folds
 pub mod Labels

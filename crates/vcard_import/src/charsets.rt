@@ -6,6 +6,7 @@ ghost use Rattle.vcard_import.specs.Conversions.{HasCharset, card_raw_lines, has
 ghost use Rattle.vcard_import.specs.declared.fault.ImportFault.TheVariants.{Memory};
 
 use crate::conversion::without_bom;
+use crate::ends::without_end;
 use crate::fault::ImportFault;
 use crate::folds::folding_of;
 use crate::version::version_of;
@@ -37,7 +38,8 @@ pub(crate) fn card_raw_lines(alloc: Global, octets: &[u8]) -> Result<Vec<RawLine
     ensures refused { IfErr result (λ fault. fault ≢ Memory → HasCharset octets.now fault) }
 {
     let version = version_of(octets);
-    let raws = read_raw_lines(alloc, without_bom(octets), folding_of(octets))?;
+    let lines = without_end(without_bom(octets));
+    let raws = read_raw_lines(alloc, lines, folding_of(octets))?;
     match first_unknown(alloc, raws.as_slice(), version)? {
         Some(name) => Err(ImportFault::Charset(name)),
         None => Ok(raws),

@@ -7,6 +7,7 @@ mod change;
 mod charsets;
 mod conversion;
 mod delimiters;
+mod ends;
 mod fault;
 mod faultless;
 mod first_uid;

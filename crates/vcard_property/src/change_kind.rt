@@ -8,6 +8,8 @@ pub enum ChangeKind {
     /// It is the same property in the form of vCard 4.0: its encoding, its escapes, its parameters
     /// or its value were rewritten.
     Rewritten,
+    /// The same, but a part of the value is lost: vCard 4.0 has no fraction of a second.
+    Shortened,
     /// vCard 4.0 has the property under another name.
     Renamed,
     /// vCard 4.0 has no such property, or the card may not have it here: it is kept under a name
@@ -29,6 +31,7 @@ impl fmt::Display for ChangeKind {
     fn fmt<W: fmt::Write>(&self, f: &mut fmt::Formatter<W>) -> fmt::Result {
         f.write_str(match self {
             ChangeKind::Rewritten => "rewritten",
+            ChangeKind::Shortened => "rewritten without the fraction of a second",
             ChangeKind::Renamed => "renamed",
             ChangeKind::KeptAside => "kept aside",
             ChangeKind::Unreadable => "unreadable",

@@ -6,22 +6,26 @@ ghost use Rattle.vcard_property.specs.Kinds.{fits_kind};
 ghost use Rattle.vcard_property.specs.SameLines.{AreLine, is_same_in};
 
 use crate::change_kind::ChangeKind;
+use crate::dates::has_fraction;
 use crate::decoding::decode;
 use crate::kept_texts::text_line;
 use crate::proper_line::proper_line;
 use crate::property::read_property;
-use crate::property_line::line_of;
+use crate::property_line::{is_date_name, line_of};
 use crate::same_line::read_same_line;
 use crate::version::Version;
 use import_text::read_text;
 use std::alloc::Global;
 use vcard_text::{Line, NoMemory};
 
-/// What became of a line of one name that now has the other.
-fn kind_of(old: &str, new: &str) -> ChangeKind
+/// What became of a line of one name that now has the other. Its value may have lost the fraction
+/// of a second.
+fn kind_of(old: &str, new: &str, is_shortened: bool) -> ChangeKind
     ensures { fits_kind result new.now ≡ true }
 {
-    if old == new {
+    if old == new && is_shortened {
+        ChangeKind::Shortened
+    } else if old == new {
         ChangeKind::Rewritten
     } else if new.starts_with("X-") {
         ChangeKind::KeptAside
@@ -46,11 +50,13 @@ fn property_line(
     };
     decode(alloc, &mut property, octets)?;
     let name = property.name.try_copy()?;
+    let had_fraction = is_date_name(name.as_str()) && has_fraction(property.value.as_str());
     let line = line_of(alloc, property, version)?;
     let Some(line) = proper_line(alloc, line)? else {
         return Ok(None);
     };
-    let kind = kind_of(name.as_str(), line.name.as_str());
+    let is_shortened = had_fraction && !has_fraction(line.value.as_str());
+    let kind = kind_of(name.as_str(), line.name.as_str(), is_shortened);
     Ok(Some((line, kind)))
 }
 

@@ -42,6 +42,13 @@ fn is_extended_day(text: &str) -> bool {
     }
 }
 
+/// Whether a date or a time has a fraction of a second, after a full stop or a comma.
+pub(crate) fn has_fraction(text: &str) -> bool {
+    text.as_bytes()
+        .iter()
+        .any(|octet| matches!(octet, b'.' | b','))
+}
+
 /// Appends the text without hyphens and colons, up to a fraction of a second, which is left out.
 fn push_basic(out: &mut String, text: &str) -> Result<(), NoMemory> {
     let mut is_fraction = false;

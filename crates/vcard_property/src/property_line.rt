@@ -46,9 +46,28 @@ fn escapes_commas(name: &str, version: Version) -> bool {
     }
 }
 
-fn form_of(name: &str, is_uri: bool, version: Version) -> ValueForm {
+/// Whether the parameter says that the value is a text.
+fn is_text_param(param: &Param) -> bool {
+    param.name.as_str() == "VALUE"
+        && param
+            .values
+            .as_slice()
+            .iter()
+            .all(|value| value.text.as_str().eq_ignore_ascii_case("text"))
+}
+
+/// Whether VALUE says that the value is a text, which else may be a URI or a date.
+fn says_text(property: &Property) -> bool {
+    property
+        .params
+        .as_slice()
+        .iter()
+        .any(|param| is_text_param(param))
+}
+
+fn form_of(name: &str, property: &Property, version: Version) -> ValueForm {
     ValueForm {
-        is_plain: is_uri || is_one_of(name, &PLAIN_NAMES),
+        is_plain: property.is_uri || (is_one_of(name, &PLAIN_NAMES) && !says_text(property)),
         escapes_commas: escapes_commas(name, version),
         is_old: version == Version::Old,
     }
@@ -57,8 +76,11 @@ fn form_of(name: &str, is_uri: bool, version: Version) -> ValueForm {
 /// The value in the form of vCard 4.0.
 fn text_value(alloc: Global, property: &Property, version: Version) -> Result<String, NoMemory> {
     let name = property.name.as_str();
-    let form = form_of(name, property.is_uri, version);
+    let form = form_of(name, property, version);
     let value = with_escapes(alloc, property.value.as_str(), form)?;
+    if says_text(property) {
+        return Ok(value);
+    }
     match name {
         "GEO" => geo_value(alloc, value, version),
         "BDAY" | "ANNIVERSARY" | "REV" => basic_date(alloc, value.as_str()),
@@ -68,6 +90,11 @@ fn text_value(alloc: Global, property: &Property, version: Version) -> Result<St
 
 /// The properties whose values are dates.
 const DATE_NAMES: [&str; 3] = ["BDAY", "ANNIVERSARY", "X-ANNIVERSARY"];
+
+/// Whether the values of the name are dates.
+pub(crate) fn is_date_name(name: &str) -> bool {
+    is_one_of(name, &DATE_NAMES)
+}
 
 /// Whether the value is an address within an Exchange server, which nobody else can write to. It
 /// gives way to the one of SMTP.
@@ -143,7 +170,7 @@ fn add_agent(alloc: Global, property: &mut Property) -> Result<(), NoMemory> {
 
 /// Omits the year of a property that is a date, if a parameter says that it is none.
 fn omit_year_of_date(alloc: Global, property: &mut Property) -> Result<(), NoMemory> {
-    if is_one_of(property.name.as_str(), &DATE_NAMES) {
+    if is_date_name(property.name.as_str()) && !says_text(property) {
         omit_year(alloc, property)?;
     }
     Ok(())

@@ -2,20 +2,20 @@
 
 use crate::contacts::report::RowPlace;
 
-/// A row with a quote that isn't closed, and the lines after it that aren't carried either. Mostly
+/// A row with a quote that isn't closed, and the rows after it that aren't carried either. Mostly
 /// they are the lines of its cell.
 #[derive(Drop)]
 pub(crate) struct BrokenLines {
     first: Option<RowPlace>,
-    /// The line at which the row begins that was read last.
-    line: u64,
+    /// The line after the last of these rows.
+    end: u64,
 }
 
 impl BrokenLines {
     pub(crate) fn new() -> BrokenLines {
         BrokenLines {
             first: None,
-            line: 0,
+            end: 0,
         }
     }
 
@@ -29,17 +29,18 @@ impl BrokenLines {
         if self.first.is_none() {
             self.first = Some(place);
         }
+        self.end = place.end;
     }
 
-    /// A row begins at the line.
-    pub(crate) fn reach(&mut self, line: u64) {
-        self.line = line;
+    /// A row that isn't carried either is at the place.
+    pub(crate) fn add(&mut self, place: RowPlace) {
+        self.end = place.end;
     }
 
-    /// The place of the row, and the number of lines from there to the row that was read last.
+    /// The place of the first row, and the number of lines from there to the end of the last one.
     pub(crate) fn take(&mut self) -> Option<(RowPlace, u64)> {
         let place = self.first?;
         self.first = None;
-        Some((place, self.line.saturating_sub(place.line)))
+        Some((place, self.end.saturating_sub(place.line)))
     }
 }

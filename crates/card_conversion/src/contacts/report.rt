@@ -14,11 +14,13 @@ use std::io::Write;
 use vcard_import::{Change, ChangeKind, Conversion};
 use vcard_text::Line;
 
-/// Where a row is: its number without the header, and its first line in the file, both from 1.
+/// Where a row is: its number without the header, its first line in the file, and the line after
+/// it, all from 1.
 #[derive(Clone, Copy)]
 pub(crate) struct RowPlace {
     pub(crate) row: u64,
     pub(crate) line: u64,
+    pub(crate) end: u64,
 }
 
 /// The most characters of a name in a report.
@@ -76,7 +78,7 @@ fn change_words(alloc: Global, aside: &mut &[Line], change: &Change) -> Result<S
 
 /// The line for a row, with these words.
 fn row_line(alloc: Global, place: RowPlace, words: &str) -> Result<String, NoMemory> {
-    let RowPlace { row, line } = place;
+    let RowPlace { row, line, end: _ } = place;
     Ok(format!(in alloc; "row {row}, line {line}: {words}")?)
 }
 
@@ -231,7 +233,10 @@ fn report_fault<E: Write, T: Write>(
             let why = format!(in alloc; "the cell of {name} has a NUL")?;
             report_refused(alloc, place, why.as_str(), report)
         }
-        RowFault::Width if broken.is_open() => list_refused(alloc, place, OTHER_WIDTH, report),
+        RowFault::Width if broken.is_open() => {
+            broken.add(place);
+            list_refused(alloc, place, OTHER_WIDTH, report)
+        }
         RowFault::Width => report_refused(alloc, place, OTHER_WIDTH, report),
         RowFault::Card(fault) => {
             let why = format!(in alloc; "{fault}")?;
@@ -251,8 +256,8 @@ fn report_repeated<E: Write, T: Write>(
     report.list_line(alloc, line.as_str())
 }
 
-/// Reports what became of a row at the place. A broken row is told with the first row after it that
-/// isn't one of its lines.
+/// Reports what became of a row at the place. A broken row is told before the first row after it
+/// that isn't one of its lines.
 pub(crate) fn report_row<E: Write, T: Write>(
     alloc: Global,
     place: RowPlace,
@@ -261,7 +266,6 @@ pub(crate) fn report_row<E: Write, T: Write>(
     broken: &mut BrokenLines,
     report: &mut Report<E, T>,
 ) -> Result<(), ConversionFault> {
-    broken.reach(place.line);
     if !matches!(fate, RowFate::Refused(RowFault::Width | RowFault::Broken)) {
         report_broken(alloc, broken, report)?;
     }

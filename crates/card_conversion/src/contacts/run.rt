@@ -15,17 +15,6 @@ use contact_csv::ContactReader;
 use std::alloc::Global;
 use std::io::{Read, Write};
 
-/// Tells of the broken row that wasn't told yet, at the end of a file, which is at the line.
-fn end_rows<E: Write, T: Write>(
-    alloc: Global,
-    line: u64,
-    broken: &mut BrokenLines,
-    report: &mut Report<E, T>,
-) -> Result<(), ConversionFault> {
-    broken.reach(line);
-    report_broken(alloc, broken, report)
-}
-
 /// Converts all contacts of one more file, and writes their cards to the outlet, in order. Reports
 /// each cell that its card holds in another form, and each row that can't be carried.
 ///
@@ -46,7 +35,7 @@ pub fn convert_more_contacts<R: Read + Drop, O: Outlet, E: Write, T: Write>(
     let mut broken = BrokenLines::new();
     for row_number in 1..u64::MAX {
         let Some(row) = next_row(alloc, &mut contacts)? else {
-            end_rows(alloc, contacts.line(), &mut broken, report)?;
+            report_broken(alloc, &mut broken, report)?;
             return Ok(());
         };
         let number = course.ledger.next_number();
@@ -61,6 +50,7 @@ pub fn convert_more_contacts<R: Read + Drop, O: Outlet, E: Write, T: Write>(
         let place = RowPlace {
             row: row_number,
             line: contacts.line(),
+            end: contacts.end_line(),
         };
         let columns = contacts.columns().columns.as_slice();
         report_row(alloc, place, columns, &fate, &mut broken, report)?;

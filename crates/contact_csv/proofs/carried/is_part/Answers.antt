@@ -1,4 +1,4 @@
-use Rattle.std.proofs.Common.{◌≡◌, ◌∙◌, [], true, get_or, map, string_bytes, bytes_eq, ap, sym, rules, arith}
+use Rattle.std.proofs.Common.{◌≡◌, ◌∙◌, [], true, string_bytes, bytes_eq, ap, sym, rules, arith}
 use Rattle.std.proofs.lemmas.List.{get_or-map}
 use Rattle.contact_csv.proofs.carried.is_part.Goals as goal
 

@@ -8,7 +8,7 @@ pub returns-in-Ok : goal.returns-in-Ok
 returns-in-Ok c =
     IfOk-weaker c.part_reply.result _ _
     (λ reply is. part c.in-Ok.part
-        (subst (λ done. IfOk done (IsPart c.args.body.now)) c.in-Ok.is c.in_ok-part.ensures) is)
+    (subst (λ done. IfOk done (IsPart c.args.body.now)) c.in-Ok.is c.in_ok-part.ensures) is)
     c.part_reply.ensures
 
 pub returns-in-Err : goal.returns-in-Err
