@@ -96,6 +96,7 @@ class ForeignHost(Refused, number=31): """The URL's host is none of the server's
 class ForeignSite(Refused, number=32): """A field says that a page of another site sends this."""
 class Precondition(Refused, number=33): """A field such as If-Match, in place of `version`."""
 class Busy(Refused, number=34): """The server holds as much as it may: ask again in a second."""
+class NotConverted(Refused, number=35): """The file is none that POST /convert converts."""
 
 
 class Card(NamedTuple):
