@@ -305,6 +305,43 @@ class ConvertOptions(OrderTest):
             uids += [row[0] for row in rows_of(ended.out)]
         self.assertEqual([added_uid(b"Wer\x1fAnn\x1eMail\x1fa@x.test\x1e")] * 3, uids)
 
+    def imported(self, rows, key):
+        """What an import of the converted rows prints, and the FN and EMAIL of each card then."""
+        ended = self.convert(csv_text(rows).encode())
+        self.assertEqual(0, ended.status, ended)
+        (self.folder / "rows.csv").write_bytes(ended.out)
+        said = run("import", "a.db", "staff", key, "rows.csv", cwd=self.folder).out.decode()
+        found = []
+        for card in cards_of(run("export", "a.db", "staff", cwd=self.folder)):
+            lines = dict(line.split(":", 1) for line in card)
+            found.append((lines["FN"], lines["EMAIL"]))
+        return said, sorted(found)
+
+    def test_a_later_export_is_imported(self):
+        """Who changed in a later export is edited, if the file has an id of its own; who changed in
+        one without an id becomes a second card. Nobody else changes, and nobody goes."""
+        for command in ["init", "a.db"], ["book", "a.db", "staff"]:
+            self.assertEqual(0, run(*command, cwd=self.folder).status)
+        rows = [["Record ID", "First Name", "E-mail Address"],
+                ["1", "Ann", "ann@x.test"], ["2", "Bob", "bob@x.test"], ["3", "Cy", "cy@x.test"]]
+        said, found = self.imported(rows, "first")
+        first = [("Ann", "ann@x.test"), ("Bob", "bob@x.test"), ("Cy", "cy@x.test")]
+        self.assertEqual(("new 3 edited 0 same 0 number 3\n", first), (said, found))
+        rows = [["First Name", "Middle Name", "E-mail Address", "Record ID"],
+                ["Dan", "", "dan@x.test", "4"], ["Bob", "", "bob@y.test", "2"],
+                ["Cy", "", "cy@x.test", "3"]]
+        said, found = self.imported(rows, "second")
+        later = [first[0], ("Bob", "bob@y.test"), first[2], ("Dan", "dan@x.test")]
+        self.assertEqual(("new 1 edited 1 same 1 number 5\n", later), (said, found))
+        rows = [["First Name", "E-mail Address"], ["Eve", "eve@x.test"], ["Fay", "fay@x.test"]]
+        self.imported(rows, "third")
+        rows = [["First Name", "Middle Name", "E-mail Address"],
+                ["Eve", "", "eve@x.test"], ["Fay", "", "fay@y.test"]]
+        said, found = self.imported(rows, "fourth")
+        self.assertEqual("new 1 edited 0 same 1 number 8\n", said)
+        self.assertEqual([("Eve", "eve@x.test"), ("Fay", "fay@x.test"), ("Fay", "fay@y.test")],
+                         found[-3:])
+
     def test_the_header_of_import(self):
         """The cards are those that `import` makes of the same rows."""
         rows = [["uid", "fn", "family", "given", "email", "tel", "org", "note"],
