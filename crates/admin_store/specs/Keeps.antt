@@ -1,4 +1,4 @@
--- The most tombstones that a book keeps, asked by name. This project's own.
+-- The most tombstones that a book keeps, asked by name.
 use Rattle.std.specs.Prelude.{ℕ, List, Result, Ok}
 use Rattle.book_model.specs.Books.{Books, book_named}
 use Rattle.book_model.specs.CallOutcomes.{◌>>=◌}

@@ -1,4 +1,4 @@
--- The calls that only read, defined on rows. This project's own.
+-- The calls that only read, defined on rows.
 use Rattle.std.specs.Prelude.{ℕ, Bool, not, ◌&&◌, nat_lt, List, [], ◌∷◌, map, flat_map, filter}
 use Rattle.std.specs.Prelude.{length, is_some, Result, Ok, codes}
 use Rattle.std.specs.Borrow.{Bor}

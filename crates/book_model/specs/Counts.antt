@@ -1,4 +1,4 @@
--- How many tombstones the books of a store have, by name. This project's own.
+-- How many tombstones the books of a store have, by name.
 use Rattle.std.specs.Prelude.{ℕ, ◌≡◌, ◌⊎◌, Bool, false, List, Some}
 use Rattle.std.specs.Option.{option_map_or}
 use Rattle.std.specs.Coded.{Coded, coded_ℕ}

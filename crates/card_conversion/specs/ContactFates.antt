@@ -1,4 +1,4 @@
--- What became of the rows of a file of contacts. This project's own.
+-- What became of the rows of a file of contacts.
 use Rattle.std.specs.Prelude.{ℕ, List, [], ◌∷◌, ◌++◌, flat_map, fold}
 use Rattle.std.specs.List.{Contains}
 use Rattle.vcard_lines.specs.declared.line.Line.{Line}

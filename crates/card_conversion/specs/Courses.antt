@@ -1,4 +1,4 @@
--- The conversion of one more file, after others. This project's own.
+-- The conversion of one more file, after others.
 use Rattle.std.specs.Prelude.{ℕ, ◌≡◌, List, [], ◌∷◌, ◌++◌, Option, IfSome, flat_map, fold, true, false}
 use Rattle.csv.specs.Reading.{ReadRecord}
 use Rattle.csv.specs.declared.reader.Reader.{Reader}

@@ -1,4 +1,4 @@
--- What became of a card at an outlet. This project's own.
+-- What became of a card at an outlet.
 use Rattle.std.specs.Prelude.{ℕ, ◌≡◌, ◌↔◌, List, [], ◌∷◌, ◌++◌}
 use Rattle.std.specs.FinMap as finite
 use Rattle.std.specs.List.{Contains}

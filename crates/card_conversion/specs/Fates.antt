@@ -1,4 +1,4 @@
--- What becomes of the pieces of a file that is converted. This project's own.
+-- What becomes of the pieces of a file that is converted.
 use Rattle.std.specs.Prelude.{ℕ, ◌≡◌, ◌≤◌, ◌⊎◌, ◌||◌, ◌&&◌, ◌==◌}
 use Rattle.std.specs.Prelude.{Bool, true, false, List, [], ◌∷◌, ◌++◌}
 use Rattle.std.specs.Prelude.{count_by, length, flat_map, codes, drop, nat_lt, not, take_while}

@@ -1,4 +1,4 @@
--- How the order `convert` ends, and what it writes to standard output. This project's own.
+-- How the order `convert` ends, and what it writes to standard output.
 use Rattle.std.specs.Prelude.{ℕ, ◌≡◌, ◌||◌, ◌==◌, Bool, not, List, [], length}
 use Rattle.std.specs.Prelude.{Option, is_some, if◌then◌else◌}
 use Rattle.vcard_lines.specs.declared.line.Line.{Line}

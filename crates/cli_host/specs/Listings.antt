@@ -1,4 +1,4 @@
--- What `books` and `verify` print: a line for each book of the store. This project's own.
+-- What `books` and `verify` print: a line for each book of the store.
 use Rattle.std.specs.Prelude.{ℕ, ◌≡◌, List, [], ◌∷◌, ◌++◌, codes, decimal, flat_map, length, Option}
 use Rattle.std.specs.Prelude.{Result, Ok, Err}
 use Rattle.std.specs.Io.KnownBytes.{Appends, Keeps}

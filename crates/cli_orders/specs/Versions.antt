@@ -1,4 +1,4 @@
--- What `--version` prints. This project's own.
+-- What `--version` prints.
 use Rattle.std.specs.Prelude.{ℕ, List, [], ◌∷◌, ◌++◌, codes}
 use Rattle.base_types.specs.Octets.{line_feed}
 

@@ -1,4 +1,4 @@
--- The text of a cell, and cells without a value. This project's own.
+-- The text of a cell, and cells without a value.
 use Rattle.std.specs.Prelude.{ℕ, Bool, ◌||◌, ◌==◌, List, [], ◌∷◌, flat_map, codes, bytes_eq}
 use Rattle.std.specs.Prelude.{if◌then◌else◌}
 use Rattle.std.specs.Char.{is_ascii_control}

@@ -1,4 +1,4 @@
--- The contact of a row, and a reader of the rows of a file. This project's own.
+-- The contact of a row, and a reader of the rows of a file.
 use Rattle.std.specs.Prelude.{ℕ, ◌≡◌, ◌<◌, Bool, true, false, List, [], Option, length, get_or, map}
 use Rattle.std.specs.Prelude.{option_map}
 use Rattle.std.specs.Prelude.{Result, MatchResult}

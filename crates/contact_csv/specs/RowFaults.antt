@@ -1,4 +1,4 @@
--- Why a row isn't converted. This project's own.
+-- Why a row isn't converted.
 use Rattle.std.specs.Prelude.{ℕ, ◌==◌, Bool, List, [], ◌∷◌}
 use Rattle.std.specs.Prelude.{get_or, length, map, nat_eq}
 use Rattle.std.specs.List.{list_all, list_any, starts_with}

@@ -1,4 +1,4 @@
--- What is known of the host that the program runs on. This project's own.
+-- What is known of the host that the program runs on.
 use Rattle.std.specs.Prelude.{⊤, List, [], ◌∷◌}
 use Rattle.std.specs.declared.net.ip_addr.IpAddr.{IpAddr}
 use Rattle.std.specs.declared.net.ip_addr.IpAddr.TheVariants.{V4}

@@ -1,4 +1,4 @@
--- The calls of a server at its endpoint, each with its outcome. This project's own.
+-- The calls of a server at its endpoint, each with its outcome.
 use Rattle.std.specs.Prelude.{ℕ, Bool, List, Option, take, ◌<◌, ◌≤◌, length, ⊤}
 use Rattle.hub_server.specs.declared.outcome.Accepted.{Accepted}
 use Rattle.hub_server.specs.declared.outcome.Accepted.TheVariants as accepted

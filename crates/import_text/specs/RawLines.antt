@@ -1,6 +1,6 @@
 -- The logical lines of a card that another program exported, as octets. They are joined from
 -- physical lines as RFC 2425, section 5.8.1, vCard 2.1 and quoted-printable (RFC 2045, section 6.7)
--- say, and as old telephones fold base64, without white space. This project's own.
+-- say, and as old telephones fold base64, without white space.
 use Rattle.std.specs.Prelude.{ℕ, ◌+◌, ◌-◌, Bool, false, not, ◌&&◌, ◌||◌, ◌==◌, nat_le, List}
 use Rattle.std.specs.Prelude.{[], ◌∷◌, ◌++◌, map, drop, take, length, codes, slice_index}
 use Rattle.std.specs.Prelude.{if◌then◌else◌, take_while}

@@ -1,4 +1,4 @@
--- What is read from a reader and written to a writer. This project's own.
+-- What is read from a reader and written to a writer.
 use Rattle.std.specs.Prelude.{◌≡◌, ℕ, List, length, take, Option}
 use Rattle.std.specs.Io.KnownBytes.{Appends, Consumes, IsAtEnd, Keeps}
 use Rattle.hub_server.specs.declared.outcome.Received.{Received}

@@ -1,4 +1,4 @@
--- The result of searching the tables for a row that is not good. This project's own.
+-- The result of searching the tables for a row that is not good.
 use Rattle.std.specs.Prelude.{◌≡◌, ⊤, List, map, Option, Some, None, Result, Ok, Err, Vec}
 use Rattle.std.specs.declared.alloc.Global.{Global}
 use Rattle.sqlite.specs.Effect.{Database}

@@ -1,4 +1,4 @@
--- Definitions over connections, for contracts, as in `store_tables`. This project's own.
+-- Definitions over connections, for contracts, as in `store_tables`.
 use Rattle.std.specs.Prelude.{◌≡◌, List, Option, Result, Vec, IsTrue, map}
 use Rattle.std.specs.declared.alloc.Global.{Global}
 use Rattle.sqlite.specs.Held.{Held, state}

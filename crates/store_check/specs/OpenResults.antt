@@ -1,4 +1,4 @@
--- The result of opening stored tables, by their contents. This project's own.
+-- The result of opening stored tables, by their contents.
 use Rattle.std.specs.Prelude.{⊤, List, Result, Ok, Err}
 use Rattle.sqlite.specs.Effect.{Database}
 use Rattle.sqlite.specs.Order.{Row}

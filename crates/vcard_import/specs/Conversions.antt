@@ -1,5 +1,5 @@
 -- Which card the logical lines of another program's card become, and which changes are reported.
--- What a changed line becomes is not defined. This project's own.
+-- What a changed line becomes is not defined.
 use Rattle.std.specs.Prelude.{ℕ, ◌≡◌, Bool, true, false, List, [], ◌∷◌, ◌++◌, map, codes, Some, ◌⊎◌}
 use Rattle.std.specs.Prelude.{if◌then◌else◌}
 use Rattle.std.specs.List.{list_any}

@@ -1,5 +1,5 @@
 -- Labels of addresses. In vCard 4.0 a label is a parameter of its address (RFC 6350, section
--- 6.3.1). This project's own.
+-- 6.3.1).
 use Rattle.std.specs.Prelude.{Bool, true, false, ◌&&◌, ◌||◌, ◌≤◌, List, count_by}
 use Rattle.vcard_lines.specs.declared.line.Line.{Line}
 use Rattle.vcard_property.specs.Kinds.{fits_kind}

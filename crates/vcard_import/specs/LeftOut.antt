@@ -1,6 +1,6 @@
 -- The logical lines that may have no line of their own: labels, which vCard 4.0 has as a parameter
 -- of their address (RFC 6350, section 6.3.1), and photos and the like (sections 6.2.4, 6.6.3 and
--- 6.7.5) of a card that would be too long with them. This project's own.
+-- 6.7.5) of a card that would be too long with them.
 use Rattle.std.specs.Prelude.{Bool, true, false, ◌||◌, List, codes}
 use Rattle.std.specs.List.{list_any}
 use Rattle.import_text.specs.RawLines.{is_encoded_as}

@@ -1,4 +1,4 @@
--- What the kind of a change says of the line that was made. This project's own.
+-- What the kind of a change says of the line that was made.
 use Rattle.std.specs.Prelude.{ℕ, Bool, true, false, List, take, bytes_eq, codes}
 use Rattle.vcard_property.specs.declared.change_kind.ChangeKind.{ChangeKind}
 use Rattle.vcard_property.specs.declared.change_kind.ChangeKind.TheVariants.{Rewritten, Renamed}

@@ -1,4 +1,4 @@
--- Lines that are made for others. This project's own.
+-- Lines that are made for others.
 use Rattle.std.specs.Prelude.{ℕ, ◌≡◌, true, List, [], ◌++◌, None, codes}
 use Rattle.vcard_lines.specs.declared.line.Line.{Line}
 use Rattle.vcard_text.specs.Cards.{IsProperLine, line_is_named, is_uid}

@@ -1,4 +1,4 @@
--- The state of a conversion between two rows. This project's own.
+-- The state of a conversion between two rows.
 use Rattle.std.specs.Prelude.{ℕ, ◌≡◌, ◌++◌, [], true, false, List}
 use Rattle.std.specs.Prelude.{Option, Some, None, Result, Ok, Err}
 use Rattle.std.specs.FinMap as finite

@@ -1,4 +1,4 @@
--- The state of a conversion between two pieces. This project's own.
+-- The state of a conversion between two pieces.
 use Rattle.std.specs.Prelude.{ℕ, ◌≡◌, ◌++◌, [], ◌∷◌, Bool, true, false, List, Option}
 use Rattle.std.specs.FinMap as finite
 use Rattle.std.specs.List.{Contains}
