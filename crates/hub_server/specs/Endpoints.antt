@@ -18,7 +18,7 @@ pub data EndpointEvent : Type 0 where
   AcceptEvent : ℕ → EndpointEvent
   -- no connection waits to be accepted
   AcceptNone : EndpointEvent
-  -- accepting failed for now, for want of descriptors
+  -- accepting failed for now, for lack of descriptors
   AcceptLater : EndpointEvent
   -- accepting failed
   AcceptFault : EndpointEvent
