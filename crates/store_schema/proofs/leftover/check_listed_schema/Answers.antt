@@ -4,7 +4,7 @@ use Rattle.store_tables.specs.Meta.{meta_listed}
 use Rattle.store_schema.specs.FoundTables.{database_of}
 use Rattle.store_schema.specs.StoredSchema.{IsStoreSchema}
 use Rattle.store_schema.proofs.AnswerLemmas.{verified}
-use Rattle.store_schema.proofs.leftover.test_listed_schema.Goals as goal
+use Rattle.store_schema.proofs.leftover.check_listed_schema.Goals as goal
 
 pub returns-in-Ok-clause-answers : goal.returns-in-Ok-clause-answers
 returns-in-Ok-clause-answers g c clean =

@@ -3,7 +3,7 @@ use Rattle.sqlite.specs.Held.{state}
 use Rattle.store_tables.specs.SchemaCreation.{first_schema}
 use Rattle.store_schema.specs.StoredSchema.{IsStoreSchema}
 use Rattle.store_schema.proofs.AnswerLemmas.{first_verified}
-use Rattle.store_schema.proofs.check.test_first_schema.Goals as goal
+use Rattle.store_schema.proofs.check.check_first_schema.Goals as goal
 
 pub returns-in-Ok-clause-answers : goal.returns-in-Ok-clause-answers
 returns-in-Ok-clause-answers g c clean =

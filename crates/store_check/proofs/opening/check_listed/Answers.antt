@@ -1,7 +1,7 @@
 use Rattle.std.proofs.Common.{rules}
 use Rattle.store_check.specs.RowFaults.{IsAmong, IsLabelled}
 use Rattle.store_check.proofs.FaultLemmas.{labelled}
-use Rattle.store_check.proofs.opening.test_listed.Goals as goal
+use Rattle.store_check.proofs.opening.check_listed.Goals as goal
 
 pub returns-in-Some-clause-tests : goal.returns-in-Some-clause-tests
 returns-in-Some-clause-tests c members =
