@@ -32,7 +32,7 @@ IsFate columns uids fields (Declined made words) =
 IsFate columns uids fields (Written made) =
     IsRowContact columns fields made × (Contains uids (uid_of made.card) → ⊥)
 
--- the UID of a card that came to the outlet
+-- the UID of a card that came to the sink
 abbrev pub uids_of_fate : RowFate → List (List ℕ)
 uids_of_fate (Refused fault) = []
 uids_of_fate (Repeated made) = []
@@ -75,7 +75,7 @@ pub record RowEntry : Type 0 where
 abbrev pub cards_of : List RowEntry → List (List Line)
 cards_of entries = flat_map (λ entry. cards_of_fate entry.fate) entries
 
--- the UIDs of the cards that came to the outlet, in order
+-- the UIDs of the cards that came to the sink, in order
 abbrev pub uids_of : List RowEntry → List (List ℕ)
 uids_of entries = flat_map (λ entry. uids_of_fate entry.fate) entries
 

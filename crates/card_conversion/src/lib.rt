@@ -2,6 +2,7 @@
 //! and Outlook export as CSV, one row at a time, and reports each change.
 #![tactic(auto)]
 
+mod card_sink;
 mod chunks;
 mod contacts;
 mod course;
@@ -16,7 +17,6 @@ mod ledger;
 mod line_cursor;
 mod line_ends;
 mod moved;
-mod outlet;
 mod parts;
 mod piece_reader;
 mod pieces;
@@ -24,9 +24,10 @@ mod report;
 mod reporting;
 mod rows;
 mod rows_order;
-mod rows_outlet;
+mod rows_sink;
 mod run;
 
+pub use card_sink::{CardSink, Delivery, SinkFault};
 pub use contacts::{convert_contacts, convert_contacts_to_rows, convert_more_contacts};
 pub use course::Course;
 pub use delivery::{Outcome, deliver};
@@ -35,9 +36,8 @@ pub use file::{convert_file, convert_more_file};
 pub use foreign::foreign_format;
 pub use ledger::Summary;
 pub use line_ends::{LineEnds, ends_with_returns};
-pub use outlet::{Delivery, Outlet, OutletFault};
 pub use reporting::Report;
 pub use rows::{header_text, row_text};
 pub use rows_order::convert_to_rows;
-pub use rows_outlet::RowsOutlet;
+pub use rows_sink::RowsSink;
 pub use run::{convert_cards, convert_more_cards};

@@ -14,7 +14,7 @@ mod several;
 mod sources;
 mod wanted;
 
-pub use card_conversion::RowsOutlet;
+pub use card_conversion::RowsSink;
 pub use contact_columns::DateOrder;
 pub use run::run_convert;
 pub use wanted::Wanted;

@@ -13,7 +13,7 @@ use crate::several::{check_more, content_text, convert_all};
 use crate::wanted::Wanted;
 use base_types::Text;
 use card_conversion::laws::{written_cards_differ, written_rows_are_read};
-use card_conversion::{ConversionFault, Report, RowsOutlet, Summary};
+use card_conversion::{ConversionFault, Report, RowsSink, Summary};
 use contact_columns::left_out_columns;
 use std::alloc::Global;
 use std::fs;
@@ -112,9 +112,9 @@ fn convert_to_row_files<F: Files, R: Read + Drop, E: Write>(
     let front = rows_front(alloc, wanted.file, wanted.folder)?;
     let rows_max = wanted.rows.unwrap_or(ROWS_MAX);
     let octets_max = wanted.octets.unwrap_or(OCTETS_MAX);
-    let mut outlet = RowFiles::new(files, front, rows_max, octets_max);
-    let summary = convert_all(alloc, files, wanted, content, text, &mut outlet, report)?;
-    tell_end(alloc, wanted, summary, Some(outlet.count), report)?;
+    let mut sink = RowFiles::new(files, front, rows_max, octets_max);
+    let summary = convert_all(alloc, files, wanted, content, text, &mut sink, report)?;
+    tell_end(alloc, wanted, summary, Some(sink.count), report)?;
     Ok(summary)
 }
 
@@ -128,8 +128,8 @@ fn convert_to_card_files<F: Files, R: Read + Drop, E: Write>(
     text: R,
     report: &mut Report<E, F::File>,
 ) -> Result<Summary, ConvertStop> {
-    let mut outlet = CardFiles { files, folder };
-    let summary = convert_all(alloc, files, wanted, content, text, &mut outlet, report)?;
+    let mut sink = CardFiles { files, folder };
+    let summary = convert_all(alloc, files, wanted, content, text, &mut sink, report)?;
     tell_end(alloc, wanted, summary, Some(summary.written), report)?;
     Ok(summary)
 }
@@ -141,7 +141,7 @@ fn convert_to_writer<F: Files, R: Read + Drop, W: Write, E: Write>(
     wanted: Wanted<'_>,
     content: Content<'_>,
     text: R,
-    rows: &mut RowsOutlet<W>,
+    rows: &mut RowsSink<W>,
     report: &mut Report<E, F::File>,
 ) -> Result<Summary, ConvertStop>
     ensures { IfOk result (λ summary. Prints (length wanted.entry.more.now + 1)
@@ -166,7 +166,7 @@ fn convert_opened<F: Files, R: Read + Drop, W: Write, E: Write>(
     wanted: Wanted<'_>,
     content: Content<'_>,
     text: R,
-    rows: &mut RowsOutlet<W>,
+    rows: &mut RowsSink<W>,
     report: &mut Report<E, F::File>,
 ) -> Result<Summary, ConvertStop>
     ensures { IfOk result (λ summary. IsTrue (prints_rows wanted.entry)
@@ -190,7 +190,7 @@ fn convert_text<F: Files, R: Read + Drop, W: Write, E: Write>(
     files: &F,
     wanted: Wanted<'_>,
     text: R,
-    rows: &mut RowsOutlet<W>,
+    rows: &mut RowsSink<W>,
     report: &mut Report<E, F::File>,
 ) -> Result<Summary, ConvertStop>
     ensures { IfOk result (λ summary. IsTrue (prints_rows wanted.entry)
@@ -212,7 +212,7 @@ fn convert<F: Files, W: Write, E: Write>(
     alloc: Global,
     files: &F,
     wanted: Wanted<'_>,
-    rows: &mut RowsOutlet<W>,
+    rows: &mut RowsSink<W>,
     report: &mut Report<E, F::File>,
 ) -> Result<Summary, ConvertStop>
     ensures { IfOk result (λ summary. IsTrue (prints_rows wanted.entry)
@@ -238,7 +238,7 @@ pub fn run_convert<F: Files, W: Write, E: Write + Drop>(
     alloc: Global,
     files: &F,
     wanted: Wanted<'_>,
-    rows: &mut RowsOutlet<W>,
+    rows: &mut RowsSink<W>,
     errors: E,
 ) -> u8
     ensures status { (result ≡ 0) ⊎ ((result ≡ 1) ⊎ (result ≡ 3)) }

@@ -7,7 +7,7 @@ mod streams;
 
 use base_types::Text;
 use cli_args::{LineFault, Order};
-use cli_convert::{DateOrder, RowsOutlet, Wanted, run_convert};
+use cli_convert::{DateOrder, RowsSink, Wanted, run_convert};
 use cli_host::{note_waiting, order_of_args, run_and_report};
 use file_host::FileHost;
 use std::env;
@@ -67,7 +67,7 @@ fn conversion_of(order: &Result<Order, LineFault>) -> Option<Wanted<'_>> {
 
 /// Converts, and returns the exit status.
 fn convert(rt: &HostRuntime, wanted: Wanted<'_>) -> u8 {
-    let mut rows = RowsOutlet {
+    let mut rows = RowsSink {
         writer: rt.stdout(),
     };
     run_convert(rt.alloc(), rt, wanted, &mut rows, rt.stderr())

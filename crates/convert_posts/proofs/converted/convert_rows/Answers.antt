@@ -7,6 +7,6 @@ use Rattle.convert_posts.proofs.converted.convert_rows.Goals as goal
 
 pub returns-in-Ok : goal.returns-in-Ok
 returns-in-Ok g c ready =
-    subst (λ (s : Summary). IsOfContacts s c.convert_more_contacts.new.outlet.rows) (sym c.summary.ensures)
-    (rows_done (λ (list : RowList). list.rows) g.R.Read.remaining c.args.reader c.new-course.result c.convert_more_contacts.new.course c.new-rows.result c.convert_more_contacts.new.outlet
+    subst (λ (s : Summary). IsOfContacts s c.convert_more_contacts.new.sink.rows) (sym c.summary.ensures)
+    (rows_done (λ (list : RowList). list.rows) g.R.Read.remaining c.args.reader c.new-course.result c.convert_more_contacts.new.course c.new-rows.result c.convert_more_contacts.new.sink
     c.written_cards_differ.ensures.rules c.written_cards_differ.ensures.distinct c.new-course.ensures.counts c.new-rows.ensures (c.in-Ok.ensures ready [] c.new-course.ensures.uids))

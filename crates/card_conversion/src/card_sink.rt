@@ -1,4 +1,4 @@
-//! The trait of outlets: where converted cards go.
+//! The trait of sinks: where converted cards go.
 ghost use Rattle.std.specs.Prelude.{◌≡◌, IfOk, List};
 ghost use Rattle.vcard_lines.specs.declared.line.Line.{Line};
 ghost use Rattle.card_conversion.specs.Deliveries.{Delivers};
@@ -7,43 +7,43 @@ use base_types::{NoMemory, Text};
 use std::alloc::{AllocError, Global};
 use vcard_text::Card;
 
-/// What became of a card at an outlet.
+/// What became of a card at a sink.
 #[derive(Drop)]
 pub enum Delivery {
     /// It was written.
     Written,
-    /// The outlet can't take it and wrote nothing, for a reason in words.
+    /// The sink can't take it and wrote nothing, for a reason in words.
     Refused(Text),
 }
 
-/// Why an outlet takes no more cards.
+/// Why a sink takes no more cards.
 #[derive(Drop)]
-pub enum OutletFault {
+pub enum SinkFault {
     /// An allocation failed.
     Memory,
     /// It couldn't write, in words.
     Failed(Text),
 }
 
-impl From<NoMemory> for OutletFault {
-    fn from(_error: NoMemory) -> OutletFault {
-        OutletFault::Memory
+impl From<NoMemory> for SinkFault {
+    fn from(_error: NoMemory) -> SinkFault {
+        SinkFault::Memory
     }
 }
 
-impl From<AllocError> for OutletFault {
-    fn from(_error: AllocError) -> OutletFault {
-        OutletFault::Memory
+impl From<AllocError> for SinkFault {
+    fn from(_error: AllocError) -> SinkFault {
+        SinkFault::Memory
     }
 }
 
 /// Where converted cards go: rows to a writer, or files.
-pub trait Outlet {
-    /// What writing a card does to the outlet: the card, and the outlet before and after it.
+pub trait CardSink {
+    /// What writing a card does to the sink: the card, and the sink before and after it.
     ghost writes: { List Line → Self → Self → Type 0 };
 
     /// Writes a card. `number` counts the cards of the file that is converted, from 1.
-    fn put(&mut self, alloc: Global, number: u64, card: &Card) -> Result<Delivery, OutletFault>
+    fn put(&mut self, alloc: Global, number: u64, card: &Card) -> Result<Delivery, SinkFault>
         ensures { IfOk result (λ delivery.
             Delivers (writes card.now) delivery self.old self.new) };
 }
