@@ -6,14 +6,14 @@ use Rattle.card_conversion.specs.Accounts.{WritesRows}
 use Rattle.card_conversion.specs.Courses.{AllHaveFates, Part, cards_of_all, summary_of_all}
 use Rattle.card_conversion.specs.Deliveries.{WritesInTurn}
 use Rattle.card_conversion.specs.declared.ledger.Summary.{Summary}
-use Rattle.cli_convert.specs.declared.wanted.Wanted.{Wanted}
+use Rattle.cli_convert.specs.declared.options.ConvertOptions.{ConvertOptions}
 
 -- the exit status of a conversion: 0 if all was carried, and 1 if something wasn't
 abbrev pub status_of : Summary → ℕ
 status_of summary = if summary.refused == 0 then 0 else 1
 
 -- rows go to standard output: no folder and no bound is given
-abbrev pub prints_rows : Wanted → Bool
+abbrev pub prints_rows : ConvertOptions → Bool
 prints_rows wanted = not (is_some wanted.folder || is_some wanted.rows || is_some wanted.octets)
 
 -- This number of files was converted, one after another. Each piece or row of them has its fate

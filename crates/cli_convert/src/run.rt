@@ -8,9 +8,9 @@ use crate::create::{Created, create_new};
 use crate::exit::{ConvertStop, end, existing_file, stop_of};
 use crate::names::rows_front;
 use crate::opening::{open_file, read_content, text_after, wanted_encoding, with_dates};
+use crate::options::ConvertOptions;
 use crate::row_files::RowFiles;
 use crate::several::{check_more, content_text, convert_all};
-use crate::wanted::Wanted;
 use base_types::Text;
 use card_conversion::laws::{written_cards_differ, written_rows_are_read};
 use card_conversion::{ConversionFault, Report, RowsSink, Summary};
@@ -55,7 +55,7 @@ fn check_folder<F: Files>(
 fn wanted_report<F: Files>(
     alloc: Global,
     files: &F,
-    wanted: Wanted<'_>,
+    wanted: ConvertOptions<'_>,
 ) -> Result<Option<F::File>, ConvertStop> {
     let Some(path) = wanted.report else {
         return Ok(None);
@@ -70,7 +70,7 @@ fn wanted_report<F: Files>(
 /// Tells once which columns are left out.
 fn tell_left_out<E: Write, T: Write>(
     alloc: Global,
-    wanted: Wanted<'_>,
+    wanted: ConvertOptions<'_>,
     report: &mut Report<E, T>,
 ) -> Result<(), ConvertStop> {
     let names = left_out_columns(alloc, wanted.columns)?;
@@ -89,7 +89,7 @@ fn tell_left_out<E: Write, T: Write>(
 /// to files.
 fn tell_end<E: Write, T: Write>(
     alloc: Global,
-    wanted: Wanted<'_>,
+    wanted: ConvertOptions<'_>,
     summary: Summary,
     files: Option<u64>,
     report: &mut Report<E, T>,
@@ -104,7 +104,7 @@ fn tell_end<E: Write, T: Write>(
 fn convert_to_row_files<F: Files, R: Read + Drop, E: Write>(
     alloc: Global,
     files: &F,
-    wanted: Wanted<'_>,
+    wanted: ConvertOptions<'_>,
     content: Content<'_>,
     text: R,
     report: &mut Report<E, F::File>,
@@ -122,7 +122,7 @@ fn convert_to_row_files<F: Files, R: Read + Drop, E: Write>(
 fn convert_to_card_files<F: Files, R: Read + Drop, E: Write>(
     alloc: Global,
     files: &F,
-    wanted: Wanted<'_>,
+    wanted: ConvertOptions<'_>,
     folder: &str,
     content: Content<'_>,
     text: R,
@@ -138,7 +138,7 @@ fn convert_to_card_files<F: Files, R: Read + Drop, E: Write>(
 fn convert_to_writer<F: Files, R: Read + Drop, W: Write, E: Write>(
     alloc: Global,
     files: &F,
-    wanted: Wanted<'_>,
+    wanted: ConvertOptions<'_>,
     content: Content<'_>,
     text: R,
     rows: &mut RowsSink<W>,
@@ -163,7 +163,7 @@ fn convert_to_writer<F: Files, R: Read + Drop, W: Write, E: Write>(
 fn convert_opened<F: Files, R: Read + Drop, W: Write, E: Write>(
     alloc: Global,
     files: &F,
-    wanted: Wanted<'_>,
+    wanted: ConvertOptions<'_>,
     content: Content<'_>,
     text: R,
     rows: &mut RowsSink<W>,
@@ -188,7 +188,7 @@ fn convert_opened<F: Files, R: Read + Drop, W: Write, E: Write>(
 fn convert_text<F: Files, R: Read + Drop, W: Write, E: Write>(
     alloc: Global,
     files: &F,
-    wanted: Wanted<'_>,
+    wanted: ConvertOptions<'_>,
     text: R,
     rows: &mut RowsSink<W>,
     report: &mut Report<E, F::File>,
@@ -211,7 +211,7 @@ fn convert_text<F: Files, R: Read + Drop, W: Write, E: Write>(
 fn convert<F: Files, W: Write, E: Write>(
     alloc: Global,
     files: &F,
-    wanted: Wanted<'_>,
+    wanted: ConvertOptions<'_>,
     rows: &mut RowsSink<W>,
     report: &mut Report<E, F::File>,
 ) -> Result<Summary, ConvertStop>
@@ -237,7 +237,7 @@ fn convert<F: Files, W: Write, E: Write>(
 pub fn run_convert<F: Files, W: Write, E: Write + Drop>(
     alloc: Global,
     files: &F,
-    wanted: Wanted<'_>,
+    wanted: ConvertOptions<'_>,
     rows: &mut RowsSink<W>,
     errors: E,
 ) -> u8

@@ -6,8 +6,8 @@ ghost use Rattle.cli_convert.specs.Endings.{Converts};
 use crate::content::Content;
 use crate::exit::{ConvertStop, no_second_reading, stop_of};
 use crate::opening::{is_file, open_file, read_content, text_after, wanted_encoding, with_dates};
+use crate::options::ConvertOptions;
 use crate::sources::convert_to;
-use crate::wanted::Wanted;
 use base_types::Text;
 use card_conversion::{
     CardSink, ConversionFault, Course, LineEnds, Report, Summary, ends_with_returns,
@@ -45,7 +45,11 @@ pub(crate) fn content_text<'a, R: Read>(
 
 /// Fails if a file can't be converted: it can't be read, or isn't known, or not which number of its
 /// dates is the day; or it can't be read twice.
-fn check_file<F: Files>(alloc: Global, files: &F, wanted: Wanted<'_>) -> Result<(), ConvertStop> {
+fn check_file<F: Files>(
+    alloc: Global,
+    files: &F,
+    wanted: ConvertOptions<'_>,
+) -> Result<(), ConvertStop> {
     let encoding = wanted_encoding(alloc, wanted)?;
     let (front, file) = open_file(alloc, files, wanted.file)?;
     if !is_file(files, wanted.file) {
@@ -61,7 +65,7 @@ fn check_file<F: Files>(alloc: Global, files: &F, wanted: Wanted<'_>) -> Result<
 pub(crate) fn check_more<F: Files>(
     alloc: Global,
     files: &F,
-    wanted: Wanted<'_>,
+    wanted: ConvertOptions<'_>,
 ) -> Result<(), ConvertStop> {
     for file in wanted.more {
         check_file(alloc, files, wanted.of_file(file.as_str()))?;
@@ -74,7 +78,7 @@ pub(crate) fn check_more<F: Files>(
 fn convert_content<F: Files, R: Read + Drop, O: CardSink, E: Write>(
     alloc: Global,
     course: &mut Course,
-    wanted: Wanted<'_>,
+    wanted: ConvertOptions<'_>,
     content: Content<'_>,
     text: R,
     sink: &mut O,
@@ -97,7 +101,7 @@ fn convert_next<F: Files, O: CardSink, E: Write>(
     alloc: Global,
     files: &F,
     course: &mut Course,
-    wanted: Wanted<'_>,
+    wanted: ConvertOptions<'_>,
     sink: &mut O,
     report: &mut Report<E, F::File>,
 ) -> Result<(), ConvertStop>
@@ -117,7 +121,7 @@ fn convert_next<F: Files, O: CardSink, E: Write>(
 pub(crate) fn convert_all<F: Files, R: Read + Drop, O: CardSink, E: Write>(
     alloc: Global,
     files: &F,
-    wanted: Wanted<'_>,
+    wanted: ConvertOptions<'_>,
     content: Content<'_>,
     text: R,
     sink: &mut O,

@@ -6,7 +6,7 @@ use contact_columns::DateOrder;
 
 /// What to convert, and where the cards go.
 #[derive(Clone, Copy)]
-pub struct Wanted<'a> {
+pub struct ConvertOptions<'a> {
     /// The path of the first file that is converted.
     pub file: &'a str,
     /// The paths of the files that are converted after it.
@@ -27,10 +27,10 @@ pub struct Wanted<'a> {
     pub report: Option<&'a str>,
 }
 
-impl<'a> Wanted<'a> {
+impl<'a> ConvertOptions<'a> {
     /// The same of another file.
-    pub(crate) fn of_file(self, file: &'a str) -> Wanted<'a> {
-        Wanted {
+    pub(crate) fn of_file(self, file: &'a str) -> ConvertOptions<'a> {
+        ConvertOptions {
             file,
             more: self.more,
             folder: self.folder,
