@@ -52,7 +52,7 @@ fn name_of(alloc: Global, line: &[u8]) -> Result<String, NoMemory> {
 }
 
 /// The name with X- before it, unless it begins so.
-fn aside_name(alloc: Global, name: &str) -> Result<String, NoMemory> {
+fn extension_name(alloc: Global, name: &str) -> Result<String, NoMemory> {
     if name.starts_with("X-") {
         return Ok(String::from_str(alloc, name)?);
     }
@@ -89,7 +89,7 @@ fn added_lines<'a>(conversion: &'a Conversion) -> &'a [Line] {
 
 /// The words for a line that was kept under another name.
 fn aside_words(alloc: Global, at: &mut Reported<'_>, name: &str) -> Result<String, NoMemory> {
-    let aside = aside_name(alloc, name)?;
+    let aside = extension_name(alloc, name)?;
     match find_name(at.lines, aside.as_str(), "X-AGENT") {
         Some((kept, rest)) => {
             at.lines = rest;
