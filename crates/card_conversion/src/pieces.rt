@@ -8,7 +8,7 @@ ghost use Rattle.vcard_import.specs.Conversions.{IsRefused};
 ghost use Rattle.std.specs.List.{list_all};
 ghost use Rattle.card_conversion.specs.Fates.{IsApart, IsConversion, first_line, is_blank};
 ghost use Rattle.card_conversion.specs.Fates.{is_card, is_overfull, is_semicolon, is_white};
-ghost use Rattle.card_conversion.specs.internal.States.{DeliversNew, Takes, TakesAfter};
+ghost use Rattle.card_conversion.specs.internal.States.{DeliversNew, TakesPiece, TakesAfter};
 ghost use Rattle.vcard_text.specs.Spelling.{without_bom};
 
 use crate::card_sink::{CardSink, Delivery};
@@ -163,7 +163,7 @@ fn deliver_piece<O: CardSink>(
     sink: &mut O,
 ) -> Result<Fate, ConversionFault>
     ensures { (octets : List ℕ) → IsConversion octets conversion
-        → IfOk result (Takes O.writes octets uids.old uids.new sink.old sink.new) }
+        → IfOk result (TakesPiece O.writes octets uids.old uids.new sink.old sink.new) }
 {
     if uids.get(conversion.card.uid()).is_some() {
         return take_again(alloc, uids, number, conversion, sink);
@@ -201,7 +201,7 @@ pub(crate) fn take_piece<O: CardSink>(
     piece: &[u8],
     sink: &mut O,
 ) -> Result<Fate, ConversionFault>
-    ensures { IfOk result (Takes O.writes piece.now uids.old uids.new sink.old sink.new) }
+    ensures { IfOk result (TakesPiece O.writes piece.now uids.old uids.new sink.old sink.new) }
 {
     if are_white(without_bom(piece)) {
         return Ok(Fate::Blank);

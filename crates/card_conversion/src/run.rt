@@ -2,7 +2,7 @@
 ghost use Rattle.std.specs.Prelude.{ℕ, List, IfOk, OnOk};
 ghost use Rattle.card_conversion.specs.Accounts.{ConvertsAll};
 ghost use Rattle.card_conversion.specs.Courses.{ConvertsPieces, Knows};
-ghost use Rattle.card_conversion.specs.internal.States.{Takes};
+ghost use Rattle.card_conversion.specs.internal.States.{TakesPiece};
 
 use crate::card_sink::CardSink;
 use crate::course::Course;
@@ -26,7 +26,7 @@ fn convert_piece<O: CardSink, E: Write, T: Write>(
     sink: &mut O,
     report: &mut Report<E, T>,
 ) -> Result<Fate, ConversionFault>
-    ensures { IfOk result (Takes O.writes piece.now uids.old uids.new sink.old sink.new) }
+    ensures { IfOk result (TakesPiece O.writes piece.now uids.old uids.new sink.old sink.new) }
 {
     let fate = take_piece(alloc, uids, place.card, piece, sink)?;
     match report_piece(alloc, place, piece, &fate, report) {

@@ -39,6 +39,6 @@ pub record Prints (count : ℕ) (before after : Option (List ℕ)) (summary : Su
 
 -- A conversion of this number of files to standard output ended with the status that its summary
 -- gives.
-abbrev pub Ends : ℕ → Option (List ℕ) → Option (List ℕ) → ℕ → Type 0
-Ends count before after status =
+abbrev pub EndsConversion : ℕ → Option (List ℕ) → Option (List ℕ) → ℕ → Type 0
+EndsConversion count before after status =
     (summary : Summary) × Prints count before after summary × (status ≡ status_of summary)

@@ -1,6 +1,6 @@
 //! Runs the order.
 ghost use Rattle.std.specs.Prelude.{◌≡◌, ◌⊎◌, ◌+◌, ◌<◌, IfOk, IsTrue, length};
-ghost use Rattle.cli_convert.specs.Endings.{Ends, Prints, prints_rows};
+ghost use Rattle.cli_convert.specs.Endings.{EndsConversion, Prints, prints_rows};
 
 use crate::card_files::CardFiles;
 use crate::content::Content;
@@ -248,7 +248,7 @@ pub fn run_convert<F: Files, W: Write, E: Write + Drop>(
     // no two have one UID. The status is that of the summary, which counts what was carried and
     // what wasn't.
     ensures printed { result < 3 → IsTrue (prints_rows wanted.entry)
-        → Ends (length wanted.entry.more.now + 1) (W.contents rows.old.writer)
+        → EndsConversion (length wanted.entry.more.now + 1) (W.contents rows.old.writer)
         (W.contents rows.new.writer) result }
 {
     let mut report: Report<E, F::File> = Report::new(alloc, errors);

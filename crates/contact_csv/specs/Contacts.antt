@@ -48,8 +48,8 @@ IsFaulty columns fields row.Width = has_width columns fields ≡ false
 IsFaulty columns fields (row.Card fault) = IsRefused columns fields fault
 
 -- What the row becomes: its contact, or the fault for which it isn't converted.
-abbrev pub Becomes : List Column → List (List ℕ) → Result Conversion RowFault → Type 0
-Becomes columns fields row = MatchResult row
+abbrev pub BecomesContact : List Column → List (List ℕ) → Result Conversion RowFault → Type 0
+BecomesContact columns fields row = MatchResult row
     (λ made. IsContact columns fields made.card made.changes)
     (λ fault. IsFaulty columns fields fault)
 

@@ -2,7 +2,7 @@
 ghost use Rattle.std.specs.Prelude.{◌≡◌, ℕ, List, IfOk, IfSome, IfNone, true, false};
 ghost use Rattle.csv.specs.Reading.{ReadRecord};
 ghost use Rattle.csv.specs.Records.{fields_of};
-ghost use Rattle.contact_csv.specs.Contacts.{Becomes, IsFaulty, IsReady, HasReadHeader};
+ghost use Rattle.contact_csv.specs.Contacts.{BecomesContact, IsFaulty, IsReady, HasReadHeader};
 ghost use Rattle.contact_csv.specs.Contacts.{rows_of, columns_of, delimiter_of};
 
 use crate::conversion::{convert_row, row_cells};
@@ -148,7 +148,7 @@ impl<R: Read + Drop> ContactReader<R> {
         alloc: Global,
         may_own: bool,
     ) -> Result<Result<Conversion, RowFault>, ContactFault>
-        ensures { IfOk result (Becomes (columns_of self.now) (fields_of self.now.row)) }
+        ensures { IfOk result (BecomesContact (columns_of self.now) (fields_of self.now.row)) }
     {
         if let Some(fault) = self.row_fault(alloc)? {
             return Ok(Err(fault));
@@ -186,7 +186,7 @@ impl<R: Read + Drop> ContactReader<R> {
         ensures row { IfOk result (λ read. IfSome read (λ row.
             IsReady self.old → (fields : List (List ℕ))
             × ReadRecord R.remaining (rows_of self.old) (rows_of self.new) true fields
-            × Becomes (columns_of self.old) fields row)) }
+            × BecomesContact (columns_of self.old) fields row)) }
 
         // `None` comes only after the last record.
         ensures end { IfOk result (λ read. IfNone read (IsReady self.old → (fields : List (List ℕ))

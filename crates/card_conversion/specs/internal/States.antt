@@ -40,9 +40,9 @@ TakesAfter writes octets uids map before after fate =
     × WritesInTurn writes (cards_of_fate fate) before after
 
 -- The piece has the fate after pieces whose cards have the UIDs of the map.
-abbrev pub Takes : {A : Type 0} → (List Line → A → A → Type 0) → List ℕ
+abbrev pub TakesPiece : {A : Type 0} → (List Line → A → A → Type 0) → List ℕ
     → finite.FinMap text_cmp (Unit {0}) → finite.FinMap text_cmp (Unit {0}) → A → A → Fate → Type 0
-Takes writes octets map_before map_after before after fate =
+TakesPiece writes octets map_before map_after before after fate =
     (uids : List (List ℕ)) → HasUids map_before uids
     → TakesAfter writes octets uids map_after before after fate
 
