@@ -118,3 +118,11 @@ abbrev pub tally_step : Books → List ℕ → Result Tally Refusal
 tally_step books name = do
   book ← book_named books name
   Ok (book_tally book)
+
+-- ---- keeps
+
+-- the most tombstones that a book keeps, asked by name
+abbrev pub keep_step : Books → List ℕ → Result ℕ Refusal
+keep_step books name = do
+  book ← book_named books name
+  Ok book.keep
