@@ -124,6 +124,13 @@ CARDS = [
          "line 11: LABEL joined to its ADR", "line 12: LABEL renamed", "line 13: LABEL renamed"],
     ),
     Converted(
+        "octets that Windows-1252 has no character for",
+        card("3.0", "UID:a", "FN:M\udc81ller", "NOTE:\udc80\udc8d\udc8f\udc90\udc9d\udc9f"),
+        ["UID:a", "FN:M\ufffdller", "NOTE:€\ufffd\ufffd\ufffd\ufffdŸ"],
+        ["line 4: FN rewritten", "line 5: NOTE rewritten",
+         "line 1: FN has U+FFFD in place of characters that couldn't be read"],
+    ),
+    Converted(
         "a line that is no property is kept",
         card("3.0", "UID:a", "FN:Ann", "no property"),
         ["UID:a", "FN:Ann", "X-UNREADABLE:no property"],

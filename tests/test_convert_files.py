@@ -226,6 +226,12 @@ class ConvertFiles(OrderTest):
         ended = self.convert("a.csv", "--charset", "ISO-8859-3")
         told = "row 1, line 2: NOTE has U+FFFD in place of characters that couldn't be read\n"
         self.assertTrue(ended.err.decode().startswith(told), ended)
+        # And where the cell is read as Windows-1252, which has none for five octets.
+        for octet in b"\x81", b"\x8d", b"\x8f", b"\x90", b"\x9d":
+            self.write(a_csv=b"First Name,E-mail Address,Notes\nAnn,,a" + octet + b"\n")
+            ended = self.convert("a.csv")
+            self.assertTrue(ended.err.decode().startswith(told), ended)
+            self.assertIn("NOTE:a\ufffd\r\n", ended.out.decode())
 
     def test_lines_of_a_broken_row(self):
         """A quote that isn't closed is told with the lines that it takes with it."""

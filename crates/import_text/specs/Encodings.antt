@@ -3,13 +3,13 @@
 use Rattle.std.specs.Prelude.{ℕ, ◌-◌, List, [], ◌∷◌, map, get_or, nat_lt, if◌then◌else◌}
 use Rattle.std.specs.Str.{is_utf8, encode_utf8_all}
 
--- the characters of the octets 128 to 159; an octet without one is the character of its number
+-- the characters of the octets 128 to 159; U+FFFD stands for an octet without a character
 abbrev pub windows_chars : List ℕ
 windows_chars =
-    8364 ∷ 129 ∷ 8218 ∷ 402 ∷ 8222 ∷ 8230 ∷ 8224 ∷ 8225
-    ∷ 710 ∷ 8240 ∷ 352 ∷ 8249 ∷ 338 ∷ 141 ∷ 381 ∷ 143
-    ∷ 144 ∷ 8216 ∷ 8217 ∷ 8220 ∷ 8221 ∷ 8226 ∷ 8211 ∷ 8212
-    ∷ 732 ∷ 8482 ∷ 353 ∷ 8250 ∷ 339 ∷ 157 ∷ 382 ∷ 376 ∷ []
+    8364 ∷ 65533 ∷ 8218 ∷ 402 ∷ 8222 ∷ 8230 ∷ 8224 ∷ 8225
+    ∷ 710 ∷ 8240 ∷ 352 ∷ 8249 ∷ 338 ∷ 65533 ∷ 381 ∷ 65533
+    ∷ 65533 ∷ 8216 ∷ 8217 ∷ 8220 ∷ 8221 ∷ 8226 ∷ 8211 ∷ 8212
+    ∷ 732 ∷ 8482 ∷ 353 ∷ 8250 ∷ 339 ∷ 65533 ∷ 382 ∷ 376 ∷ []
 
 -- The character of an octet in a character set, of which `chars` are the characters of the octet
 -- `first` and the next ones. Any other octet is the character of its number.
