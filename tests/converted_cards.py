@@ -131,6 +131,16 @@ CARDS = [
          "line 1: FN has U+FFFD in place of characters that couldn't be read"],
     ),
     Converted(
+        "UTF-8 with an octet too few or too many is UTF-8 still, and what is no character U+FFFD; a "
+        "line without a character of UTF-8 is Windows-1252",
+        card("3.0", "UID:a", "FN:Jürgen Müll\udcc3", "NOTE:\udce2\udc82 Straße \udcfc\udc96",
+             "ORG:\udcd6sterle\udcfc \udc84\udcdf"),
+        ["UID:a", "FN:Jürgen Müll\ufffd", "NOTE:\ufffd Straße \ufffd\ufffd",
+         "ORG:Österleü „ß"],
+        ["line 4: FN rewritten", "line 5: NOTE rewritten", "line 6: ORG rewritten",
+         "line 1: FN has U+FFFD in place of characters that couldn't be read"],
+    ),
+    Converted(
         "a line that is no property is kept",
         card("3.0", "UID:a", "FN:Ann", "no property"),
         ["UID:a", "FN:Ann", "X-UNREADABLE:no property"],
