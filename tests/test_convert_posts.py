@@ -196,6 +196,19 @@ class Converted(ConvertTest):
         self.assertEqual([card("a", "Ann"), card("b", "Bob")],
                          [row["vcard"] for row in part["rows"]])
 
+    def test_rows_of_an_export_are_told_with_their_lines(self):
+        text = '"' + card("a", "Ann") + '"'
+        octets = f"uid,vcard\na,x\nb,y\na,{text},more\nb,z\nc,{text}\n".encode()
+        part, = self.compare(octets, "rows.csv")
+        lines = text.count("\n")
+        other = "not carried: no card begins here"
+        self.assertEqual([
+            (0, 2, other), (0, 3, other), (1, 4, "the row has a third cell, which is left out"),
+            (0, 5 + lines, other), (2, 6 + lines, "an earlier card is the same"),
+            (2, 6 + lines, "the row has another UID, which is left out"),
+        ], [(it["card"], it["line"], it["text"]) for it in part["report"]])
+        self.assertEqual([(1, 4)], [(row["card"], row["line"]) for row in part["rows"]])
+
     def test_the_same_card_twice_in_a_part_is_passed(self):
         octets = card("a", "Ann").encode() * 2 + card("a", "Anna").encode()
         part = self.part(octets)
