@@ -104,7 +104,7 @@ class Convert(OrderTest):
 
     def test_cards(self):
         for title, lines, wanted, changes in CARDS:
-            for end in "\r\n", "\n", "\r":
+            for end in "\r\n", "\n", "\r", "\r\r\n":
                 with self.subTest(title, end=end):
                     octets = octets_of(text(lines, end))
                     ended = self.convert(octets)

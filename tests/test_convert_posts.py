@@ -166,7 +166,7 @@ class ConvertTest(OrderTest):
 class Converted(ConvertTest):
     def test_each_example_is_converted_as_by_the_order(self):
         for title, lines, _card, _report in CARDS:
-            for end in "\r\n", "\n", "\r":
+            for end in "\r\n", "\n", "\r", "\r\r\n":
                 with self.subTest(title, end=end):
                     self.compare(octets_of("".join(line + end for line in lines)), "cards.vcf")
         for export in EXPORTS:
