@@ -121,6 +121,24 @@ class Convert(OrderTest):
                     self.assertEqual(ended, self.convert(octets), "not the same again")
                     self.imported(ended.out, 1)
 
+    def test_mixed_line_ends(self):
+        """A card whose lines end with CR alone, in a file of LF, isn't carried, and takes no other
+        card with it."""
+        ends = [("a", "\n"), ("b", "\r"), ("c", "\r"), ("d", "\r\n"), ("e", "\r"), ("f", "\n")]
+        octets = "".join(text(card("4.0", f"UID:{uid}", "FN:A"), end) for uid, end in ends).encode()
+        ended = self.convert(octets)
+        lines = [f"line {line}: not carried: no card begins here" for line in (6, 6, 11)]
+        self.assertEqual((1, report(lines, 3, 0, 3)), (ended.status, ended.err))
+        self.assertEqual(["a", "d", "f"], [row[0] for row in rows_of(ended.out)])
+
+    def test_many_cards_with_other_line_ends(self):
+        """Each is a piece by itself, and the time doesn't grow with the square of their number."""
+        one = text(card("4.0", "UID:a", "FN:A"), "\n")
+        many = text(card("4.0", "UID:b", "FN:A"), "\r") * 50_000
+        ended = self.convert((one + many).encode())
+        self.assertTrue(ended.err.endswith(b"1 cards written, 0 changed, 0 with parts kept aside, "
+                                           b"50000 not carried\n"), ended.err[-100:])
+
     def test_a_report_in_a_file(self):
         """It has a line for each change, and then what is printed at the end."""
         for title, lines, _wanted, changes in CARDS:

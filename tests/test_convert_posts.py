@@ -209,6 +209,14 @@ class Converted(ConvertTest):
         ], [(it["card"], it["line"], it["text"]) for it in part["report"]])
         self.assertEqual([(1, 4)], [(row["card"], row["line"]) for row in part["rows"]])
 
+    def test_mixed_line_ends(self):
+        ends = zip("abcd", ["\n", "\r", "\r\n", "\n"])
+        octets = "".join(card(uid, "Ann").replace("\r\n", end) for uid, end in ends).encode()
+        part, = self.compare(octets, "cards.vcf")
+        self.assertEqual([("a", 1, 1), ("c", 2, 5), ("d", 3, 9)],
+                         [(row["uid"], row["card"], row["line"]) for row in part["rows"]])
+        self.assertEqual(1, part["not_carried"])
+
     def test_the_same_card_twice_in_a_part_is_passed(self):
         octets = card("a", "Ann").encode() * 2 + card("a", "Anna").encode()
         part = self.part(octets)
