@@ -124,6 +124,16 @@ CARDS = [
          "line 11: LABEL joined to its ADR", "line 12: LABEL renamed", "line 13: LABEL renamed"],
     ),
     Converted(
+        "a label with a group, or with more than its types, is an address of its own",
+        card("3.0", "UID:a", "FN:Ann", "ADR;TYPE=home:;;h1;;;;", "item1.LABEL;TYPE=home:H1",
+             "LABEL;TYPE=home;LANGUAGE=de:H2", "LABEL;TYPE=home;VALUE=text:H3"),
+        ["UID:a", "FN:Ann", "ADR;TYPE=home;LABEL=\"H3\":;;h1;;;;",
+         "item1.ADR;TYPE=home;LABEL=\"H1\":;;;;;;",
+         "ADR;TYPE=home;LANGUAGE=de;LABEL=\"H2\":;;;;;;"],
+        ["line 5: ADR given a LABEL", "line 6: LABEL renamed", "line 7: LABEL renamed",
+         "line 8: LABEL joined to its ADR"],
+    ),
+    Converted(
         "octets that Windows-1252 has no character for",
         card("3.0", "UID:a", "FN:M\udc81ller", "NOTE:\udc80\udc8d\udc8f\udc90\udc9d\udc9f"),
         ["UID:a", "FN:M\ufffdller", "NOTE:€\ufffd\ufffd\ufffd\ufffdŸ"],

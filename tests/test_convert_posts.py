@@ -213,7 +213,7 @@ class Converted(ConvertTest):
         ends = zip("abcd", ["\n", "\r", "\r\n", "\n"])
         octets = "".join(card(uid, "Ann").replace("\r\n", end) for uid, end in ends).encode()
         part, = self.compare(octets, "cards.vcf")
-        self.assertEqual([("a", 1, 1), ("c", 2, 5), ("d", 3, 9)],
+        self.assertEqual([("a", 1, 1), ("c", 2, 6), ("d", 3, 11)],
                          [(row["uid"], row["card"], row["line"]) for row in part["rows"]])
         self.assertEqual(1, part["not_carried"])
 
