@@ -134,6 +134,13 @@ CARDS = [
          "line 8: LABEL joined to its ADR"],
     ),
     Converted(
+        "control characters, which no value may have but the tab",
+        card("3.0", "UID:a", "FN:A\x01B", "TEL:1\x00\t2", "NOTE;QUOTED-PRINTABLE:a=0Ab=7F"),
+        ["UID:a", "FN:A B", "TEL:1 \t2", "NOTE:a\\nb "],
+        ["line 4: FN lost control characters", "line 5: TEL lost control characters",
+         "line 6: NOTE lost control characters"],
+    ),
+    Converted(
         "octets that Windows-1252 has no character for",
         card("3.0", "UID:a", "FN:M\udc81ller", "NOTE:\udc80\udc8d\udc8f\udc90\udc9d\udc9f"),
         ["UID:a", "FN:M\ufffdller", "NOTE:€\ufffd\ufffd\ufffd\ufffdŸ"],
@@ -390,7 +397,8 @@ CARDS = [
         ["UID:a", "FN:Ann",
          "NOTE:Now's the time for all folk to come to the aid of their country.", "NOTE: =",
          "NOTE:=4gü=4"],
-        ["line 5: NOTE rewritten", "line 8: NOTE rewritten", "line 9: NOTE rewritten"],
+        ["line 5: NOTE rewritten", "line 8: NOTE lost control characters",
+         "line 9: NOTE rewritten"],
     ),
     Converted(
         "the folded line of RFC 6350, section 3.2, and a word that a fold cuts",

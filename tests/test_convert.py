@@ -131,6 +131,13 @@ class Convert(OrderTest):
         self.assertEqual((1, report(lines, 3, 0, 3)), (ended.status, ended.err))
         self.assertEqual(["a", "d", "f"], [row[0] for row in rows_of(ended.out)])
 
+    def test_a_carriage_return_in_a_value(self):
+        ended = self.convert(text(card("3.0", "UID:a", "FN:Ann", "TEL:1\r2")).encode())
+        due = report(["card 1, line 5: TEL lost control characters"], 1, 1, 0)
+        self.assertEqual((0, due), (ended.status, ended.err))
+        made = card("4.0", "UID:a", "FN:Ann", "TEL:12")
+        self.assertEqual(made, unfolded(rows_of(ended.out)[0][1].encode()))
+
     def test_many_cards_with_other_line_ends(self):
         """Each is a piece by itself, and the time doesn't grow with the square of their number."""
         one = text(card("4.0", "UID:a", "FN:A"), "\n")

@@ -176,6 +176,12 @@ fn change_words(
                 format!(in alloc; "{name} lost the fraction of a second")?,
             )
         }
+        ChangeKind::Cleaned => {
+            (
+                Said::Content(Weight::Lost),
+                format!(in alloc; "{name} lost control characters")?,
+            )
+        }
         ChangeKind::Renamed => (
             Said::Form(FormKind::Renamed),
             format!(in alloc; "{name} renamed")?,
