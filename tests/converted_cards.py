@@ -135,7 +135,8 @@ CARDS = [
     ),
     Converted(
         "control characters, which no value may have but the tab",
-        card("3.0", "UID:a", "FN:A\x01B", "TEL:1\x00\t2", "NOTE;QUOTED-PRINTABLE:a=0Ab=7F"),
+        card("3.0", "UID:a", "FN:A\x01B", "TEL:1\x00\t2",
+             "NOTE;ENCODING=QUOTED-PRINTABLE:a=0Ab=7F"),
         ["UID:a", "FN:A B", "TEL:1 \t2", "NOTE:a\\nb "],
         ["line 4: FN lost control characters", "line 5: TEL lost control characters",
          "line 6: NOTE lost control characters"],
@@ -148,8 +149,8 @@ CARDS = [
          "line 1: FN has U+FFFD in place of characters that couldn't be read"],
     ),
     Converted(
-        "UTF-8 with an octet too few or too many is UTF-8 still, and what is no character U+FFFD; a "
-        "line without a character of UTF-8 is Windows-1252",
+        "UTF-8 with an octet too few or too many is UTF-8 still, and what is no character U+FFFD; "
+        "a line without a character of UTF-8 is Windows-1252",
         card("3.0", "UID:a", "FN:Jürgen Müll\udcc3", "NOTE:\udce2\udc82 Straße \udcfc\udc96",
              "ORG:\udcd6sterle\udcfc \udc84\udcdf"),
         ["UID:a", "FN:Jürgen Müll\ufffd", "NOTE:\ufffd Straße \ufffd\ufffd",

@@ -273,7 +273,8 @@ class ConvertContacts(OrderTest):
         def card(uid):
             return f'"BEGIN:VCARD\nVERSION:4.0\nUID:{uid}\nFN:A\nEND:VCARD\n"'
 
-        rows = [f"u1,{card('u1')},more", f"u2,{card('u3')}", f",{card('u4')},,", f"u1,{card('u1')},x"]
+        rows = [f"u1,{card('u1')},more", f"u2,{card('u3')}", f",{card('u4')},,",
+                f"u1,{card('u1')},x"]
         ended = self.convert("\n".join(["uid,vcard", *rows, ""]).encode(), name="export.csv")
         told = digest([
             "card 1, line 2: the row has a third cell, which is left out",

@@ -376,8 +376,8 @@ fn report_changes<E: Write, T: Write>(
     tell_parts(alloc, place, parts, report)
 }
 
-/// Reports a card that was written under a UID of its own. So the UID that it had isn't compared with
-/// that of its row.
+/// Reports a card that was written under a UID of its own. So the UID that it had isn't compared
+/// with that of its row.
 fn report_moved<E: Write, T: Write>(
     alloc: Global,
     place: Place,

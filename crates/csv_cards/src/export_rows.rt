@@ -46,8 +46,8 @@ pub struct ExportRow {
     pub line: u64,
     /// The field before the text: `uid`.
     pub uid: Vec<u8>,
-    /// The text of the card, with a line feed after it. A row without a card has another field here,
-    /// so that it isn't passed over.
+    /// The text of the card, with a line feed after it. A row without a card has another field
+    /// here, so that it isn't passed over.
     pub text: Vec<u8>,
     /// Whether a field after the text has more than white space.
     pub has_more: bool,

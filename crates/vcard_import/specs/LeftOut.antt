@@ -9,7 +9,8 @@ use Rattle.vcard_property.specs.declared.change_kind.ChangeKind.{ChangeKind}
 use Rattle.vcard_property.specs.declared.change_kind.ChangeKind.TheVariants.{Rewritten, Renamed}
 use Rattle.vcard_property.specs.declared.change_kind.ChangeKind.TheVariants.{KeptAside, Unreadable}
 use Rattle.vcard_property.specs.declared.change_kind.ChangeKind.TheVariants.{Added, Joined, LeftOut}
-use Rattle.vcard_property.specs.declared.change_kind.ChangeKind.TheVariants.{Labelled, Shortened, Cleaned}
+use Rattle.vcard_property.specs.declared.change_kind.ChangeKind.TheVariants.{Labelled, Shortened}
+use Rattle.vcard_property.specs.declared.change_kind.ChangeKind.TheVariants.{Cleaned}
 use Rattle.vcard_import.specs.declared.change.Change.{Change}
 
 -- the head of the logical line has the name of a property with pictures or sounds

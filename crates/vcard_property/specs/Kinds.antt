@@ -4,7 +4,8 @@ use Rattle.vcard_property.specs.declared.change_kind.ChangeKind.{ChangeKind}
 use Rattle.vcard_property.specs.declared.change_kind.ChangeKind.TheVariants.{Rewritten, Renamed}
 use Rattle.vcard_property.specs.declared.change_kind.ChangeKind.TheVariants.{KeptAside, Unreadable}
 use Rattle.vcard_property.specs.declared.change_kind.ChangeKind.TheVariants.{Added, Joined, LeftOut}
-use Rattle.vcard_property.specs.declared.change_kind.ChangeKind.TheVariants.{Labelled, Shortened, Cleaned}
+use Rattle.vcard_property.specs.declared.change_kind.ChangeKind.TheVariants.{Labelled, Shortened}
+use Rattle.vcard_property.specs.declared.change_kind.ChangeKind.TheVariants.{Cleaned}
 
 -- the name begins with X-
 abbrev pub is_aside_name : List ℕ → Bool
