@@ -256,7 +256,7 @@ class ConvertFiles(OrderTest):
         for front in range(4):
             for character in "ü", "€", "\U00012345":
                 note = "a" * front + character * 5000
-                lines = f"First Name,Notes,E-mail Address\nAnn,{note},\n"
+                lines = f"First Name,E-mail Address,Notes\nAnn,,{note}\n"
                 with self.subTest(front=front, character=character):
                     self.write(a_csv=lines.encode())
                     ended = self.convert("a.csv", "--charset", "UTF-8")

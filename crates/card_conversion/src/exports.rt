@@ -37,8 +37,15 @@ fn convert_row<O: CardSink, E: Write, T: Write>(
         }
         let (piece, after) = split_piece(rest);
         let place = course.ledger.place;
-        let uids = &mut course.uids;
-        let fate = convert_piece(alloc, uids, place, piece, fields, sink, report)?;
+        let fate = convert_piece(
+            alloc,
+            &mut course.uids,
+            place,
+            piece,
+            fields,
+            sink,
+            report,
+        )?;
         course.ledger.count(piece, &fate);
         rest = after;
     }

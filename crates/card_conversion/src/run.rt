@@ -63,8 +63,15 @@ pub fn convert_more_cards<R: Read + Drop, O: CardSink, E: Write, T: Write>(
         };
         let piece = pieces.piece(len);
         let place = course.ledger.place;
-        let uids = &mut course.uids;
-        let fate = convert_piece(alloc, uids, place, piece, no_fields(), sink, report)?;
+        let fate = convert_piece(
+            alloc,
+            &mut course.uids,
+            place,
+            piece,
+            no_fields(),
+            sink,
+            report,
+        )?;
         course.ledger.count(piece, &fate);
         pieces.pass(len);
     }
