@@ -246,16 +246,19 @@ class ConvertContacts(OrderTest):
             self.assertEqual(card.encode(), (self.folder / "to" / (uid + ".vcf")).read_bytes())
 
     def test_rows_of_an_export(self):
-        """Each row is its second field, or its first one if that is empty, and a line feed."""
+        """Each row is its second field, or its first one if that is empty, and a line feed. Any
+        other field is told, unless it is the UID of the card."""
         first = 'BEGIN:VCARD\r\nFN:A\r\nNOTE:"x"\r\nEND:VCARD\r\n'
         more = [f"BEGIN:VCARD\nFN:{name}\nEND:VCARD" for name in "BCD"]
         rows = [["a", first], ["b", "two"], [more[0]], [more[1], ""], ["", more[2], "e"]]
         ended = self.convert(csv_text([["uid", "vcard"], *rows]).encode(), name="export.csv")
         report = digest([
+            "card 1, line 2: the row has another UID, which is left out",
             "card 1, line 2: UID added",
-            "line 6: not carried: no card begins here",
+            "line 7: not carried: no card begins here",
             "card 2, line 8: UID added",
             "card 3, line 11: UID added",
+            "card 4, line 14: the row has a third cell, which is left out",
             "card 4, line 14: UID added",
         ], 4, 4, 1)
         self.assertEqual((1, report), (ended.status, ended.err.decode()))
@@ -265,6 +268,35 @@ class ConvertContacts(OrderTest):
         texts = [first, *(card + "\n" for card in more)]
         self.assertEqual([added_uid(it.encode()) for it in texts], [row[0] for row in made])
 
+    def test_fields_of_an_export(self):
+        """A third cell, and a UID that isn't the card's, are told with the row's own line."""
+        def card(uid):
+            return f'"BEGIN:VCARD\nVERSION:4.0\nUID:{uid}\nFN:A\nEND:VCARD\n"'
+
+        rows = [f"u1,{card('u1')},more", f"u2,{card('u3')}", f",{card('u4')},,",
+                f"u1,{card('u1')},x"]
+        ended = self.convert("\n".join(["uid,vcard", *rows, ""]).encode(), name="export.csv")
+        told = digest([
+            "card 1, line 2: the row has a third cell, which is left out",
+            "card 2, line 8: the row has another UID, which is left out",
+            "card 4, line 20: an earlier card is the same",
+            "card 4, line 20: the row has a third cell, which is left out",
+        ], 3, 0, 0)
+        self.assertEqual((0, told), (ended.status, ended.err.decode()))
+        self.assertEqual(["u1", "u3", "u4"], [row[0] for row in rows_of(ended.out)])
+
+    def test_rows_that_are_no_cards(self):
+        """Each is told with its own line, also several in sequence."""
+        card = '"BEGIN:VCARD\nVERSION:4.0\nUID:u1\nFN:A\nEND:VCARD\n"'
+        rows = ["u6,hello", "u8,hi", f"u1,{card}", "u7,hello", ",,x"]
+        for end in "\n", "\r\n":
+            with self.subTest(end=end):
+                octets = end.join(["uid,vcard", *rows, ""]).encode()
+                ended = self.convert(octets, name="export.csv")
+                told = digest([f"line {line}: not carried: no card begins here"
+                               for line in (2, 3, 10, 11)], 1, 0, 4)
+                self.assertEqual((1, told), (ended.status, ended.err.decode()))
+
     def test_headers_of_an_export(self):
         for title, octets, refused in [
             ("a row that is no card", b"uid,vcard\na,b\n", 1),
@@ -272,7 +304,7 @@ class ConvertContacts(OrderTest):
         ]:
             with self.subTest(title):
                 ended = self.convert(octets)
-                lines = refused * ["line 1: not carried: no card begins here"]
+                lines = refused * ["line 2: not carried: no card begins here"]
                 report = digest(lines, 0, 0, refused).encode()
                 self.assertEqual(Ended(refused, HEAD, report), ended)
 

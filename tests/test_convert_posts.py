@@ -166,7 +166,7 @@ class ConvertTest(OrderTest):
 class Converted(ConvertTest):
     def test_each_example_is_converted_as_by_the_order(self):
         for title, lines, _card, _report in CARDS:
-            for end in "\r\n", "\n", "\r":
+            for end in "\r\n", "\n", "\r", "\r\r\n":
                 with self.subTest(title, end=end):
                     self.compare(octets_of("".join(line + end for line in lines)), "cards.vcf")
         for export in EXPORTS:
@@ -195,6 +195,27 @@ class Converted(ConvertTest):
             part["kind"], [row["uid"] for row in part["rows"]], part["header"]))
         self.assertEqual([card("a", "Ann"), card("b", "Bob")],
                          [row["vcard"] for row in part["rows"]])
+
+    def test_rows_of_an_export_are_told_with_their_lines(self):
+        text = '"' + card("a", "Ann") + '"'
+        octets = f"uid,vcard\na,x\nb,y\na,{text},more\nb,z\nc,{text}\n".encode()
+        part, = self.compare(octets, "rows.csv")
+        lines = text.count("\n")
+        other = "not carried: no card begins here"
+        self.assertEqual([
+            (0, 2, other), (0, 3, other), (1, 4, "the row has a third cell, which is left out"),
+            (0, 5 + lines, other), (2, 6 + lines, "an earlier card is the same"),
+            (2, 6 + lines, "the row has another UID, which is left out"),
+        ], [(it["card"], it["line"], it["text"]) for it in part["report"]])
+        self.assertEqual([(1, 4)], [(row["card"], row["line"]) for row in part["rows"]])
+
+    def test_mixed_line_ends(self):
+        ends = zip("abcd", ["\n", "\r", "\r\n", "\n"])
+        octets = "".join(card(uid, "Ann").replace("\r\n", end) for uid, end in ends).encode()
+        part, = self.compare(octets, "cards.vcf")
+        self.assertEqual([("a", 1, 1), ("c", 2, 6), ("d", 3, 11)],
+                         [(row["uid"], row["card"], row["line"]) for row in part["rows"]])
+        self.assertEqual(1, part["not_carried"])
 
     def test_the_same_card_twice_in_a_part_is_passed(self):
         octets = card("a", "Ann").encode() * 2 + card("a", "Anna").encode()

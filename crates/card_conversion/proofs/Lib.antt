@@ -1,3 +1,4 @@
+mod ExportLemmas
 mod FileLemmas
 mod LineLemmas
 mod MovedLemmas

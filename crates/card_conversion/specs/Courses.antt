@@ -70,6 +70,12 @@ pub record ConvertsPieces {A : Type 0} (writes : List Line → A → A → Type 
     pub whole : IfSome input (λ octets. octets ≡ fates.octets_of entries)
     pub part : ConvertsPart writes (of_pieces entries) uids old new before after
 
+-- Some texts were converted piece by piece, after cards with these UIDs. Which texts isn't said.
+abbrev pub ConvertsTexts : {A : Type 0} → (List Line → A → A → Type 0) → List (List ℕ) → Course
+    → Course → A → A → Type 0
+ConvertsTexts writes uids old new before after =
+    (entries : List Entry) × ConvertsPart writes (of_pieces entries) uids old new before after
+
 -- The rows are all records that the reader has left, in order.
 pub record ReadsAll {R : Type 0} (remaining : R → Option (List ℕ)) (reader : ContactReader R)
     (entries : List contacts.RowEntry) : Type 0 where

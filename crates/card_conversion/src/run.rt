@@ -11,25 +11,27 @@ use crate::fault::ConversionFault;
 use crate::ledger::Summary;
 use crate::piece_reader::PieceReader;
 use crate::pieces::take_piece;
-use crate::report::{Place, report_piece};
+use crate::report::{Place, RowFields, no_fields, report_piece};
 use crate::reporting::Report;
 use base_types::TextMap;
 use std::alloc::Global;
 use std::io::{Read, Write};
 
 /// Converts a piece if it is a card, writes the card to the sink, and reports what became of it.
-fn convert_piece<O: CardSink, E: Write, T: Write>(
+/// `fields` are those of its row.
+pub(crate) fn convert_piece<O: CardSink, E: Write, T: Write>(
     alloc: Global,
     uids: &mut TextMap<()>,
     place: Place,
     piece: &[u8],
+    fields: RowFields<'_>,
     sink: &mut O,
     report: &mut Report<E, T>,
 ) -> Result<Fate, ConversionFault>
     ensures { IfOk result (TakesPiece O.writes piece.now uids.old uids.new sink.old sink.new) }
 {
     let fate = take_piece(alloc, uids, place.card, piece, sink)?;
-    match report_piece(alloc, place, piece, &fate, report) {
+    match report_piece(alloc, place, piece, &fate, fields, report) {
         Ok(()) => Ok(fate),
         Err(fault) => {
             drop(fate);
@@ -61,7 +63,15 @@ pub fn convert_more_cards<R: Read + Drop, O: CardSink, E: Write, T: Write>(
         };
         let piece = pieces.piece(len);
         let place = course.ledger.place;
-        let fate = convert_piece(alloc, &mut course.uids, place, piece, sink, report)?;
+        let fate = convert_piece(
+            alloc,
+            &mut course.uids,
+            place,
+            piece,
+            no_fields(),
+            sink,
+            report,
+        )?;
         course.ledger.count(piece, &fate);
         pieces.pass(len);
     }

@@ -73,7 +73,8 @@ pub(crate) fn text_after<'a, R: Read + Drop>(
     let reader = CharsetReader {
         alloc,
         reader: whole,
-        charset: encoding.charset(),
+        decoding: encoding.decoding(front),
+        begun: Vec::new(alloc),
         text: String::new(alloc),
         start: 0,
     };

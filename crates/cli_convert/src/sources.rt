@@ -5,16 +5,14 @@ ghost use Rattle.contact_csv.specs.Contacts.{IsReady};
 
 use crate::content::Content;
 use card_conversion::{
-    CardSink, ConversionFault, Course, Report, convert_more_contacts, convert_more_file,
+    CardSink, ConversionFault, Course, Report, convert_more_contacts, convert_more_exports,
+    convert_more_file,
 };
 use contact_columns::RowText;
 use contact_csv::{ContactFault, ContactReader, Header};
-use csv_cards::ExportText;
+use csv_cards::ExportRows;
 use std::alloc::Global;
 use std::io::{Read, Write};
-
-/// What stands for the header of an export, so that the lines of its rows are counted after it.
-const HEADER_LINE: &[u8] = b"\n";
 
 /// A reader of contacts, after its header. `reader` begins with the header.
 fn read_contacts<R: Read + Drop>(
@@ -46,8 +44,8 @@ pub(crate) fn convert_to<R: Read + Drop, O: CardSink, E: Write, T: Write>(
 {
     match content {
         Content::Export => {
-            let text = HEADER_LINE.chain(ExportText::new(alloc, reader));
-            convert_more_file(alloc, course, text, sink, report)
+            let rows = ExportRows::new(alloc, reader);
+            convert_more_exports(alloc, course, rows, sink, report)
         }
         Content::Contacts(header) => {
             let contacts = read_contacts(alloc, reader, header)?;

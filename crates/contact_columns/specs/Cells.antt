@@ -21,8 +21,8 @@ has_line_feed text = list_any (λ octet. octet == line_feed) text
 abbrev pub clean_text : Bool → List ℕ → List ℕ
 clean_text has_feeds text = encode_utf8_all (flat_map (clean_char has_feeds) (chars text))
 
--- the text of a cell: UTF-8 or else Windows-1252, with line feeds as its only line ends and no
--- other control characters but tabs
+-- the text of a cell, with line feeds as its only line ends and no other control characters but
+-- tabs
 unfoldable pub cell_text : List ℕ → List ℕ
 cell_text octets = clean_text (has_line_feed (text_of octets)) (text_of octets)
 

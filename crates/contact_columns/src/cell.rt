@@ -46,8 +46,8 @@ fn clean_text(alloc: Global, text: &str, has_feeds: bool) -> Result<String, NoMe
     Ok(clean)
 }
 
-/// The text of a cell: UTF-8 if it is, and otherwise Windows-1252. Line feeds are its only line
-/// ends, and each other control character but the tab is a space. The only `Err` is out of memory.
+/// The text of a cell, as `read_text` reads it. Line feeds are its only line ends, and each other
+/// control character but the tab is a space. The only `Err` is out of memory.
 #[tactic(auto, unfolding(crate::specs::Cells::cell_text))]
 pub fn cell_text(alloc: Global, octets: &[u8]) -> Result<Text, NoMemory>
     ensures { IfOk result (λ text. text ≡ cell_text octets.now) }

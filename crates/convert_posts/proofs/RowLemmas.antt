@@ -1,5 +1,5 @@
 -- The rows of cards that were written one after another.
-use Rattle.std.proofs.Common.{◌≡◌, ◌≢◌, ◌∙◌, ◌∷◌, ◌++◌, [], ℕ, List, Option, sym, ap, subst, map, append_assoc, append-nil}
+use Rattle.std.proofs.Common.{◌≡◌, ◌≢◌, ◌∙◌, ◌∷◌, ◌++◌, [], ℕ, List, Option, Some, refl, sym, ap, subst, map, append_assoc, append-nil}
 use Rattle.std.proofs.lemmas.List.{map-append}
 use Rattle.std.specs.List.{AllByRecursion, AllPairs}
 use Rattle.vcard_lines.specs.declared.line.Line.{Line}
@@ -7,8 +7,9 @@ use Rattle.vcard_text.specs.Cards.{IsCard, uid_of}
 use Rattle.card_conversion.specs.ContactFates as contacts
 use Rattle.card_conversion.specs.Counts as pieces
 use Rattle.card_conversion.specs.Counts.{nothing_counted}
-use Rattle.card_conversion.specs.Courses.{AllHaveFates, ConvertsPieces, ConvertsRows, HaveFates, Part, cards_of, cards_of_all, counts_of, of_pieces, of_rows}
+use Rattle.card_conversion.specs.Courses.{AllHaveFates, ConvertsPieces, ConvertsRows, ConvertsTexts, HaveFates, Part, cards_of, cards_of_all, counts_of, of_pieces, of_rows}
 use Rattle.card_conversion.specs.Deliveries.{WritesInTurn}
+use Rattle.card_conversion.specs.Fates.{octets_of}
 use Rattle.card_conversion.specs.declared.course.Course.{Course}
 use Rattle.contact_csv.specs.Contacts.{columns_of}
 use Rattle.contact_csv.specs.declared.rows.ContactReader.{ContactReader}
@@ -63,6 +64,14 @@ module _ {A : Type 0} (rows_of : A → List CardRow) where
       counts = converts.part.counts ∙ ap (λ start. pieces.summary_after start converts.entries) nothing;
     },
     rows_are (cards_of (of_pieces converts.entries)) a b none converts.part.written,
+  )
+
+  -- the same of texts, which are together the octets of the pieces
+  pub texts_done : (first course : Course) (a b : A) → AreCards → AreApart → counts_of first ≡ nothing_counted → rows_of a ≡ [] → ConvertsTexts row_step [] first course a b
+      → (text : List ℕ) × IsOfPieces (Some text) (counts_of course) (rows_of b)
+  texts_done first course a b are_cards are_apart nothing none (entries, part) = (
+    octets_of entries,
+    pieces_done (Some (octets_of entries)) first course a b are_cards are_apart nothing none (record { entries = entries; whole = refl; part = part }),
   )
 
   pub rows_done : {R : Type 0} (remaining : R → Option (List ℕ)) (reader : ContactReader R) (first course : Course) (a b : A) → AreCards → AreApart → counts_of first ≡ nothing_counted → rows_of a ≡ []

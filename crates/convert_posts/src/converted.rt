@@ -1,5 +1,5 @@
 //! Converts the text of a part.
-ghost use Rattle.std.specs.Prelude.{IfOk, IfSome};
+ghost use Rattle.std.specs.Prelude.{ℕ, List, Some, IfOk, IfSome};
 ghost use Rattle.contact_csv.specs.Contacts.{IsReady};
 ghost use Rattle.convert_posts.specs.Parts.{IsOfContacts, IsOfPieces};
 
@@ -9,8 +9,10 @@ use base_types::{Items, NoMemory};
 use card_conversion::laws::written_cards_differ;
 use card_conversion::{
     ConversionFault, Course, Report, Summary, convert_more_cards, convert_more_contacts,
+    convert_more_exports,
 };
 use contact_csv::ContactReader;
+use csv_cards::ExportRows;
 use std::alloc::Global;
 use std::io;
 use std::io::Read;
@@ -47,6 +49,36 @@ pub(crate) fn convert_pieces<R: Read + Drop>(
     report.set_file(Some(&mut lines));
     let mut course = Course::new(alloc);
     match convert_more_cards(alloc, &mut course, reader, &mut rows, &mut report) {
+        Ok(()) => {
+            drop(report);
+            Ok(Some(Converted {
+                summary: course.summary(),
+                rows: rows.rows,
+                report: lines,
+            }))
+        }
+        Err(fault) if is_memory(&fault) => Err(NoMemory),
+        Err(_) => Ok(None),
+    }
+}
+
+/// Converts the cards in rows of an export. `None` if the reader fails.
+pub(crate) fn convert_exports<R: Read + Drop>(
+    alloc: Global,
+    cards: ExportRows<R>,
+    origin: Origin,
+    starts: &[u64],
+) -> Result<Option<Converted>, NoMemory>
+    ensures { IfOk result (λ done. IfSome done (λ it.
+        (text : List ℕ) × IsOfPieces (Some text) it.summary it.rows)) }
+{
+    written_cards_differ();
+    let mut rows = RowList::new(alloc, origin, starts);
+    let mut lines = Vec::new(alloc);
+    let mut report = Report::new(alloc, io::sink());
+    report.set_file(Some(&mut lines));
+    let mut course = Course::new(alloc);
+    match convert_more_exports(alloc, &mut course, cards, &mut rows, &mut report) {
         Ok(()) => {
             drop(report);
             Ok(Some(Converted {

@@ -10,6 +10,7 @@ use Rattle.vcard_property.specs.declared.change_kind.ChangeKind.TheVariants.{Rew
 use Rattle.vcard_property.specs.declared.change_kind.ChangeKind.TheVariants.{KeptAside, Unreadable}
 use Rattle.vcard_property.specs.declared.change_kind.ChangeKind.TheVariants.{Added, Joined, LeftOut}
 use Rattle.vcard_property.specs.declared.change_kind.ChangeKind.TheVariants.{Labelled, Shortened}
+use Rattle.vcard_property.specs.declared.change_kind.ChangeKind.TheVariants.{Cleaned}
 use Rattle.vcard_import.specs.declared.change.Change.{Change}
 
 -- the head of the logical line has the name of a property with pictures or sounds
@@ -21,6 +22,7 @@ is_media raw = is_encoded_as (codes "PHOTO") raw.octets || is_encoded_as (codes 
 abbrev pub may_go : ChangeKind → RawLine → Bool
 may_go Rewritten raw = false
 may_go Shortened raw = false
+may_go Cleaned raw = false
 may_go Renamed raw = false
 may_go KeptAside raw = false
 may_go Unreadable raw = false
@@ -32,6 +34,7 @@ may_go Labelled raw = false
 abbrev pub says_left_out : ChangeKind → Bool
 says_left_out Rewritten = false
 says_left_out Shortened = false
+says_left_out Cleaned = false
 says_left_out Renamed = false
 says_left_out KeptAside = false
 says_left_out Unreadable = false

@@ -47,7 +47,7 @@ fn escapes_commas(name: &str, version: Version) -> bool {
 }
 
 /// Whether the parameter says that the value is a text.
-fn is_text_param(param: &Param) -> bool {
+pub(crate) fn is_text_param(param: &Param) -> bool {
     param.name.as_str() == "VALUE"
         && param
             .values
