@@ -480,6 +480,25 @@ class ConvertContacts(OrderTest):
                 self.assertEqual([card], [self.lines(row) for row in rows_of(ended.out)])
                 self.assertIn(f"row 2, line {line}: not carried".encode(), ended.err)
 
+    def test_people_above_the_header(self):
+        """A line with the header's cells may be a person; all others are told once, as notes."""
+        person = "not carried: it is above the header"
+        note = "a line above the header isn't carried"
+        for above, lines in [
+            ("Ann,a@x.test\nBob,b@x.test\n", [f"line 1: {person}", f"line 2: {person}"]),
+            ("List of May\n\nAnn,\na,b,c\n",
+             ["line 1: 2 lines above the header aren't carried", f"line 3: {person}"]),
+            ("List of May\r\n", [f"line 1: {note}"]),
+            ("sep=,\n\n,\nList of May\n", [f"line 4: {note}"]),
+            ("\ufeffsep=,\r\n\r\n , \r\n", []),
+        ]:
+            with self.subTest(above):
+                ended = self.convert((above + "Name,Email\nZed,z@x.test\n").encode())
+                lost = sum(person in line for line in lines)
+                self.assertEqual((int(lost > 0), digest(lines, 1, 0, lost)),
+                                 (ended.status, ended.err.decode()))
+                self.assertEqual(["Zed"], self.names(ended))
+
     def test_utf_16_without_a_mark(self):
         octets = (ROOT / "examples/google.csv").read_bytes()
         ended = self.convert(octets)

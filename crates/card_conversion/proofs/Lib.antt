@@ -1,3 +1,4 @@
+mod AboveLemmas
 mod FileLemmas
 mod LineLemmas
 mod MovedLemmas

@@ -1,5 +1,6 @@
 //! Where the header of a file of contacts is, and the delimiter of its cells.
 
+use crate::above::{ABOVE_MAX, AboveLine, lines_above};
 use crate::columns::{read_columns, unread_columns};
 use crate::dates::DateOrder;
 use csv::{ByteRecord, ReaderBuilder};
@@ -13,6 +14,8 @@ pub struct Header<'a> {
     pub start: usize,
     /// The number of line feeds before it.
     pub lines: u64,
+    /// The lines before it, from the first on, and blank ones after them.
+    pub above: [AboveLine; ABOVE_MAX],
     /// The octet between cells.
     pub delimiter: u8,
     /// The number of its cells.
@@ -62,7 +65,7 @@ fn header_at(alloc: Global, octets: &[u8], wished: &str) -> Result<Option<(u8, u
 }
 
 /// The number of octets of the first line.
-fn line_len(octets: &[u8]) -> usize {
+pub(crate) fn line_len(octets: &[u8]) -> usize {
     match octets.iter().position(|octet| *octet == b'\n') {
         Some(place) => place.saturating_add(1),
         None => octets.len(),
@@ -82,9 +85,11 @@ pub fn find_header<'a>(
     for lines in 0..LINES_MAX {
         let rest = head.get(start..).unwrap_or(&[]);
         if let Some((delimiter, width)) = header_at(alloc, rest, wished)? {
+            let before = head.get(..start).unwrap_or(&[]);
             return Ok(Some(Header {
                 start,
                 lines,
+                above: lines_above(alloc, before, delimiter, width)?,
                 delimiter,
                 width,
                 dates: DateOrder::Unknown,

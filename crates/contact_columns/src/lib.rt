@@ -2,6 +2,7 @@
 //! the texts of its cells.
 #![tactic(auto)]
 
+mod above;
 mod cell;
 mod columns;
 mod components;
@@ -23,6 +24,7 @@ mod targets;
 mod wish_faults;
 mod wishes;
 
+pub use above::AboveLine;
 pub use cell::{cell_text, is_void};
 pub use columns::{Column, ContactColumns, read_columns};
 pub use components::component_of;

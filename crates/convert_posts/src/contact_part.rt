@@ -14,7 +14,7 @@ use crate::row_cut::{RowKind, cut_rows, header_len};
 use crate::row_list::Origin;
 use base_types::{NoMemory, Text};
 use contact_columns::{DateOrder, RowText, mapped_columns, read_date_order};
-use contact_csv::{ContactFault, ContactReader, Header};
+use contact_csv::{AboveLine, ContactFault, ContactReader, Header};
 use std::alloc::Global;
 
 /// The header with this order of day and month.
@@ -22,6 +22,7 @@ fn header_with(header: Header<'_>, dates: DateOrder) -> Header<'_> {
     Header {
         start: header.start,
         lines: header.lines,
+        above: header.above,
         delimiter: header.delimiter,
         width: header.width,
         dates,
@@ -59,6 +60,18 @@ fn order_of(dates: Dates) -> DateOrder {
         Dates::Month => DateOrder::MonthFirst,
         Dates::Unknown | Dates::None => DateOrder::Unknown,
     }
+}
+
+/// The lines above the header that are told with a part: all with the first part, which begins with
+/// them, and none with a later one.
+fn lines_told<'a>(asked: &Asked, header: &'a Header<'_>) -> &'a [AboveLine] {
+    if asked.line > 1 { &[] } else { &header.above }
+}
+
+/// Whether lines above the header are told with a part.
+fn tells_lines(asked: &Asked, header: &Header<'_>) -> bool {
+    let lines = lines_told(asked, header);
+    lines.iter().any(|line| *line != AboveLine::Blank)
 }
 
 /// Where a part of rows is in its file. `before` are the octets up to the end of the header. In a
@@ -119,7 +132,8 @@ fn convert_contacts_in(
         return Ok(None);
     };
     let columns = mapped_columns(alloc, contacts.columns())?;
-    match convert_rows(alloc, contacts, origin, starts)? {
+    let above = lines_told(asked, &header);
+    match convert_rows(alloc, above, contacts, origin, starts)? {
         Some(converted) => Ok(Some(Contacts {
             converted,
             columns,
@@ -156,6 +170,30 @@ fn convert_cut(
     }
 }
 
+/// Converts no row, but tells the lines above the header. The first row is too large, so that it is
+/// told with the next part.
+fn header_part(
+    alloc: Global,
+    asked: &Asked,
+    body: &[u8],
+    header: Header<'_>,
+    end: usize,
+) -> Result<Option<Part>, NoMemory>
+    ensures { IfOk result (λ done. IfSome done (IsPart body.now)) }
+{
+    let before = front(body, end);
+    let cut = Cut::after(alloc, count_feeds(before));
+    let frame = Frame {
+        kind: Kind::Contacts,
+        header: end,
+        taken: before.len(),
+        origin: origin_of(asked, before),
+        cards: 0,
+        feeds: cut.feeds,
+    };
+    convert_cut(alloc, asked, body, header, frame, &cut)
+}
+
 /// Converts the front of a body of contacts. `None` if it can't be read.
 pub(crate) fn contacts_part(
     alloc: Global,
@@ -169,6 +207,9 @@ pub(crate) fn contacts_part(
     let from_header = body.get(header.start..).unwrap_or(&[]);
     let end = header.start.saturating_add(header_len(kind, from_header));
     let (taken, cut) = cut_rows(alloc, kind, body, end, asked.more)?;
+    if cut.passed.is_some() && tells_lines(asked, &header) {
+        return header_part(alloc, asked, body, header, end);
+    }
     if asked.more && cut.is_empty() {
         let part = open_part(alloc, asked, Kind::Contacts)?;
         return Ok(Some(part));
