@@ -375,7 +375,7 @@ class ConvertContacts(OrderTest):
         report = digest([f"row 1, line 4: {kept}", f"row 2, line 7: {kept}",
                          "row 3, line 8: not carried: a quote isn't closed in its row",
                          f"row 4, line 9: {kept}"], 3, 3, 1)
-        for end in "\n", "\r\n":
+        for end in "\n", "\r\n", "\r":
             for last in end, "", 3 * end:
                 with self.subTest(end=end, last=last):
                     ended = self.convert((end.join(lines) + last).encode())
@@ -479,6 +479,22 @@ class ConvertContacts(OrderTest):
                 ended = self.convert(octets.encode())
                 self.assertEqual([card], [self.lines(row) for row in rows_of(ended.out)])
                 self.assertIn(f"row 2, line {line}: not carried".encode(), ended.err)
+
+    def test_lines_that_end_with_a_carriage_return_alone(self):
+        """As programs of Mac OS 9 write them: a bad quote takes its own line with it."""
+        for cell in '"5" disk', '"n', 'a"n"':
+            with self.subTest(cell):
+                lines = ["List of May", "Name,Email,Notes", "A,a@x.test," + cell, "B,b@x.test,n",
+                         'C,c@x.test,"one', 'two"', "D,d@x.test,n", ""]
+                ended = self.convert("\r".join(lines).encode())
+                told = ["line 1: a line above the header isn't carried"]
+                names = ["A", "B", "C", "D"]
+                if cell.startswith('"'):
+                    told += ["row 1, line 3: not carried: a quote isn't closed in its row"]
+                    names = names[1:]
+                report = digest(told, len(names), 0, len(told) - 1)
+                self.assertEqual((len(told) - 1, report), (ended.status, ended.err.decode()))
+                self.assertEqual(names, self.names(ended))
 
     def test_people_above_the_header(self):
         """A line with the header's cells may be a person; all others are told once, as notes."""

@@ -480,6 +480,13 @@ class Worst(ConvertTest):
     def test_lines_that_end_with_a_carriage_return_alone(self):
         octets = mixed_cards(3_000).replace(b"\r\n", b"\n").replace(b"\n", b"\r")
         self.compare(octets, "cards.vcf")
+        rows = mixed_rows(HEAD_OCTETS + 4_000)
+        octets = b"List\r" + rows.replace(b"\n", b"\r")
+        for size in range(1, 400, 7):
+            parts = self.compare(octets, "rows.csv", [HEAD_OCTETS + 900, size])
+        lines = octets.split(b"\r")
+        for row in (row for part in parts for row in part["rows"]):
+            self.assertIn(lines[row["line"] - 1].split(b",")[0].decode(), row["vcard"])
 
 
 if __name__ == "__main__":

@@ -61,17 +61,19 @@ fn above_line(
 }
 
 /// What the lines are that are above a header with this delimiter and this number of cells. After
-/// the last of them come blank ones. The only `Err` is out of memory.
+/// the last of them come blank ones. `are_returns` says that lines end with a carriage return
+/// alone. The only `Err` is out of memory.
 pub(crate) fn lines_above(
     alloc: Global,
     octets: &[u8],
+    are_returns: bool,
     delimiter: u8,
     width: usize,
 ) -> Result<[AboveLine; ABOVE_MAX], NoMemory> {
     let mut lines = [AboveLine::Blank; ABOVE_MAX];
     let mut rest = octets;
     for place in 0..ABOVE_MAX {
-        let len = line_len(rest);
+        let len = line_len(rest, are_returns);
         let line = rest.get(..len).unwrap_or(rest);
         lines[place] = above_line(alloc, line, delimiter, width)?;
         rest = rest.get(len..).unwrap_or(&[]);

@@ -3,6 +3,7 @@
 use crate::above::{ABOVE_MAX, AboveLine, lines_above};
 use crate::columns::{read_columns, unread_columns};
 use crate::dates::DateOrder;
+use crate::row_ends::rows_end_with_returns;
 use csv::{ByteRecord, ReaderBuilder};
 use std::alloc::Global;
 use vcard_text::{NoMemory, Text};
@@ -12,7 +13,7 @@ use vcard_text::{NoMemory, Text};
 pub struct Header<'a> {
     /// The number of octets before it: those of a mark, of a line `sep=;` or of notes.
     pub start: usize,
-    /// The number of line feeds before it.
+    /// The number of lines before it.
     pub lines: u64,
     /// The lines before it, from the first on, and blank ones after them.
     pub above: [AboveLine; ABOVE_MAX],
@@ -64,9 +65,11 @@ fn header_at(alloc: Global, octets: &[u8], wished: &str) -> Result<Option<(u8, u
     Ok(found)
 }
 
-/// The number of octets of the first line.
-pub(crate) fn line_len(octets: &[u8]) -> usize {
-    match octets.iter().position(|octet| *octet == b'\n') {
+/// The number of octets of the first line. `are_returns` says that lines end with a carriage return
+/// alone.
+pub(crate) fn line_len(octets: &[u8], are_returns: bool) -> usize {
+    let end = if are_returns { b'\r' } else { b'\n' };
+    match octets.iter().position(|octet| *octet == end) {
         Some(place) => place.saturating_add(1),
         None => octets.len(),
     }
@@ -81,6 +84,7 @@ pub fn find_header<'a>(
     head: &[u8],
     wished: &'a str,
 ) -> Result<Option<Header<'a>>, NoMemory> {
+    let are_returns = rows_end_with_returns(head);
     let mut start: usize = 0;
     for lines in 0..LINES_MAX {
         let rest = head.get(start..).unwrap_or(&[]);
@@ -89,14 +93,14 @@ pub fn find_header<'a>(
             return Ok(Some(Header {
                 start,
                 lines,
-                above: lines_above(alloc, before, delimiter, width)?,
+                above: lines_above(alloc, before, are_returns, delimiter, width)?,
                 delimiter,
                 width,
                 dates: DateOrder::Unknown,
                 wished,
             }));
         }
-        start = start.saturating_add(line_len(rest));
+        start = start.saturating_add(line_len(rest, are_returns));
     }
     Ok(None)
 }

@@ -1,5 +1,6 @@
 //! `RowText`: the text of a file of rows, in which a quote that isn't closed ends with its line.
 
+use crate::row_ends::{end_rows, first_end};
 use crate::row_scan::{RowEnd, row_end};
 use import_text::{fill, joined};
 use std::alloc::Global;
@@ -36,7 +37,8 @@ enum Mode {
 /// row with the cell `BROKEN_ROW`, and reads on with the line after that of the quote. A quote is
 /// one that isn't closed if there are 200 lines or 8,388,608 octets after it, or if its row has
 /// several lines and not as many cells as the header. It gives as many line feeds as the file has,
-/// and at the end of a file that doesn't end with one, the end of its first line.
+/// and at the end of a file that doesn't end with one, the end of its first line. Where the first
+/// line ends with a carriage return alone, each carriage return of the file counts as a line feed.
 #[derive(Drop)]
 pub struct RowText<R> {
     alloc: Global,
@@ -57,6 +59,8 @@ pub struct RowText<R> {
     is_line_ended: bool,
     /// Whether a carriage return is before the first line feed.
     has_returns: Option<bool>,
+    /// Whether lines end with a carriage return alone.
+    are_returns: Option<bool>,
 }
 
 fn no_memory() -> Error {
@@ -121,6 +125,7 @@ impl<R: Read + Drop> RowText<R> {
             mode: Mode::Rows,
             is_line_ended: true,
             has_returns: None,
+            are_returns: None,
         }
     }
 
@@ -147,9 +152,14 @@ impl<R: Read + Drop> RowText<R> {
         let Ok(input) = joined(self.alloc, self.unread(), chunk.as_slice()) else {
             return Err(no_memory());
         };
+        let mut input = input;
         self.is_at_end = chunk.len() < size;
-        if let Some(last) = chunk.as_slice().last() {
-            self.is_line_ended = *last == b'\n';
+        self.are_returns = self.are_returns.or(first_end(input.as_slice()));
+        if self.are_returns == Some(true) {
+            end_rows(input.as_mut_slice());
+        }
+        if !chunk.is_empty() {
+            self.is_line_ended = input.as_slice().ends_with(b"\n");
         }
         self.has_returns = self.has_returns.or(has_returns(input.as_slice()));
         self.input = input;
