@@ -496,6 +496,14 @@ class ConvertContacts(OrderTest):
                 self.assertEqual((len(told) - 1, report), (ended.status, ended.err.decode()))
                 self.assertEqual(names, self.names(ended))
 
+    def test_line_ends_in_a_cell(self):
+        """Each of CR LF, CR and LF ends a line."""
+        note = "one\r\ntwo\rthree\nfour\r\r\nfive\n\rsix"
+        ended = self.convert(f'Name,Email,Notes\r\nAnn,a@x.test,"{note}"\r\n'.encode())
+        [card] = rows_of(ended.out)
+        self.assertIn(r"NOTE:one\ntwo\nthree\nfour\n\nfive\n\nsix", self.lines(card))
+        self.assertEqual((0, numbers(1, 0, 0, 0)), (ended.status, ended.err.decode()))
+
     def test_people_above_the_header(self):
         """A line with the header's cells may be a person; all others are told once, as notes."""
         person = "not carried: it is above the header"
