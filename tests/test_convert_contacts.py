@@ -496,6 +496,24 @@ class ConvertContacts(OrderTest):
                 self.assertEqual((len(told) - 1, report), (ended.status, ended.err.decode()))
                 self.assertEqual(names, self.names(ended))
 
+    def test_the_header_again(self):
+        """As where files were joined; a byte order mark before a row is none of its cells."""
+        again = "not carried: it is the header again"
+        for rows, names, lines in [
+            (["A,a@x.test,", "Name,Email,Notes", "B,b@x.test,"], ["A", "B"],
+             [f"row 2, line 3: {again}"]),
+            (["\ufeffNOTES, name ,EMAIL", "B,b@x.test,"], ["B"], [f"row 1, line 2: {again}"]),
+            (["\ufeffA,a@x.test,", '\ufeff"B",b@x.test,', "\ufeff", "C,c@x.test,"],
+             ["A", "B", "C"], []),
+            (["Name,,", "Email,e@x.test,Name"], ["Name", "Email"], []),
+        ]:
+            with self.subTest(rows):
+                octets = "".join(row + "\n" for row in ["Name,Email,Notes", *rows]).encode()
+                ended = self.convert(octets)
+                report = digest(lines, len(names), 0, len(lines))
+                self.assertEqual((len(lines), report), (ended.status, ended.err.decode()))
+                self.assertEqual(names, self.names(ended))
+
     def test_line_ends_in_a_cell(self):
         """Each of CR LF, CR and LF ends a line."""
         note = "one\r\ntwo\rthree\nfour\r\r\nfive\n\rsix"

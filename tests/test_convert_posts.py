@@ -459,6 +459,10 @@ class Worst(ConvertTest):
         self.assertEqual(("b@x.test", 3), (
             re.search("EMAIL[^:]*:(.*)\r", rows[0]["vcard"])[1], rows[0]["line"]))
 
+    def test_files_that_were_joined(self):
+        octets = b"\xef\xbb\xbf" + mixed_rows(3_000)
+        self.compare(octets + octets + b"\xef\xbb\xbf\n" + octets, "rows.csv")
+
     def test_lines_above_the_header_are_told_once(self):
         """They are told with the first part, also if its first row is too large."""
         above = b"List of May\nAnn,a@x.test,,,\n"

@@ -1,7 +1,7 @@
 //! `RowText`: the text of a file of rows, in which a quote that isn't closed ends with its line.
 
 use crate::row_ends::{end_rows, first_end};
-use crate::row_scan::{RowEnd, row_end};
+use crate::row_scan::{RowEnd, mark_len, row_end};
 use import_text::{fill, joined};
 use std::alloc::Global;
 use std::io;
@@ -32,7 +32,7 @@ enum Mode {
     DropsLine,
 }
 
-/// Reads the rows of a file, and gives them on as they are. For a row in which a quote isn't
+/// Reads the rows of a file, and gives them on as they are, without a byte order mark. For a row in which a quote isn't
 /// closed, or is followed by other text than a quote, a delimiter or the end of the line, it gives a
 /// row with the cell `BROKEN_ROW`, and reads on with the line after that of the quote. A quote is
 /// one that isn't closed if there are 200 lines or 8,388,608 octets after it, or if its row has
@@ -180,6 +180,7 @@ impl<R: Read + Drop> RowText<R> {
     /// Finds what is given next of the octets that are unread. Returns false if it depends on what
     /// follows them.
     fn find_row(&mut self) -> io::Result<bool> {
+        self.start = self.start.saturating_add(mark_len(self.unread()));
         let len = self.unread().len();
         let is_last = self.is_at_end || len >= ROW_OCTETS_MAX;
         match row_end(self.delimiter, self.width, self.unread()) {

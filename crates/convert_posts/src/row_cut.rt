@@ -99,8 +99,9 @@ impl RowKind {
     }
 }
 
-/// Whether the row has no cells. It isn't counted.
+/// Whether the row has no cells, perhaps after a byte order mark. It isn't counted.
 fn is_blank(row: &[u8]) -> bool {
+    let row = row.strip_prefix(b"\xEF\xBB\xBF").unwrap_or(row);
     row.iter().all(|octet| *octet == b'\r' || *octet == b'\n')
 }
 

@@ -188,6 +188,9 @@ fn list_refused<E: Write, T: Write>(
 /// Why a row of another number of cells isn't carried.
 const OTHER_WIDTH: &str = "the row has more or fewer cells than the header";
 
+/// Why a row isn't carried whose cells are the names of the columns.
+const HEADER_AGAIN: &str = "it is the header again";
+
 /// Why a row isn't carried whose card would be another one under the UID of an earlier card.
 const TAKEN: &str = "an earlier file has another card under the same UID";
 
@@ -238,6 +241,7 @@ fn report_fault<E: Write, T: Write>(
             list_refused(alloc, place, OTHER_WIDTH, report)
         }
         RowFault::Width => report_refused(alloc, place, OTHER_WIDTH, report),
+        RowFault::Header => report_refused(alloc, place, HEADER_AGAIN, report),
         RowFault::Card(fault) => {
             let why = format!(in alloc; "{fault}")?;
             report_refused(alloc, place, why.as_str(), report)
