@@ -315,16 +315,18 @@ class ConvertContacts(OrderTest):
         header = "First Name,Last Name,E-mail Address,Notes\n"
         rows = [f"A{number},Lee,a{number}@x.test,plain\n" for number in range(1, 1001)]
         wanted = [f"A{number} Lee" for number in range(1, 1001) if number != 11]
-        line = "row 11, line 12: not carried: a quote isn't closed in its row"
-        report = digest([line], 999, 0, 1).encode()
-        for title, row, other in [
-            ("to the end of the file", 'A11,Lee,a11@x.test,"plain\n', "plain"),
-            ("up to a quote of a later row", 'A11,Lee,a11@x.test,"plain\n', '"in quotes"'),
-            ("in the first cell", '"A11,Lee,a11@x.test,plain\n', "plain"),
-            ("text after a quote", 'A11,Lee,a11@x.test,"pl"ain\n', "plain"),
-            ("so that cells are missing", 'A11,"Lee,a11@x.test,plain\n', 'with a quote",'),
+        long = "a cell has more than 200 lines, or a quote isn't closed"
+        short = "a quote isn't closed in its row"
+        for title, row, other, why in [
+            ("to the end of the file", 'A11,Lee,a11@x.test,"plain\n', "plain", long),
+            ("up to a quote of a later row", 'A11,Lee,a11@x.test,"plain\n', '"in quotes"', short),
+            ("in the first cell", '"A11,Lee,a11@x.test,plain\n', "plain", long),
+            ("text after a quote", 'A11,Lee,a11@x.test,"pl"ain\n', "plain", short),
+            ("so that cells are missing", 'A11,"Lee,a11@x.test,plain\n', 'with a quote",', short),
         ]:
             with self.subTest(title):
+                line = f"row 11, line 12: not carried: {why}"
+                report = digest([line], 999, 0, 1).encode()
                 rows[10] = row
                 rows[50] = rows[50].replace("plain", other)
                 if other.endswith(","):
@@ -349,8 +351,8 @@ class ConvertContacts(OrderTest):
                 else:
                     self.assertEqual(["Bob"], self.names(ended))
                     self.assertEqual(1, ended.status)
-                    lost = "row 1, line 2: not carried: a quote isn't closed in its row, and "
-                    lost += f"{count} lines are lost with it\n"
+                    lost = "row 1, line 2: not carried: a cell has more than 200 lines, or a quote "
+                    lost += f"isn't closed, and {count} lines are lost with it\n"
                     self.assertTrue(ended.err.decode().startswith(lost), ended)
                     self.assertEqual(3, ended.err.count(b"\n"))
 

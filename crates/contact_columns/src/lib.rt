@@ -37,7 +37,7 @@ pub use mapping::mapped_columns;
 pub use meaning::{Part, component_count};
 pub use row_ends::rows_end_with_returns;
 pub use row_scan::{RowEnd, row_end};
-pub use row_text::{BROKEN_ROW, RowText};
+pub use row_text::{BROKEN_ROW, LONG_ROW, RowText};
 pub use slots::{Slot, SlotColumn};
 pub use suggestion::suggested_columns;
 pub use wish_faults::wish_fault;

@@ -41,6 +41,9 @@ pub enum RowEnd {
     At(usize),
     /// A quote isn't closed, or not before text; the line in which it stands has this many octets.
     Broken(usize),
+    /// A cell in quotes has more than 200 lines, or its quote isn't closed. The line in which the
+    /// quote stands has this many octets.
+    Long(usize),
     /// A quote isn't closed so far. If it stays so, the line in which it stands has this many octets.
     Open(usize),
     /// A quote isn't closed, or not before text, and no line ends after it.
@@ -125,8 +128,10 @@ impl RowScan {
 
     /// The end of a row in which a quote isn't closed: that of the line in which the quote stands.
     fn broken_end(&self, octets: &[u8], from: usize) -> RowEnd {
-        if let Some(end) = self.cell_line {
-            return RowEnd::Broken(end);
+        match self.cell_line {
+            Some(end) if self.lines >= CELL_LINES_MAX => return RowEnd::Long(end),
+            Some(end) => return RowEnd::Broken(end),
+            None => {}
         }
         let rest = octets.get(from..).unwrap_or(&[]);
         match rest.iter().position(|octet| *octet == b'\n') {

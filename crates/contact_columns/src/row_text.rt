@@ -21,6 +21,10 @@ const READS_MAX: u32 = 1_000_000;
 /// end of the line. A NUL is in no cell that is carried.
 pub const BROKEN_ROW: &[u8] = b"\0\"";
 
+/// The cell that stands for a row with a cell of more than 200 lines, or with a quote that isn't
+/// closed. It begins as `BROKEN_ROW`.
+pub const LONG_ROW: &[u8] = b"\0\"L";
+
 /// What is done with the octets that come next.
 #[derive(Clone, Copy, PartialEq, Eq)]
 enum Mode {
@@ -32,13 +36,14 @@ enum Mode {
     DropsLine,
 }
 
-/// Reads the rows of a file, and gives them on as they are, without a byte order mark. For a row in which a quote isn't
-/// closed, or is followed by other text than a quote, a delimiter or the end of the line, it gives a
-/// row with the cell `BROKEN_ROW`, and reads on with the line after that of the quote. A quote is
-/// one that isn't closed if there are 200 lines or 8,388,608 octets after it, or if its row has
-/// several lines and not as many cells as the header. It gives as many line feeds as the file has,
-/// and at the end of a file that doesn't end with one, the end of its first line. Where the first
-/// line ends with a carriage return alone, each carriage return of the file counts as a line feed.
+/// Reads the rows of a file, and gives them on as they are, without a byte order mark. For a row in
+/// which a quote isn't closed, or is followed by other text than a quote, a delimiter or the end of
+/// the line, it gives a row with the cell `BROKEN_ROW`, and reads on with the line after that of
+/// the quote. A quote is one that isn't closed if there are 200 lines or 8,388,608 octets after it,
+/// or if its row has several lines and not as many cells as the header. With 200 lines, the cell is
+/// `LONG_ROW`. It gives as many line feeds as the file has, and at the end of a file that doesn't
+/// end with one, the end of its first line. Where the first line ends with a carriage return alone,
+/// each carriage return of the file counts as a line feed.
 #[derive(Drop)]
 pub struct RowText<R> {
     alloc: Global,
@@ -78,11 +83,11 @@ fn read_chunk<R: Read>(alloc: Global, reader: &mut R, size: usize) -> io::Result
     Ok(chunk)
 }
 
-/// The row that stands for octets of a broken one, with as many line feeds, and at least one if it
-/// ends its line.
-fn broken_row(alloc: Global, octets: &[u8]) -> io::Result<Vec<u8>> {
+/// The row with this cell that stands for octets of a broken one, with as many line feeds, and at
+/// least one if it ends its line.
+fn broken_row(alloc: Global, cell: &[u8], octets: &[u8]) -> io::Result<Vec<u8>> {
     let mut made = Vec::new(alloc);
-    if made.extend_from_slice(BROKEN_ROW).is_err() {
+    if made.extend_from_slice(cell).is_err() {
         return Err(no_memory());
     }
     for octet in octets {
@@ -167,10 +172,10 @@ impl<R: Read + Drop> RowText<R> {
         Ok(())
     }
 
-    /// Passes octets, and gives a broken row in their place.
-    fn break_row(&mut self, len: usize) -> io::Result<()> {
+    /// Passes octets, and gives a broken row with this cell in their place.
+    fn break_row(&mut self, cell: &[u8], len: usize) -> io::Result<()> {
         let front = self.unread().get(..len).unwrap_or(&[]);
-        let made = broken_row(self.alloc, front)?;
+        let made = broken_row(self.alloc, cell, front)?;
         self.made = made;
         self.given = 0;
         self.start = self.start.saturating_add(len);
@@ -185,11 +190,12 @@ impl<R: Read + Drop> RowText<R> {
         let is_last = self.is_at_end || len >= ROW_OCTETS_MAX;
         match row_end(self.delimiter, self.width, self.unread()) {
             RowEnd::At(end) => self.ready = end,
-            RowEnd::Broken(end) => self.break_row(end)?,
+            RowEnd::Broken(end) => self.break_row(BROKEN_ROW, end)?,
+            RowEnd::Long(end) => self.break_row(LONG_ROW, end)?,
             _ if !is_last => return Ok(false),
-            RowEnd::Open(end) => self.break_row(end)?,
+            RowEnd::Open(end) => self.break_row(BROKEN_ROW, end)?,
             RowEnd::Endless => {
-                self.break_row(len)?;
+                self.break_row(BROKEN_ROW, len)?;
                 self.mode = Mode::DropsLine;
             }
             RowEnd::Unended => {

@@ -47,7 +47,7 @@ fn contact_row_len(delimiter: u8, width: usize, text: &[u8], is_last: bool) -> O
             len,
             is_broken: false,
         }),
-        RowEnd::Broken(len) => Some(RowLen {
+        RowEnd::Broken(len) | RowEnd::Long(len) => Some(RowLen {
             len,
             is_broken: true,
         }),
