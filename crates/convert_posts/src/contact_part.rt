@@ -16,9 +16,7 @@ use crate::row_cut::{RowKind, cut_rows, header_len};
 use crate::row_list::Origin;
 use base_types::{NoMemory, Text};
 use card_conversion::LineEnds;
-use contact_columns::{
-    DateOrder, RowText, mapped_columns, read_date_order, rows_end_with_returns,
-};
+use contact_columns::{DateOrder, RowText, mapped_columns, read_date_order, rows_end_with_returns};
 use contact_csv::{AboveLine, ContactFault, ContactReader, Header};
 use std::alloc::Global;
 
@@ -185,12 +183,7 @@ struct RowsCut {
 }
 
 /// The front of a text of contacts whose lines end with line feeds.
-fn cut_text(
-    alloc: Global,
-    text: &[u8],
-    header: Header<'_>,
-    more: bool,
-) -> Result<RowsCut, NoMemory>
+fn cut_text(alloc: Global, text: &[u8], header: Header<'_>, more: bool) -> Result<RowsCut, NoMemory>
     ensures { IfOk result (λ rows. rows.taken ≤ length text.now) }
 {
     let kind = RowKind::Contacts(header.delimiter, header.width);
@@ -206,12 +199,7 @@ fn cut_text(
 }
 
 /// The front of a body of contacts.
-fn cut_body(
-    alloc: Global,
-    body: &[u8],
-    header: Header<'_>,
-    more: bool,
-) -> Result<RowsCut, NoMemory>
+fn cut_body(alloc: Global, body: &[u8], header: Header<'_>, more: bool) -> Result<RowsCut, NoMemory>
     ensures { IfOk result (λ rows. rows.taken ≤ length body.now) }
 {
     if !rows_end_with_returns(front(body, HEAD_OCTETS)) {
@@ -250,7 +238,14 @@ fn header_part(
         cards: 0,
         feeds: rows.feeds,
     };
-    convert_cut(alloc, asked, body, header, frame, &Cut::after(alloc, rows.feeds))
+    convert_cut(
+        alloc,
+        asked,
+        body,
+        header,
+        frame,
+        &Cut::after(alloc, rows.feeds),
+    )
 }
 
 /// Converts the front of a body of contacts. `None` if it can't be read.

@@ -30,7 +30,10 @@ pub(crate) fn count_above(summary: &mut Summary, lines: &[AboveLine])
 
 /// How many of the lines are notes.
 fn count_notes(lines: &[AboveLine]) -> usize {
-    lines.iter().filter(|line| **line == AboveLine::Note).count()
+    lines
+        .iter()
+        .filter(|line| **line == AboveLine::Note)
+        .count()
 }
 
 /// Reports notes, of which the first is this line.
