@@ -278,7 +278,10 @@ class ConvertFiles(OrderTest):
                 self.write(a_csv=(head + rows).encode())
                 ended = self.convert("a.csv")
                 place = 2 if rows.startswith("B") else 1
-                told = f"row {place}, line {place + 1}: not carried: a quote isn't closed in its row"
+                why = "a quote isn't closed in its row"
+                if lines > 200:
+                    why = "a cell has more than 200 lines, or a quote isn't closed"
+                told = f"row {place}, line {place + 1}: not carried: {why}"
                 told += f", and {lines} lines are lost with it\n" if lines > 1 else "\n"
                 self.assertTrue(ended.err.decode().startswith(told), ended.err)
                 # The last row of the last file is that of its first person again.

@@ -480,9 +480,38 @@ class Worst(ConvertTest):
         self.assertEqual(("b@x.test", 3), (
             re.search("EMAIL[^:]*:(.*)\r", rows[0]["vcard"])[1], rows[0]["line"]))
 
+    def test_files_that_were_joined(self):
+        octets = b"\xef\xbb\xbf" + mixed_rows(3_000)
+        self.compare(octets + octets + b"\xef\xbb\xbf\n" + octets, "rows.csv")
+
+    def test_lines_above_the_header_are_told_once(self):
+        """They are told with the first part, also if its first row is too large."""
+        above = b"List of May\nAnn,a@x.test,,,\n"
+        rows = b"".join(b"Bob %d,b@x.test,,,\n" % number for number in range(1_000))
+        parts = self.compare(above + GOOGLE.encode() + rows, "rows.csv", [PIECE] * 10)
+        lost = [part["not_carried"] for part in parts]
+        self.assertLess(1, len(lost))
+        self.assertEqual([1] + [0] * (len(lost) - 1), lost)
+        large = b"Cy,c@x.test," + b"x" * 600_000 + b",,\n"
+        octets = above + GOOGLE.encode() + large + b"Bob,b@x.test,,,\n"
+        rows, report, numbers, _ = self.in_parts(octets, [])
+        self.assertEqual([
+            {"card": 0, "line": 1, "text": "a line above the header isn't carried"},
+            {"card": 0, "line": 2, "text": "not carried: it is above the header"},
+            {"card": 1, "line": 4, "text": "not carried: it has more than 524,288 octets"},
+        ], report)
+        self.assertEqual(([5], [1, 0, 2]), ([row["line"] for row in rows], numbers))
+
     def test_lines_that_end_with_a_carriage_return_alone(self):
         octets = mixed_cards(3_000).replace(b"\r\n", b"\n").replace(b"\n", b"\r")
         self.compare(octets, "cards.vcf")
+        rows = mixed_rows(HEAD_OCTETS + 4_000)
+        octets = b"List\r" + rows.replace(b"\n", b"\r")
+        for size in range(1, 400, 7):
+            parts = self.compare(octets, "rows.csv", [HEAD_OCTETS + 900, size])
+        lines = octets.split(b"\r")
+        for row in (row for part in parts for row in part["rows"]):
+            self.assertIn(lines[row["line"] - 1].split(b",")[0].decode(), row["vcard"])
 
 
 if __name__ == "__main__":

@@ -1,3 +1,4 @@
+mod AboveLemmas
 mod ExportLemmas
 mod FileLemmas
 mod LineLemmas

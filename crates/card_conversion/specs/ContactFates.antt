@@ -54,6 +54,7 @@ with_fault summary row.Empty = summary
 with_fault summary row.Broken = with_refused summary
 with_fault summary (row.Nul place) = with_refused summary
 with_fault summary row.Width = with_refused summary
+with_fault summary row.Header = with_refused summary
 with_fault summary (row.Card fault) = with_refused summary
 
 -- the numbers after a row with this fate: one that an earlier row repeats is no loss

@@ -29,7 +29,9 @@ mod rows_sink;
 mod run;
 
 pub use card_sink::{CardSink, Delivery, SinkFault};
-pub use contacts::{convert_contacts, convert_contacts_to_rows, convert_more_contacts};
+pub use contacts::{
+    convert_contacts, convert_contacts_to_rows, convert_contacts_under, convert_more_contacts,
+};
 pub use course::Course;
 pub use delivery::{Outcome, deliver};
 pub use exports::convert_more_exports;

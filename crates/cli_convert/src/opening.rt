@@ -174,6 +174,7 @@ fn header_with(header: Header<'_>, dates: DateOrder) -> Header<'_> {
     Header {
         start: header.start,
         lines: header.lines,
+        above: header.above,
         delimiter: header.delimiter,
         width: header.width,
         dates,

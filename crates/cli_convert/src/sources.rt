@@ -5,7 +5,7 @@ ghost use Rattle.contact_csv.specs.Contacts.{IsReady};
 
 use crate::content::Content;
 use card_conversion::{
-    CardSink, ConversionFault, Course, Report, convert_more_contacts, convert_more_exports,
+    CardSink, ConversionFault, Course, Report, convert_contacts_under, convert_more_exports,
     convert_more_file,
 };
 use contact_columns::RowText;
@@ -49,7 +49,7 @@ pub(crate) fn convert_to<R: Read + Drop, O: CardSink, E: Write, T: Write>(
         }
         Content::Contacts(header) => {
             let contacts = read_contacts(alloc, reader, header)?;
-            convert_more_contacts(alloc, course, contacts, sink, report)
+            convert_contacts_under(alloc, course, &header.above, contacts, sink, report)
         }
         Content::Cards | Content::OtherRows => {
             convert_more_file(alloc, course, reader, sink, report)

@@ -15,7 +15,7 @@ use Rattle.vcard_import.specs.declared.change.Change.{Change}
 use Rattle.vcard_import.specs.declared.conversion.Conversion.{Conversion}
 use Rattle.contact_csv.specs.Carrying.{IsCarried, column_at}
 use Rattle.contact_columns.specs.Cells.{cell_text}
-use Rattle.contact_csv.specs.RowFaults.{has_nul, has_width, is_broken, is_empty_row}
+use Rattle.contact_csv.specs.RowFaults.{has_names, has_nul, has_width, is_broken, is_empty_row}
 use Rattle.contact_csv.specs.RowUids.{IsRowUid}
 use Rattle.contact_csv.specs.declared.row_fault.RowFault.{RowFault}
 use Rattle.contact_csv.specs.declared.row_fault.RowFault.TheVariants as row
@@ -45,6 +45,7 @@ IsFaulty columns fields row.Empty = is_empty_row fields ≡ true
 IsFaulty columns fields row.Broken = is_broken fields ≡ true
 IsFaulty columns fields (row.Nul place) = has_nul (get_or fields place []) ≡ true
 IsFaulty columns fields row.Width = has_width columns fields ≡ false
+IsFaulty columns fields row.Header = has_names columns fields ≡ true
 IsFaulty columns fields (row.Card fault) = IsRefused columns fields fault
 
 -- What the row becomes: its contact, or the fault for which it isn't converted.

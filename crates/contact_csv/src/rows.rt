@@ -9,7 +9,7 @@ use crate::conversion::{convert_row, row_cells};
 use crate::fault::ContactFault;
 use crate::owners::Owners;
 use crate::row_fault::{RowFault, fault_of_row, is_broken};
-use contact_columns::{ContactColumns, Header, read_columns, row_field};
+use contact_columns::{ContactColumns, Header, LONG_ROW, read_columns, row_field};
 use csv::{ByteRecord, Error, ErrorKind, Reader, ReaderBuilder};
 use std::alloc::Global;
 use std::io::Read;
@@ -127,6 +127,11 @@ impl<R: Read + Drop> ContactReader<R> {
     pub fn line(&self) -> u64 {
         let lines = count_feeds(&self.row).saturating_add(1);
         self.end_line().saturating_sub(lines)
+    }
+
+    /// Whether the last row is broken and may have a cell of more than 200 lines (see `RowText`).
+    pub fn may_be_long(&self) -> bool {
+        row_field(&self.row, 0).starts_with(LONG_ROW)
     }
 
     /// Reads the next row, and returns whether there is one.

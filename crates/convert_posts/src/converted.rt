@@ -8,10 +8,10 @@ use crate::row_list::{Origin, RowList};
 use base_types::{Items, NoMemory};
 use card_conversion::laws::written_cards_differ;
 use card_conversion::{
-    ConversionFault, Course, Report, Summary, convert_more_cards, convert_more_contacts,
+    ConversionFault, Course, Report, Summary, convert_contacts_under, convert_more_cards,
     convert_more_exports,
 };
-use contact_csv::ContactReader;
+use contact_csv::{AboveLine, ContactReader};
 use csv_cards::ExportRows;
 use std::alloc::Global;
 use std::io;
@@ -92,9 +92,11 @@ pub(crate) fn convert_exports<R: Read + Drop>(
     }
 }
 
-/// Converts contacts. `None` if the reader fails.
+/// Converts contacts, which come after a header that is under these lines. `None` if the reader
+/// fails.
 pub(crate) fn convert_rows<R: Read + Drop>(
     alloc: Global,
+    above: &[AboveLine],
     reader: ContactReader<R>,
     origin: Origin,
     starts: &[u64],
@@ -108,7 +110,7 @@ pub(crate) fn convert_rows<R: Read + Drop>(
     let mut report = Report::new(alloc, io::sink());
     report.set_file(Some(&mut lines));
     let mut course = Course::new(alloc);
-    match convert_more_contacts(alloc, &mut course, reader, &mut rows, &mut report) {
+    match convert_contacts_under(alloc, &mut course, above, reader, &mut rows, &mut report) {
         Ok(()) => {
             drop(report);
             Ok(Some(Converted {

@@ -67,7 +67,7 @@ fn convert_cut(
         kind: Kind::Rows,
         header,
         taken,
-        origin: origin_of(asked, front(body, header)),
+        origin: origin_of(asked, count_feeds(front(body, header))),
         cards: starts.len() as u64,
         feeds: count_feeds(text),
     };

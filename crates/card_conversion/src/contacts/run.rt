@@ -51,6 +51,7 @@ pub fn convert_more_contacts<R: Read + Drop, O: CardSink, E: Write, T: Write>(
             row: row_number,
             line: contacts.line(),
             end: contacts.end_line(),
+            may_be_long: contacts.may_be_long(),
         };
         let columns = contacts.columns().columns.as_slice();
         report_row(alloc, place, columns, &fate, &mut broken, report)?;
