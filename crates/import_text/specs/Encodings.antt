@@ -1,8 +1,9 @@
--- The text of octets whose encoding isn't known. This project's own, but for the characters of
--- Windows-1252 (the registry of character sets of IANA).
-use Rattle.std.specs.Prelude.{ℕ, ◌-◌, Bool, false, ◌&&◌, ◌||◌, List, [], ◌∷◌, map, take, get_or}
+-- The text of octets whose encoding isn't known (Windows-1252: the registry of character sets of
+-- IANA).
+use Rattle.std.specs.Prelude.{ℕ, ◌-◌, ◌==◌, Bool, ◌&&◌, not, List, [], ◌∷◌, map, get_or}
 use Rattle.std.specs.Prelude.{nat_le, nat_lt, if◌then◌else◌}
-use Rattle.std.specs.Str.{is_utf8, encode_utf8_all}
+use Rattle.std.specs.List.{count_by}
+use Rattle.std.specs.Str.{is_utf8, chars, encode_utf8_all}
 use Rattle.std.specs.Str.Lossy.{utf8_lossy}
 
 -- the characters of the octets 128 to 159; U+FFFD stands for an octet without a character
@@ -23,24 +24,25 @@ char_in first chars octet = if nat_lt octet first then octet else get_or chars (
 unfoldable pub windows_char : ℕ → ℕ
 windows_char octet = char_in 128 windows_chars octet
 
--- the octets begin with a character of UTF-8 that has two octets or more
-abbrev pub begins_wide : List ℕ → Bool
-begins_wide [] = false
-begins_wide (octet ∷ octets) = nat_le 128 octet
-    && (is_utf8 (take 2 (octet ∷ octets)) || is_utf8 (take 3 (octet ∷ octets))
-    || is_utf8 (take 4 (octet ∷ octets)))
+-- U+FFFD, which stands for what is no character
+abbrev pub is_lost : ℕ → Bool
+is_lost c = c == 65533
 
--- such a character is somewhere in the octets
-unfoldable pub has_wide : List ℕ → Bool
-has_wide [] = false
-has_wide (octet ∷ octets) = begins_wide (octet ∷ octets) || has_wide octets
+-- a character that isn't ASCII, and isn't lost
+abbrev pub is_wide : ℕ → Bool
+is_wide c = nat_le 128 c && not (is_lost c)
 
--- The text of octets that aren't UTF-8. With a character of UTF-8 of two octets or more they are
--- UTF-8 that was damaged, and U+FFFD stands for each sequence that is no character. Any others are
+-- more characters of the text aren't ASCII than are lost
+abbrev pub is_mostly_read : List ℕ → Bool
+is_mostly_read text = nat_lt (count_by is_lost (chars text)) (count_by is_wide (chars text))
+
+-- The text of octets that aren't UTF-8. They are UTF-8 that was damaged if more characters of it
+-- aren't ASCII than are lost: U+FFFD stands for each sequence that is no character. Any others are
 -- Windows-1252.
 abbrev pub damaged_text : List ℕ → List ℕ
 damaged_text octets =
-    if has_wide octets then utf8_lossy octets else encode_utf8_all (map windows_char octets)
+    if is_mostly_read (utf8_lossy octets) then utf8_lossy octets
+    else encode_utf8_all (map windows_char octets)
 
 -- octets that are UTF-8 are the text
 unfoldable pub text_of : List ℕ → List ℕ

@@ -1,8 +1,8 @@
 //! Octets as text: UTF-8 where they are, if only in part, and otherwise Windows-1252, which extends
 //! Latin-1 (ISO/IEC 8859-1).
-ghost use Rattle.std.specs.Prelude.{◌≡◌, IfOk, map, string_bytes, take};
-ghost use Rattle.std.specs.Str.{encode_utf8_all, is_utf8};
-ghost use Rattle.import_text.specs.Encodings.{begins_wide, damaged_text, has_wide};
+ghost use Rattle.std.specs.Prelude.{◌≡◌, IfOk, map, string_bytes};
+ghost use Rattle.std.specs.Str.{encode_utf8_all};
+ghost use Rattle.import_text.specs.Encodings.{damaged_text, is_lost, is_mostly_read, is_wide};
 ghost use Rattle.import_text.specs.Encodings.{windows_char, text_of};
 
 use crate::charsets::{Charset, read_charset};
@@ -31,68 +31,43 @@ pub fn read_windows1252(alloc: Global, octets: &[u8]) -> Result<String, NoMemory
     read_charset(alloc, charset, octets)
 }
 
-fn is_utf8(octets: &[u8]) -> bool
-    ensures { result ≡ is_utf8 octets.now }
+/// Whether the character is U+FFFD, which stands for what is no character.
+fn is_lost(c: char) -> bool
+    ensures { result ≡ is_lost c }
 {
-    match str::from_utf8(octets) {
-        Ok(_) => true,
-        Err(_) => false,
-    }
+    c == '\u{FFFD}'
 }
 
-/// The first octets, at most `count`.
-#[tactic(auto, using(std::proofs::lemmas::List::take_all))]
-fn front(octets: &[u8], count: usize) -> &[u8]
-    ensures { result.now ≡ take count octets.now }
+/// Whether the character isn't ASCII, and isn't lost.
+fn is_wide(c: char) -> bool
+    ensures { result ≡ is_wide c }
 {
-    if octets.len() <= count {
-        return octets;
-    }
-    &octets[..count]
+    c >= '\u{80}' && !is_lost(c)
 }
 
-/// Whether the octets begin with a character of UTF-8 that has two octets or more.
-fn begins_wide(octets: &[u8]) -> bool
-    ensures { result ≡ begins_wide octets.now }
+/// Whether more characters of the text aren't ASCII than are lost.
+fn is_mostly_read(text: &str) -> bool
+    ensures { result ≡ is_mostly_read text.now }
 {
-    match octets.first() {
-        Some(octet) => {
-            *octet >= 128
-                && (is_utf8(front(octets, 2))
-                    || is_utf8(front(octets, 3))
-                    || is_utf8(front(octets, 4)))
-        }
-        None => false,
-    }
-}
-
-/// Whether such a character is somewhere in the octets.
-fn has_wide(octets: &[u8]) -> bool
-    ensures { result ≡ has_wide octets.now }
-{
-    let mut rest = octets;
-    while let Some((_, tail)) = rest.split_first() {
-        if begins_wide(rest) {
-            return true;
-        }
-        rest = tail;
-    }
-    false
+    let lost = text.chars().filter(|c| is_lost(*c)).count();
+    let wide = text.chars().filter(|c| is_wide(*c)).count();
+    lost < wide
 }
 
 /// The text of octets that aren't UTF-8: that of UTF-8 which was damaged, or of Windows-1252.
 fn read_damaged(alloc: Global, octets: &[u8]) -> Result<String, NoMemory>
     ensures { IfOk result (λ text. string_bytes text ≡ damaged_text octets.now) }
 {
-    if has_wide(octets) {
-        return Ok(String::from_utf8_lossy(alloc, octets)?);
+    let text = String::from_utf8_lossy(alloc, octets)?;
+    if is_mostly_read(text.as_str()) {
+        return Ok(text);
     }
     read_windows1252(alloc, octets)
 }
 
-/// The text of the octets: themselves if they are UTF-8. If they aren't, but have a character of
-/// UTF-8 of two octets or more, U+FFFD stands for what is no character. Any others are read as
-/// Windows-1252. The only `Err` is out of memory.
+/// The text of the octets: themselves if they are UTF-8. If they aren't, U+FFFD stands for what is no
+/// character of it; but if these are as many as its characters that aren't ASCII, the octets are read
+/// as Windows-1252. The only `Err` is out of memory.
 pub fn read_text(alloc: Global, octets: &[u8]) -> Result<String, NoMemory>
     ensures { IfOk result (λ text. string_bytes text ≡ text_of octets.now) }
 {
