@@ -1,7 +1,7 @@
 //! Octets as text: UTF-8 where they are, if only in part, and otherwise Windows-1252, which extends
 //! Latin-1 (ISO/IEC 8859-1).
-ghost use Rattle.std.specs.Prelude.{◌≡◌, IfOk, map, string_bytes};
-ghost use Rattle.std.specs.Str.{encode_utf8_all};
+ghost use Rattle.std.specs.Prelude.{◌≡◌, IfOk, count_by, map, string_bytes};
+ghost use Rattle.std.specs.Str.{chars, encode_utf8_all};
 ghost use Rattle.import_text.specs.Encodings.{damaged_text, is_lost, is_mostly_read, is_wide};
 ghost use Rattle.import_text.specs.Encodings.{windows_char, text_of};
 
@@ -45,13 +45,27 @@ fn is_wide(c: char) -> bool
     c >= '\u{80}' && !is_lost(c)
 }
 
+/// How many characters of the text are lost.
+#[tactic(auto, using(std::proofs::lemmas::Str::chars_from_encodes))]
+fn count_lost(text: &str) -> usize
+    ensures { result ≡ count_by is_lost (chars text.now) }
+{
+    text.chars().filter(|c| is_lost(*c)).count()
+}
+
+/// How many characters of the text aren't ASCII, and aren't lost.
+#[tactic(auto, using(std::proofs::lemmas::Str::chars_from_encodes))]
+fn count_wide(text: &str) -> usize
+    ensures { result ≡ count_by is_wide (chars text.now) }
+{
+    text.chars().filter(|c| is_wide(*c)).count()
+}
+
 /// Whether more characters of the text aren't ASCII than are lost.
 fn is_mostly_read(text: &str) -> bool
     ensures { result ≡ is_mostly_read text.now }
 {
-    let lost = text.chars().filter(|c| is_lost(*c)).count();
-    let wide = text.chars().filter(|c| is_wide(*c)).count();
-    lost < wide
+    count_lost(text) < count_wide(text)
 }
 
 /// The text of octets that aren't UTF-8: that of UTF-8 which was damaged, or of Windows-1252.
