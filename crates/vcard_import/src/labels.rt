@@ -5,8 +5,12 @@ ghost use Rattle.import_text.specs.RawLines.{is_encoded_as};
 use crate::card_lines::depths;
 use import_text::{RawLine, is_encoded_as};
 use std::alloc::Global;
-use vcard_property::{AddressLine, AddressTypes, Version, read_address};
+use vcard_property::{AddressLine, AddressTypes, OtherParts, Version, read_address};
 use vcard_text::{NoMemory, Text};
+
+/// The most labels with a group or with parameters that get an address. Each is looked for among
+/// all addresses.
+const OWN_LABELS_MAX: usize = 100;
 
 /// What the labels of a card make of a logical line.
 #[derive(Drop)]
@@ -54,20 +58,46 @@ fn are_same(a: AddressTypes, b: AddressTypes) -> bool {
     a.home == b.home && a.work == b.work
 }
 
-/// The places of the addresses of these types.
+/// Whether the labels make nothing of a logical line so far.
+fn is_free(labels: &[Labelling], index: usize) -> bool {
+    matches!(labels.get(index), Some(Labelling::Other))
+}
+
+/// The places of the addresses of these types that have no label so far.
 fn addresses_of(
     alloc: Global,
+    labels: &[Labelling],
     found: &[Found],
     types: AddressTypes,
 ) -> Result<Vec<usize>, NoMemory> {
     let mut places = Vec::new(alloc);
     for item in found {
         match &item.line {
-            AddressLine::Address(its) if are_same(*its, types) => places.push(item.index)?,
+            AddressLine::Address(its, _) if are_same(*its, types) && is_free(labels, item.index) =>
+                { places.push(item.index)? }
             _ => {}
         }
     }
     Ok(places)
+}
+
+/// The place of the first address of these types, and with these parts, that has no label so far.
+fn address_with(
+    labels: &[Labelling],
+    found: &[Found],
+    types: AddressTypes,
+    parts: &OtherParts,
+) -> Option<usize> {
+    for item in found {
+        match &item.line {
+            AddressLine::Address(its, others)
+                if are_same(*its, types) && others == parts && is_free(labels, item.index) => {
+                return Some(item.index);
+            }
+            _ => {}
+        }
+    }
+    None
 }
 
 /// Sets what becomes of a logical line.
@@ -77,20 +107,43 @@ fn set(labels: &mut Vec<Labelling>, index: usize, labelling: Labelling) {
     }
 }
 
-/// Gives the addresses of these types their labels: the first one the first, and so on.
+/// Gives the labels with a group or with parameters to addresses that have the same.
+fn join_own_labels(labels: &mut Vec<Labelling>, found: &[Found]) -> Result<(), NoMemory> {
+    let mut count: usize = 0;
+    for item in found {
+        let AddressLine::Label(types, parts, text) = &item.line else {
+            continue;
+        };
+        if parts.are_none() {
+            continue;
+        }
+        count = count.saturating_add(1);
+        if count > OWN_LABELS_MAX {
+            break;
+        }
+        if let Some(address) = address_with(labels.as_slice(), found, *types, parts) {
+            set(labels, address, Labelling::Gets(text.try_copy()?));
+            set(labels, item.index, Labelling::Joined);
+        }
+    }
+    Ok(())
+}
+
+/// Gives the other addresses of these types the labels without a group and parameters: the first
+/// one the first, and so on.
 fn join_labels(
     alloc: Global,
     labels: &mut Vec<Labelling>,
     found: &[Found],
     types: AddressTypes,
 ) -> Result<(), NoMemory> {
-    let places = addresses_of(alloc, found, types)?;
+    let places = addresses_of(alloc, labels.as_slice(), found, types)?;
     let mut rest = places.as_slice();
     for item in found {
-        let AddressLine::Label(its, text) = &item.line else {
+        let AddressLine::Label(its, parts, text) = &item.line else {
             continue;
         };
-        if !are_same(*its, types) {
+        if !are_same(*its, types) || !parts.are_none() {
             continue;
         }
         let Some((address, others)) = rest.split_first() else {
@@ -104,7 +157,8 @@ fn join_labels(
 }
 
 /// What the labels of a card make of each of its logical lines. A label belongs to the next address
-/// of the same types that has none, unless it has more than its types and its text. Empty if there are no labels, or in vCard 4.0, which has none.
+/// of the same types that has none; one with a group or with parameters only to an address that has
+/// the same. Empty if there are no labels, or in vCard 4.0, which has none.
 pub(crate) fn labels_of(
     alloc: Global,
     raws: &[RawLine],
@@ -118,6 +172,7 @@ pub(crate) fn labels_of(
     for _raw in raws {
         labels.push(Labelling::Other)?;
     }
+    join_own_labels(&mut labels, found.as_slice())?;
     for (home, work) in [(true, false), (false, true), (true, true), (false, false)] {
         join_labels(
             alloc,

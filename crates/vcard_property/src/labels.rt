@@ -12,7 +12,7 @@ use crate::same_line::is_named;
 use crate::version::Version;
 use import_text::{is_encoded_as, read_text};
 use std::alloc::Global;
-use vcard_text::{Line, NoMemory, Param, Part, Text};
+use vcard_text::{Items, Line, NoMemory, Param, Part, Text};
 
 /// The types of an address, as far as a label has to have the same.
 #[derive(Clone, Copy)]
@@ -23,13 +23,28 @@ pub struct AddressTypes {
     pub work: bool,
 }
 
+/// What an address or a label has beside its types and its text.
+#[derive(Drop, PartialEq, Eq)]
+pub struct OtherParts {
+    group: Option<Text>,
+    /// The parameters but TYPE.
+    params: Items<Param>,
+}
+
+impl OtherParts {
+    /// Whether there is nothing.
+    pub fn are_none(&self) -> bool {
+        self.group.is_none() && self.params.is_empty()
+    }
+}
+
 /// A line that gives an address or its label.
 #[derive(Drop)]
 pub enum AddressLine {
     /// An address of these types.
-    Address(AddressTypes),
+    Address(AddressTypes, OtherParts),
     /// The label of an address of these types, as the value of a parameter.
-    Label(AddressTypes, Text),
+    Label(AddressTypes, OtherParts, Text),
 }
 
 /// Whether the property has the type.
@@ -55,40 +70,42 @@ fn is_label(param: &Param) -> bool
     param.name.as_str().eq_ignore_ascii_case("LABEL")
 }
 
-/// Whether a label has what its address can't take with it: a group, or parameters but TYPE.
-fn stands_alone(label: &Property) -> bool {
-    label.group.is_some()
-        || label
-            .params
-            .as_slice()
-            .iter()
-            .any(|param| !is_text_param(param))
+/// What a property has beside its types and its text. A VALUE that says that it is a text is left
+/// out.
+fn other_parts(alloc: Global, property: Property) -> Result<OtherParts, NoMemory> {
+    let mut params = Items::new(alloc);
+    for param in property.params.as_slice() {
+        if !is_text_param(param) {
+            params.push(param.try_copy()?)?;
+        }
+    }
+    Ok(OtherParts {
+        group: property.group,
+        params,
+    })
 }
 
-/// The address or the label that a property is. `None` if it is neither, has its label, or is a
-/// label that stands alone.
+/// The address or the label that a property is. `None` if it is neither, or has its label.
 fn address_line(
     alloc: Global,
-    property: &Property,
+    property: Property,
     version: Version,
 ) -> Result<Option<AddressLine>, NoMemory> {
-    let types = types_of(property);
+    let types = types_of(&property);
     if property.name.as_str() == "LABEL" {
-        if stands_alone(property) {
-            return Ok(None);
-        }
-        let text = label_text(alloc, property, version)?;
-        return Ok(Some(AddressLine::Label(types, Text::new(text))));
+        let text = label_text(alloc, &property, version)?;
+        let parts = other_parts(alloc, property)?;
+        return Ok(Some(AddressLine::Label(types, parts, Text::new(text))));
     }
     if property.name.as_str() != "ADR" || property.params.as_slice().iter().any(is_label) {
         return Ok(None);
     }
-    Ok(Some(AddressLine::Address(types)))
+    let parts = other_parts(alloc, property)?;
+    Ok(Some(AddressLine::Address(types, parts)))
 }
 
 /// The address or the label that a line of a card of that version gives. `None` if it gives
-/// neither, or both, or a label with a group or with parameters but TYPE, which no address takes.
-/// The only `Err` is out of memory.
+/// neither, or both. The only `Err` is out of memory.
 pub fn read_address(
     alloc: Global,
     line: &[u8],
@@ -102,7 +119,7 @@ pub fn read_address(
         return Ok(None);
     };
     decode(alloc, &mut property, line)?;
-    address_line(alloc, &property, version)
+    address_line(alloc, property, version)
 }
 
 /// Whether the line has the parameter LABEL.

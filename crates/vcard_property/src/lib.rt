@@ -26,7 +26,7 @@ pub use change_kind::ChangeKind;
 pub use conversion::convert_line;
 pub use decoding::unknown_charset;
 pub use kept_texts::{text_line, text_value};
-pub use labels::{AddressLine, AddressTypes, read_address, with_label};
+pub use labels::{AddressLine, AddressTypes, OtherParts, read_address, with_label};
 pub use proper_line::{extension_line, is_proper_line, plain_line, with_upper_name};
 pub use same_line::{are_line, has_encoding, read_uid_line};
 pub use version::Version;
