@@ -1,10 +1,13 @@
 //! `CharsetReader`: reads a file in a named encoding as UTF-8.
 
 use base_types::NoMemory;
-use import_text::{Charset, charset_named, joined, read_charset};
+use import_text::{Charset, begins_with_word, charset_named, joined, read_charset};
 use std::alloc::Global;
 use std::io;
 use std::io::{Error, ErrorKind, Read};
+
+/// The number of octets that show whether a file is of UTF-16.
+const MARK_OCTETS: usize = 4;
 
 /// The number of octets that are read at once.
 const CHUNK_OCTETS: usize = 4096;
@@ -62,7 +65,7 @@ pub(crate) fn encoding_named(
 
 /// The mark of the order that the first octets show, if these are UTF-16 of ASCII; else empty.
 fn shown_mark(front: &[u8]) -> &'static [u8] {
-    match front {
+    match front.get(..MARK_OCTETS).unwrap_or(front) {
         [a, 0, b, 0] if *a != 0 && *b != 0 => b"\xFF\xFE",
         [0, a, 0, b] if *a != 0 && *b != 0 => b"\xFE\xFF",
         _ => b"",
@@ -72,6 +75,12 @@ fn shown_mark(front: &[u8]) -> &'static [u8] {
 /// Whether the octets begin with a byte order mark of UTF-16.
 fn has_mark(front: &[u8]) -> bool {
     front.starts_with(b"\xFF\xFE") || front.starts_with(b"\xFE\xFF")
+}
+
+/// Whether the octets begin with a card.
+fn begins_card(front: &[u8]) -> bool {
+    let text = front.strip_prefix(b"\xEF\xBB\xBF").unwrap_or(front);
+    begins_with_word(text.trim_ascii_start(), b"BEGIN:VCARD")
 }
 
 impl Encoding {
@@ -92,11 +101,12 @@ impl Encoding {
     }
 
     /// How a file is decoded that begins with these octets. One with a byte order mark of UTF-16 is
-    /// decoded later.
+    /// decoded later; so is one of cards in UTF-8, line by line, since a line may have another
+    /// character set, or be folded within a character.
     pub(crate) fn decoding(self, front: &[u8]) -> Decoding {
         match self {
             Encoding::Octets(charset) => Decoding::Octets(charset),
-            Encoding::Utf8 if !has_mark(front) => Decoding::Utf8,
+            Encoding::Utf8 if !has_mark(front) && !begins_card(front) => Decoding::Utf8,
             _ => Decoding::Plain,
         }
     }

@@ -15,8 +15,8 @@ use std::fs;
 use std::fs::Files;
 use std::io::{Chain, ErrorKind, Read};
 
-/// The number of octets from which the encoding of a file is known.
-const FRONT_OCTETS: usize = 4;
+/// The number of octets from which it is known how a file is decoded.
+const FRONT_OCTETS: usize = 64;
 
 /// The first octets of what is read from the path.
 fn head_of<R: Read>(
