@@ -21,10 +21,15 @@ fn window_of(octets: &[u8], count: usize) -> &[u8]
     &octets[..count]
 }
 
-/// The place of the first BEGIN:VCARD after a carriage return.
-fn begin_after_return(octets: &[u8]) -> Option<usize> {
+/// Whether a card may begin after the octet: a carriage return, or a NUL as damaged files have.
+fn may_end_line(octet: u8) -> bool {
+    octet == b'\r' || octet == 0
+}
+
+/// The place of the first BEGIN:VCARD after a carriage return or a NUL.
+fn begin_inside(octets: &[u8]) -> Option<usize> {
     for place in 1..octets.len() {
-        if octets[place - 1] == b'\r' && begins_with_word(&octets[place..], b"BEGIN:VCARD") {
+        if may_end_line(octets[place - 1]) && begins_with_word(&octets[place..], b"BEGIN:VCARD") {
             return Some(place);
         }
     }
@@ -40,7 +45,7 @@ fn cut_place(octets: &[u8]) -> Option<usize> {
     for _window in 0..WINDOWS_MAX {
         let window = window_of(octets, size);
         let (piece, after) = split_piece(window);
-        if let Some(place) = begin_after_return(piece) {
+        if let Some(place) = begin_inside(piece) {
             return Some(place);
         }
         if !after.is_empty() || window.len() == octets.len() {
@@ -52,8 +57,8 @@ fn cut_place(octets: &[u8]) -> Option<usize> {
 }
 
 /// The first piece of the octets, and the octets after it. If the piece is no card, it also ends
-/// where a BEGIN:VCARD follows a carriage return: so a card whose lines end with a carriage return
-/// alone, in a file of other line ends, is a piece by itself, and takes no other card with it.
+/// where a BEGIN:VCARD follows a carriage return or a NUL. So a card whose lines end with a carriage
+/// return alone, in a file of other line ends, is a piece by itself, and takes no other card with it.
 pub fn split_text(octets: &[u8]) -> (&[u8], &[u8])
     // The piece and the octets after it are the octets.
     ensures { octets.now ≡ result.0.now ++ result.1.now }
