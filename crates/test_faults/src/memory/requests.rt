@@ -1,6 +1,5 @@
 //! HTTP requests in one piece.
 
-use crate::feeding::feed;
 use base_types::NoMemory;
 use book_http::Service;
 use book_service::Reply;
@@ -8,6 +7,7 @@ use http_replies::reply_bytes;
 use http_requests::Session;
 use std::alloc::Global;
 use sync_core::{BookStore, Fault};
+use test_support::feed;
 use test_support::oom::{Harness, Stop, Stores, have_same_books, limits};
 
 /// The requests of the piece: a book is created, a card is put into it, a device asks for its first

@@ -1,5 +1,5 @@
 //! A device that asks a store that returns a fault from each call, and one that asks a store which
-//! is behind. (`test_faults` tests the replies of such a store over HTTP.)
+//! is behind. (`test_support` tests the replies of such a store over HTTP.)
 use super::new_store;
 use book_service::{Event, Reply};
 use std::alloc::Global;

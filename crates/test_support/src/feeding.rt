@@ -6,7 +6,7 @@ use std::alloc::Global;
 
 /// Feeds the octets to the session, and returns the replies. (What is proved of `feed` is long. Who
 /// calls this function learns nothing of it, and so is proved in less time.)
-pub(crate) fn feed<H: Handler>(
+pub fn feed<H: Handler>(
     alloc: Global,
     session: &mut Session,
     handler: &mut H,
