@@ -1,8 +1,8 @@
 //! Converts all contacts of a file that may have lines above its header.
 ghost use Rattle.std.specs.Prelude.{ℕ, List, OnOk};
-ghost use Rattle.contact_csv.specs.Contacts.{IsReady, columns_of};
-ghost use Rattle.card_conversion.specs.ContactFates.{RowEntry};
-ghost use Rattle.card_conversion.specs.Courses.{ConvertsPart, Knows, of_rows};
+ghost use Rattle.contact_csv.specs.Contacts.{IsReady};
+ghost use Rattle.card_conversion.specs.AboveLines.{ConvertsUnder};
+ghost use Rattle.card_conversion.specs.Courses.{Knows};
 
 use crate::contacts::above::{count_above, report_above};
 use crate::contacts::run::convert_more_contacts;
@@ -25,7 +25,7 @@ pub fn convert_contacts_under<R: Read + Drop, O: CardSink, E: Write, T: Write>(
     report: &mut Report<E, T>,
 ) -> Result<(), ConversionFault>
     ensures { OnOk result (IsReady reader → (uids : List (List ℕ)) → Knows course.old uids
-        → (entries : List RowEntry) × ConvertsPart O.writes (of_rows (columns_of reader) entries)
+        → ConvertsUnder O.writes R.remaining above.now reader
         uids course.old course.new sink.old sink.new) }
 {
     count_above(&mut course.ledger.summary, above);
