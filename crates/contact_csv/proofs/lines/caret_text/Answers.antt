@@ -2,7 +2,7 @@ use Rattle.std.proofs.Common.{◌≡◌, ◌++◌, flat_map, chars, ap, sym, ◌
 use Rattle.std.specs.Str.{encode_utf8_all}
 use Rattle.std.proofs.lemmas.Str.{Chars-Drains, encodes-chars}
 use Rattle.contact_csv.specs.Carrying.{caret_char}
-use Rattle.contact_columns.proofs.TextLemmas.{one_more_written}
+use Rattle.contact_csv.proofs.TextLemmas.{one_more_written}
 use Rattle.contact_csv.proofs.lines.caret_text.Goals as goal
 
 pub loop-c-preserved : goal.loop-c-preserved
