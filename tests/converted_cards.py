@@ -134,6 +134,19 @@ CARDS = [
          "line 8: LABEL joined to its ADR"],
     ),
     Converted(
+        "a label with a group or with parameters belongs to the address that has the same",
+        card("3.0", "UID:a", "FN:Ann", "item1.ADR;TYPE=home:;;h1;;;;",
+             "ADR;TYPE=home;LANGUAGE=de:;;h2;;;;", "ADR;TYPE=home:;;h3;;;;",
+             "LABEL;TYPE=home:H3", "LABEL;TYPE=home;LANGUAGE=de:H2", "item1.LABEL;TYPE=home:H1",
+             "item1.LABEL;TYPE=work:W"),
+        ["UID:a", "FN:Ann", "item1.ADR;TYPE=home;LABEL=\"H1\":;;h1;;;;",
+         "ADR;TYPE=home;LANGUAGE=de;LABEL=\"H2\":;;h2;;;;",
+         "ADR;TYPE=home;LABEL=\"H3\":;;h3;;;;", "item1.ADR;TYPE=work;LABEL=\"W\":;;;;;;"],
+        ["line 5: ADR given a LABEL", "line 6: ADR given a LABEL", "line 7: ADR given a LABEL",
+         "line 8: LABEL joined to its ADR", "line 9: LABEL joined to its ADR",
+         "line 10: LABEL joined to its ADR", "line 11: LABEL renamed"],
+    ),
+    Converted(
         "control characters, which no value may have but the tab",
         card("3.0", "UID:a", "FN:A\x01B", "TEL:1\x00\t2",
              "NOTE;ENCODING=QUOTED-PRINTABLE:a=0Ab=7F"),
@@ -149,13 +162,15 @@ CARDS = [
          "line 1: FN has U+FFFD in place of characters that couldn't be read"],
     ),
     Converted(
-        "UTF-8 with an octet too few or too many is UTF-8 still, and what is no character U+FFFD; "
-        "a line without a character of UTF-8 is Windows-1252",
-        card("3.0", "UID:a", "FN:Jürgen Müll\udcc3", "NOTE:\udce2\udc82 Straße \udcfc\udc96",
-             "ORG:\udcd6sterle\udcfc \udc84\udcdf"),
-        ["UID:a", "FN:Jürgen Müll\ufffd", "NOTE:\ufffd Straße \ufffd\ufffd",
-         "ORG:Österleü „ß"],
+        "a line most of which is UTF-8 is UTF-8, and what is no character of it U+FFFD; any other "
+        "line is Windows-1252",
+        card("3.0", "UID:a", "FN:Jürgen Müll\udcc3",
+             "NOTE:\udce2\udc82 Größe Straße Mühle \udcfc\udc96",
+             "ORG:\udcd6sterle\udcfc \udc84Spa\udcdf\udc93", "TITLE:ü\udcfc"),
+        ["UID:a", "FN:Jürgen Müll\ufffd", "NOTE:\ufffd Größe Straße Mühle \ufffd\ufffd",
+         "ORG:Österleü „Spaß“", "TITLE:Ã¼ü"],
         ["line 4: FN rewritten", "line 5: NOTE rewritten", "line 6: ORG rewritten",
+         "line 7: TITLE rewritten",
          "line 1: FN has U+FFFD in place of characters that couldn't be read"],
     ),
     Converted(

@@ -238,7 +238,9 @@ class ConvertFiles(OrderTest):
         head = b"First Name,E-mail Address,Notes\n"
         told = "row 1, line 2: NOTE has U+FFFD in place of characters that couldn't be read\n"
         for octets, options, note, is_told in [
-            ("Müll".encode() + b"\xc3", [], "Müll\ufffd", True),
+            ("Müllfä".encode() + b"\xc3", [], "Müllfä\ufffd", True),
+            ("Müll".encode() + b"\xe4", [], "MÃ¼llä", False),
+            (b"\x84Spa\xdf\x93 und gr\xfc\xdfte", [], "„Spaß“ und grüßte", False),
             ("Müll".encode() + b"\xc3 1", ["--charset", "UTF-8"], "Müll\ufffd 1", True),
             (b"M\xfcll", [], "Müll", False),
             (b"M\xfcll", ["--charset", "UTF-8"], "M\ufffdll", True),
@@ -250,6 +252,17 @@ class ConvertFiles(OrderTest):
                 ended = self.convert("a.csv", *options)
                 self.assertIn(f"NOTE:{note}\r\n", ended.out.decode())
                 self.assertEqual(is_told, ended.err.decode().startswith(told), ended)
+
+    def test_cards_that_are_said_to_be_utf8(self):
+        """A line may be folded within a character, and its own CHARSET goes first."""
+        for front in b"", b"\xef\xbb\xbf", b"\n":
+            self.write(a_vcf=front + b"BEGIN:VCARD\nVERSION:3.0\nFN:J\xc3\n \xbcrgen\n"
+                       b"NOTE;CHARSET=ISO-8859-1:M\xfcll\nORG:O\xc5\x82aw\nEND:VCARD\n")
+            with self.subTest(front):
+                ended = self.convert("a.vcf", "--charset", "UTF-8")
+                for line in "FN:Jürgen", "NOTE:Müll", "ORG:Oław":
+                    self.assertIn(f"\r\n{line}\r\n", ended.out.decode())
+                self.assertEqual(self.convert("a.vcf")[:3], ended[:3])
 
     def test_characters_between_two_reads(self):
         """A file is read in parts, and a character may be in two of them."""
