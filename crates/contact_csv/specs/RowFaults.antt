@@ -24,10 +24,13 @@ is_empty_row fields = list_all is_void (map cell_text fields)
 abbrev pub has_width : List Column → List (List ℕ) → Bool
 has_width columns fields = length fields == length columns
 
--- The cell has no value, or is the name of a column but for white space and the case of letters.
+-- a column has this name, but for the case of letters
+abbrev pub has_column : List Column → List ℕ → Bool
+has_column columns name = list_any (λ column. str_eq_ignore_ascii_case column.name name) columns
+
+-- the cell has no value, or is the name of a column between white space
 abbrev pub is_name_of : List Column → List ℕ → Bool
-is_name_of columns cell = is_void cell
-    || list_any (λ column. str_eq_ignore_ascii_case column.name (trim cell)) columns
+is_name_of columns cell = is_void cell || has_column columns (trim cell)
 
 -- each cell that has a value is the name of a column
 abbrev pub has_names : List Column → List (List ℕ) → Bool

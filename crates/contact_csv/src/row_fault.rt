@@ -4,8 +4,8 @@ ghost use Rattle.std.specs.List.{list_all};
 ghost use Rattle.csv.specs.Records.{fields_of};
 ghost use Rattle.contact_columns.specs.Cells.{cell_text, is_void};
 ghost use Rattle.contact_csv.specs.Contacts.{IsFaulty};
-ghost use Rattle.contact_csv.specs.RowFaults.{has_names, has_nul, has_width, is_broken};
-ghost use Rattle.contact_csv.specs.RowFaults.{is_name_of};
+ghost use Rattle.contact_csv.specs.RowFaults.{has_column, has_names, has_nul, has_width};
+ghost use Rattle.contact_csv.specs.RowFaults.{is_broken, is_name_of};
 
 use contact_columns::{Column, is_void, row_field};
 use csv::ByteRecord;
@@ -67,15 +67,20 @@ fn has_width(columns: &[Column], row: &ByteRecord) -> bool
     row.len() == columns.len()
 }
 
+/// Whether a column has this name, in any case.
+fn has_column(columns: &[Column], name: &str) -> bool
+    ensures { result ≡ has_column columns.now name.now }
+{
+    columns
+        .iter()
+        .any(|column| column.name.as_str().eq_ignore_ascii_case(name))
+}
+
 /// Whether the cell has no value, or is the name of a column.
 fn is_name_of(columns: &[Column], cell: &str) -> bool
     ensures { result ≡ is_name_of columns.now cell.now }
 {
-    let name = cell.trim();
-    is_void(cell)
-        || columns
-            .iter()
-            .any(|column| column.name.as_str().eq_ignore_ascii_case(name))
+    is_void(cell) || has_column(columns, cell.trim())
 }
 
 /// Whether each cell that has a value is the name of a column.
