@@ -484,6 +484,17 @@ class Worst(ConvertTest):
         octets = b"\xef\xbb\xbf" + mixed_rows(3_000)
         self.compare(octets + octets + b"\xef\xbb\xbf\n" + octets, "rows.csv")
 
+    def test_a_blank_line_above_the_header(self):
+        """As in LinkedIn's file of connections. Each later part begins with the header, too."""
+        rows = b"".join(b"Bob %d,b@x.test,,,\n" % number for number in range(1_000))
+        for above in b"Notes:\n\n", b"\n", b"\r\n\r\n", b'Notes:\n"one, two"\n\n\n':
+            with self.subTest(above):
+                octets = above + GOOGLE.encode() + rows
+                parts = self.compare(octets, "rows.csv", [PIECE] * 10)
+                self.assertLess(2, len(parts))
+                self.assertEqual({len(above + GOOGLE.encode())},
+                                 {part["header"] for part in parts})
+
     def test_lines_above_the_header_are_told_once(self):
         """They are told with the first part, also if its first row is too large."""
         above = b"List of May\nAnn,a@x.test,,,\n"

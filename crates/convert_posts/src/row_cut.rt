@@ -130,13 +130,28 @@ fn front_row(kind: RowKind, text: &[u8], more: bool) -> (Front, u64) {
     }
 }
 
-/// The number of octets of the header, which is the first row of the text.
-pub(crate) fn header_len(kind: RowKind, text: &[u8]) -> usize {
+/// The number of octets of the first row of the text, with its end; 0 if it doesn't end.
+fn first_row_len(kind: RowKind, text: &[u8]) -> usize {
     let (found, _) = front_row(kind, text, false);
     match found {
         Front::Whole(count) | Front::Long(count) => count,
         Front::Open => 0,
     }
+}
+
+/// The number of octets up to the end of the header, which is the first row of the text that isn't
+/// blank.
+pub(crate) fn header_len(kind: RowKind, text: &[u8]) -> usize {
+    let mut len: usize = 0;
+    for _row in 0..text.len() {
+        let rest = text.get(len..).unwrap_or(&[]);
+        let count = first_row_len(kind, rest);
+        len = len.saturating_add(count);
+        if count == 0 || !is_blank(front(rest, count)) {
+            break;
+        }
+    }
+    len
 }
 
 /// Takes the row with which the text begins, if there is room for it, and returns the number of
