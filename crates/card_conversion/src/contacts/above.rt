@@ -28,19 +28,19 @@ pub(crate) fn count_above(summary: &mut Summary, lines: &[AboveLine])
     }
 }
 
-/// How many of the lines are notes.
-fn count_notes(lines: &[AboveLine]) -> usize {
+/// How many of the lines are notes. (A number of this type is formatted by less proof.)
+fn count_notes(lines: &[AboveLine]) -> u64 {
     lines
         .iter()
         .filter(|line| **line == AboveLine::Note)
-        .count()
+        .count() as u64
 }
 
 /// Reports notes, of which the first is this line.
 fn report_notes<E: Write, T: Write>(
     alloc: Global,
     number: u64,
-    count: usize,
+    count: u64,
     report: &mut Report<E, T>,
 ) -> Result<(), ConversionFault> {
     let text = if count > 1 {

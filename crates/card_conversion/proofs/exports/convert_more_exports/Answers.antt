@@ -7,4 +7,4 @@ loop-row-init g c = λ uids known. begun g.O.CardSink.writes uids c.args.course.
 
 pub loop-row-preserved : goal.loop-row-preserved
 loop-row-preserved g c = λ uids known.
-    joined g.O.CardSink.writes uids c.args.course.now c.loop-row.course c.convert_row.new.course c.args.sink.now c.loop-row.sink c.convert_row.new.sink (c.loop-row.invariant uids known) c.in_ok-convert_row.ensures
+    joined g.O.CardSink.writes uids c.args.course.now c.loop-row.course c.convert_row.new.course c.args.sink.now c.loop-row.sink c.convert_row.new.sink (c.loop-row.invariant uids known) c.in_ok-convert_row-in-Ok-Some.ensures
