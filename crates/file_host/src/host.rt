@@ -11,7 +11,7 @@ use base_types::{Items, Text};
 use book_store::{CopyFault, FileBooks, SqlStore};
 use cli_host::Host;
 use cli_orders::{Address, FoundCause, Restored, Stop};
-use http_fronts::Front;
+use convert_posts::Converter;
 use request_log::RequestLog;
 use site_files::{Site, read_site};
 use socket_endpoint::SocketEndpoint;
@@ -26,21 +26,20 @@ use store_migration::migrate;
 use store_schema::OpenFault;
 use sync_core::Limits;
 
-/// The host that the program runs on, with its files and ports, and the front of its server.
+/// The host that the program runs on, with its files and ports.
 #[derive(Clone, Copy)]
-pub struct FileHost<F> {
+pub struct FileHost {
     rt: HostRuntime,
-    front: F,
 }
 
-impl<F> FileHost<F> {
-    /// The host of the program that has this handle of the system. Its server has this front.
-    pub fn new(rt: HostRuntime, front: F) -> FileHost<F> {
-        FileHost { rt, front }
+impl FileHost {
+    /// The host of the program that has this handle of the system.
+    pub fn new(rt: HostRuntime) -> FileHost {
+        FileHost { rt }
     }
 }
 
-impl<F> RequestLog for FileHost<F> {
+impl RequestLog for FileHost {
     fn print(&self, line: &[u8]) {
         RequestLog::print(&self.rt, line)
     }
@@ -61,15 +60,15 @@ fn limits() -> Limits
     Limits::standard()
 }
 
-impl<F: Front + Copy> Host<FileBooks, SocketEndpoint, TcpListener> for FileHost<F> {
+impl Host<FileBooks, SocketEndpoint, TcpListener> for FileHost {
     ghost use Rattle.file_host.specs.FileHosts.{IsAnyCall};
 
-    type Front = F;
+    type Front = Converter;
 
     ghost calls = { IsAnyCall };
 
-    fn front(&self) -> F {
-        self.front
+    fn front(&self) -> Converter {
+        Converter
     }
 
     fn create(&mut self, file: &str) -> Result<FileBooks, OpenFault>
