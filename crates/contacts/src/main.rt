@@ -50,6 +50,7 @@ fn conversion_of(order: &Result<Order, LineFault>) -> Option<ConvertOptions<'_>>
                 columns,
                 charset,
                 report,
+                photos,
             },
         ) => Some(ConvertOptions {
             file: file.as_str(),
@@ -61,6 +62,7 @@ fn conversion_of(order: &Result<Order, LineFault>) -> Option<ConvertOptions<'_>>
             columns: given(columns).unwrap_or(""),
             charset: given(charset),
             report: given(report),
+            photos: given(photos),
         }),
         _ => None,
     }
