@@ -39,7 +39,8 @@ def form_of(words):
 def weight(line):
     if ": not carried: " in line:
         return 3
-    lost = (" left out", "U+FFFD", "lost the fraction of a second", "the card has no END")
+    lost = (" left out", "U+FFFD", "lost the fraction of a second", "lost control characters",
+            "the card has no END")
     return 2 if any(words in line for words in lost) else 1
 
 

@@ -104,7 +104,7 @@ class Convert(OrderTest):
 
     def test_cards(self):
         for title, lines, wanted, changes in CARDS:
-            for end in "\r\n", "\n", "\r":
+            for end in "\r\n", "\n", "\r", "\r\r\n":
                 with self.subTest(title, end=end):
                     octets = octets_of(text(lines, end))
                     ended = self.convert(octets)
@@ -120,6 +120,31 @@ class Convert(OrderTest):
                     self.assertEqual((0, due), (ended.status, ended.err))
                     self.assertEqual(ended, self.convert(octets), "not the same again")
                     self.imported(ended.out, 1)
+
+    def test_mixed_line_ends(self):
+        """A card whose lines end with CR alone, in a file of LF, isn't carried, and takes no other
+        card with it."""
+        ends = [("a", "\n"), ("b", "\r"), ("c", "\r"), ("d", "\r\n"), ("e", "\r"), ("f", "\n")]
+        octets = "".join(text(card("4.0", f"UID:{uid}", "FN:A"), end) for uid, end in ends).encode()
+        ended = self.convert(octets)
+        lines = [f"line {line}: not carried: no card begins here" for line in (6, 6, 11)]
+        self.assertEqual((1, report(lines, 3, 0, 3)), (ended.status, ended.err))
+        self.assertEqual(["a", "d", "f"], [row[0] for row in rows_of(ended.out)])
+
+    def test_a_carriage_return_in_a_value(self):
+        ended = self.convert(text(card("3.0", "UID:a", "FN:Ann", "TEL:1\r2")).encode())
+        due = report(["card 1, line 5: TEL lost control characters"], 1, 1, 0)
+        self.assertEqual((0, due), (ended.status, ended.err))
+        made = card("4.0", "UID:a", "FN:Ann", "TEL:12")
+        self.assertEqual(made, unfolded(rows_of(ended.out)[0][1].encode()))
+
+    def test_many_cards_with_other_line_ends(self):
+        """Each is a piece by itself, and the time doesn't grow with the square of their number."""
+        one = text(card("4.0", "UID:a", "FN:A"), "\n")
+        many = text(card("4.0", "UID:b", "FN:A"), "\r") * 50_000
+        ended = self.convert((one + many).encode())
+        self.assertTrue(ended.err.endswith(b"1 cards written, 0 changed, 0 with parts kept aside, "
+                                           b"50000 not carried\n"), ended.err[-100:])
 
     def test_a_report_in_a_file(self):
         """It has a line for each change, and then what is printed at the end."""

@@ -246,16 +246,19 @@ class ConvertContacts(OrderTest):
             self.assertEqual(card.encode(), (self.folder / "to" / (uid + ".vcf")).read_bytes())
 
     def test_rows_of_an_export(self):
-        """Each row is its second field, or its first one if that is empty, and a line feed."""
+        """Each row is its second field, or its first one if that is empty, and a line feed. Any
+        other field is told, unless it is the UID of the card."""
         first = 'BEGIN:VCARD\r\nFN:A\r\nNOTE:"x"\r\nEND:VCARD\r\n'
         more = [f"BEGIN:VCARD\nFN:{name}\nEND:VCARD" for name in "BCD"]
         rows = [["a", first], ["b", "two"], [more[0]], [more[1], ""], ["", more[2], "e"]]
         ended = self.convert(csv_text([["uid", "vcard"], *rows]).encode(), name="export.csv")
         report = digest([
+            "card 1, line 2: the row has another UID, which is left out",
             "card 1, line 2: UID added",
-            "line 6: not carried: no card begins here",
+            "line 7: not carried: no card begins here",
             "card 2, line 8: UID added",
             "card 3, line 11: UID added",
+            "card 4, line 14: the row has a third cell, which is left out",
             "card 4, line 14: UID added",
         ], 4, 4, 1)
         self.assertEqual((1, report), (ended.status, ended.err.decode()))
@@ -265,6 +268,35 @@ class ConvertContacts(OrderTest):
         texts = [first, *(card + "\n" for card in more)]
         self.assertEqual([added_uid(it.encode()) for it in texts], [row[0] for row in made])
 
+    def test_fields_of_an_export(self):
+        """A third cell, and a UID that isn't the card's, are told with the row's own line."""
+        def card(uid):
+            return f'"BEGIN:VCARD\nVERSION:4.0\nUID:{uid}\nFN:A\nEND:VCARD\n"'
+
+        rows = [f"u1,{card('u1')},more", f"u2,{card('u3')}", f",{card('u4')},,",
+                f"u1,{card('u1')},x"]
+        ended = self.convert("\n".join(["uid,vcard", *rows, ""]).encode(), name="export.csv")
+        told = digest([
+            "card 1, line 2: the row has a third cell, which is left out",
+            "card 2, line 8: the row has another UID, which is left out",
+            "card 4, line 20: an earlier card is the same",
+            "card 4, line 20: the row has a third cell, which is left out",
+        ], 3, 0, 0)
+        self.assertEqual((0, told), (ended.status, ended.err.decode()))
+        self.assertEqual(["u1", "u3", "u4"], [row[0] for row in rows_of(ended.out)])
+
+    def test_rows_that_are_no_cards(self):
+        """Each is told with its own line, also several in sequence."""
+        card = '"BEGIN:VCARD\nVERSION:4.0\nUID:u1\nFN:A\nEND:VCARD\n"'
+        rows = ["u6,hello", "u8,hi", f"u1,{card}", "u7,hello", ",,x"]
+        for end in "\n", "\r\n":
+            with self.subTest(end=end):
+                octets = end.join(["uid,vcard", *rows, ""]).encode()
+                ended = self.convert(octets, name="export.csv")
+                told = digest([f"line {line}: not carried: no card begins here"
+                               for line in (2, 3, 10, 11)], 1, 0, 4)
+                self.assertEqual((1, told), (ended.status, ended.err.decode()))
+
     def test_headers_of_an_export(self):
         for title, octets, refused in [
             ("a row that is no card", b"uid,vcard\na,b\n", 1),
@@ -272,7 +304,7 @@ class ConvertContacts(OrderTest):
         ]:
             with self.subTest(title):
                 ended = self.convert(octets)
-                lines = refused * ["line 1: not carried: no card begins here"]
+                lines = refused * ["line 2: not carried: no card begins here"]
                 report = digest(lines, 0, 0, refused).encode()
                 self.assertEqual(Ended(refused, HEAD, report), ended)
 
@@ -315,16 +347,18 @@ class ConvertContacts(OrderTest):
         header = "First Name,Last Name,E-mail Address,Notes\n"
         rows = [f"A{number},Lee,a{number}@x.test,plain\n" for number in range(1, 1001)]
         wanted = [f"A{number} Lee" for number in range(1, 1001) if number != 11]
-        line = "row 11, line 12: not carried: a quote isn't closed in its row"
-        report = digest([line], 999, 0, 1).encode()
-        for title, row, other in [
-            ("to the end of the file", 'A11,Lee,a11@x.test,"plain\n', "plain"),
-            ("up to a quote of a later row", 'A11,Lee,a11@x.test,"plain\n', '"in quotes"'),
-            ("in the first cell", '"A11,Lee,a11@x.test,plain\n', "plain"),
-            ("text after a quote", 'A11,Lee,a11@x.test,"pl"ain\n', "plain"),
-            ("so that cells are missing", 'A11,"Lee,a11@x.test,plain\n', 'with a quote",'),
+        long = "a cell has more than 200 lines, or a quote isn't closed"
+        short = "a quote isn't closed in its row"
+        for title, row, other, why in [
+            ("to the end of the file", 'A11,Lee,a11@x.test,"plain\n', "plain", long),
+            ("up to a quote of a later row", 'A11,Lee,a11@x.test,"plain\n', '"in quotes"', short),
+            ("in the first cell", '"A11,Lee,a11@x.test,plain\n', "plain", long),
+            ("text after a quote", 'A11,Lee,a11@x.test,"pl"ain\n', "plain", short),
+            ("so that cells are missing", 'A11,"Lee,a11@x.test,plain\n', 'with a quote",', short),
         ]:
             with self.subTest(title):
+                line = f"row 11, line 12: not carried: {why}"
+                report = digest([line], 999, 0, 1).encode()
                 rows[10] = row
                 rows[50] = rows[50].replace("plain", other)
                 if other.endswith(","):
@@ -349,8 +383,8 @@ class ConvertContacts(OrderTest):
                 else:
                     self.assertEqual(["Bob"], self.names(ended))
                     self.assertEqual(1, ended.status)
-                    lost = "row 1, line 2: not carried: a quote isn't closed in its row, and "
-                    lost += f"{count} lines are lost with it\n"
+                    lost = "row 1, line 2: not carried: a cell has more than 200 lines, or a quote "
+                    lost += f"isn't closed, and {count} lines are lost with it\n"
                     self.assertTrue(ended.err.decode().startswith(lost), ended)
                     self.assertEqual(3, ended.err.count(b"\n"))
 
@@ -375,7 +409,7 @@ class ConvertContacts(OrderTest):
         report = digest([f"row 1, line 4: {kept}", f"row 2, line 7: {kept}",
                          "row 3, line 8: not carried: a quote isn't closed in its row",
                          f"row 4, line 9: {kept}"], 3, 3, 1)
-        for end in "\n", "\r\n":
+        for end in "\n", "\r\n", "\r":
             for last in end, "", 3 * end:
                 with self.subTest(end=end, last=last):
                     ended = self.convert((end.join(lines) + last).encode())
@@ -479,6 +513,67 @@ class ConvertContacts(OrderTest):
                 ended = self.convert(octets.encode())
                 self.assertEqual([card], [self.lines(row) for row in rows_of(ended.out)])
                 self.assertIn(f"row 2, line {line}: not carried".encode(), ended.err)
+
+    def test_lines_that_end_with_a_carriage_return_alone(self):
+        """As programs of Mac OS 9 write them: a bad quote takes its own line with it."""
+        for cell in '"5" disk', '"n', 'a"n"':
+            with self.subTest(cell):
+                lines = ["List of May", "Name,Email,Notes", "A,a@x.test," + cell, "B,b@x.test,n",
+                         'C,c@x.test,"one', 'two"', "D,d@x.test,n", ""]
+                ended = self.convert("\r".join(lines).encode())
+                told = ["line 1: a line above the header isn't carried"]
+                names = ["A", "B", "C", "D"]
+                if cell.startswith('"'):
+                    told += ["row 1, line 3: not carried: a quote isn't closed in its row"]
+                    names = names[1:]
+                report = digest(told, len(names), 0, len(told) - 1)
+                self.assertEqual((len(told) - 1, report), (ended.status, ended.err.decode()))
+                self.assertEqual(names, self.names(ended))
+
+    def test_the_header_again(self):
+        """As where files were joined; a byte order mark before a row is none of its cells."""
+        again = "not carried: it is the header again"
+        for rows, names, lines in [
+            (["A,a@x.test,", "Name,Email,Notes", "B,b@x.test,"], ["A", "B"],
+             [f"row 2, line 3: {again}"]),
+            (["\ufeffNOTES, name ,EMAIL", "B,b@x.test,"], ["B"], [f"row 1, line 2: {again}"]),
+            (["\ufeffA,a@x.test,", '\ufeff"B",b@x.test,', "\ufeff", "C,c@x.test,"],
+             ["A", "B", "C"], []),
+            (["Name,,", "Email,e@x.test,Name"], ["Name", "Email"], []),
+        ]:
+            with self.subTest(rows):
+                octets = "".join(row + "\n" for row in ["Name,Email,Notes", *rows]).encode()
+                ended = self.convert(octets)
+                report = digest(lines, len(names), 0, len(lines))
+                self.assertEqual((len(lines), report), (ended.status, ended.err.decode()))
+                self.assertEqual(names, self.names(ended))
+
+    def test_line_ends_in_a_cell(self):
+        """Each of CR LF, CR and LF ends a line."""
+        note = "one\r\ntwo\rthree\nfour\r\r\nfive\n\rsix"
+        ended = self.convert(f'Name,Email,Notes\r\nAnn,a@x.test,"{note}"\r\n'.encode())
+        [card] = rows_of(ended.out)
+        self.assertIn(r"NOTE:one\ntwo\nthree\nfour\n\nfive\n\nsix", self.lines(card))
+        self.assertEqual((0, numbers(1, 0, 0, 0)), (ended.status, ended.err.decode()))
+
+    def test_people_above_the_header(self):
+        """A line with the header's cells may be a person; all others are told once, as notes."""
+        person = "not carried: it is above the header"
+        note = "a line above the header isn't carried"
+        for above, lines in [
+            ("Ann,a@x.test\nBob,b@x.test\n", [f"line 1: {person}", f"line 2: {person}"]),
+            ("List of May\n\nAnn,\na,b,c\n",
+             ["line 1: 2 lines above the header aren't carried", f"line 3: {person}"]),
+            ("List of May\r\n", [f"line 1: {note}"]),
+            ("sep=,\n\n,\nList of May\n", [f"line 4: {note}"]),
+            ("\ufeffsep=,\r\n\r\n , \r\n", []),
+        ]:
+            with self.subTest(above):
+                ended = self.convert((above + "Name,Email\nZed,z@x.test\n").encode())
+                lost = sum(person in line for line in lines)
+                self.assertEqual((int(lost > 0), digest(lines, 1, 0, lost)),
+                                 (ended.status, ended.err.decode()))
+                self.assertEqual(["Zed"], self.names(ended))
 
     def test_utf_16_without_a_mark(self):
         octets = (ROOT / "examples/google.csv").read_bytes()

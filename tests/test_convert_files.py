@@ -226,6 +226,43 @@ class ConvertFiles(OrderTest):
         ended = self.convert("a.csv", "--charset", "ISO-8859-3")
         told = "row 1, line 2: NOTE has U+FFFD in place of characters that couldn't be read\n"
         self.assertTrue(ended.err.decode().startswith(told), ended)
+        # And where the cell is read as Windows-1252, which has none for five octets.
+        for octet in b"\x81", b"\x8d", b"\x8f", b"\x90", b"\x9d":
+            self.write(a_csv=b"First Name,E-mail Address,Notes\nAnn,,a" + octet + b"\n")
+            ended = self.convert("a.csv")
+            self.assertTrue(ended.err.decode().startswith(told), ended)
+            self.assertIn("NOTE:a\ufffd\r\n", ended.out.decode())
+
+    def test_text_that_is_not_quite_utf8(self):
+        """U+FFFD stands for what is no character of it, also if all of it is said to be UTF-8."""
+        head = b"First Name,E-mail Address,Notes\n"
+        told = "row 1, line 2: NOTE has U+FFFD in place of characters that couldn't be read\n"
+        for octets, options, note, is_told in [
+            ("Müll".encode() + b"\xc3", [], "Müll\ufffd", True),
+            ("Müll".encode() + b"\xc3 1", ["--charset", "UTF-8"], "Müll\ufffd 1", True),
+            (b"M\xfcll", [], "Müll", False),
+            (b"M\xfcll", ["--charset", "UTF-8"], "M\ufffdll", True),
+            (b"M\xe2\x82ll", ["--charset", "UTF-8"], "M\ufffdll", True),
+            ("Müll€\U00012345".encode(), ["--charset", "UTF-8"], "Müll€\U00012345", False),
+        ]:
+            with self.subTest(octets, options=options):
+                self.write(a_csv=head + b"Ann,," + octets + b"\n")
+                ended = self.convert("a.csv", *options)
+                self.assertIn(f"NOTE:{note}\r\n", ended.out.decode())
+                self.assertEqual(is_told, ended.err.decode().startswith(told), ended)
+
+    def test_characters_between_two_reads(self):
+        """A file is read in parts, and a character may be in two of them."""
+        for front in range(4):
+            for character in "ü", "€", "\U00012345":
+                note = "a" * front + character * 5000
+                lines = f"First Name,E-mail Address,Notes\nAnn,,{note}\n"
+                with self.subTest(front=front, character=character):
+                    self.write(a_csv=lines.encode())
+                    ended = self.convert("a.csv", "--charset", "UTF-8")
+                    plain = self.convert("a.csv")
+                    self.assertEqual((0, plain.out, plain.err), ended[:3])
+                    self.assertNotIn("\ufffd", ended.out.decode())
 
     def test_lines_of_a_broken_row(self):
         """A quote that isn't closed is told with the lines that it takes with it."""
@@ -241,7 +278,10 @@ class ConvertFiles(OrderTest):
                 self.write(a_csv=(head + rows).encode())
                 ended = self.convert("a.csv")
                 place = 2 if rows.startswith("B") else 1
-                told = f"row {place}, line {place + 1}: not carried: a quote isn't closed in its row"
+                why = "a quote isn't closed in its row"
+                if lines > 200:
+                    why = "a cell has more than 200 lines, or a quote isn't closed"
+                told = f"row {place}, line {place + 1}: not carried: {why}"
                 told += f", and {lines} lines are lost with it\n" if lines > 1 else "\n"
                 self.assertTrue(ended.err.decode().startswith(told), ended.err)
                 # The last row of the last file is that of its first person again.

@@ -155,6 +155,14 @@ class ConvertOptions(OrderTest):
         octets = ("sep=;\r\n" + csv_text([HEADER, ROW], ";")).encode()
         self.assertEqual([LINES], cards_of(self.convert(octets, "--columns", SAID)))
 
+    def test_a_person_above_the_columns(self):
+        ended = self.convert(csv_text([ROW, HEADER, ROW]).encode(), "--columns", SAID)
+        report = "columns left out: Anlage\n" + digest([
+            "line 1: not carried: it is above the header",
+            "row 1, line 3: the cell of Geb. am rewritten"], 1, 1, 1)
+        self.assertEqual((1, report), (ended.status, ended.err.decode()))
+        self.assertEqual([LINES], cards_of(ended))
+
     def test_every_word(self):
         """A column for each word that is told, and the line that it becomes."""
         wanted = {

@@ -166,7 +166,7 @@ class ConvertTest(OrderTest):
 class Converted(ConvertTest):
     def test_each_example_is_converted_as_by_the_order(self):
         for title, lines, _card, _report in CARDS:
-            for end in "\r\n", "\n", "\r":
+            for end in "\r\n", "\n", "\r", "\r\r\n":
                 with self.subTest(title, end=end):
                     self.compare(octets_of("".join(line + end for line in lines)), "cards.vcf")
         for export in EXPORTS:
@@ -195,6 +195,27 @@ class Converted(ConvertTest):
             part["kind"], [row["uid"] for row in part["rows"]], part["header"]))
         self.assertEqual([card("a", "Ann"), card("b", "Bob")],
                          [row["vcard"] for row in part["rows"]])
+
+    def test_rows_of_an_export_are_told_with_their_lines(self):
+        text = '"' + card("a", "Ann") + '"'
+        octets = f"uid,vcard\na,x\nb,y\na,{text},more\nb,z\nc,{text}\n".encode()
+        part, = self.compare(octets, "rows.csv")
+        lines = text.count("\n")
+        other = "not carried: no card begins here"
+        self.assertEqual([
+            (0, 2, other), (0, 3, other), (1, 4, "the row has a third cell, which is left out"),
+            (0, 5 + lines, other), (2, 6 + lines, "an earlier card is the same"),
+            (2, 6 + lines, "the row has another UID, which is left out"),
+        ], [(it["card"], it["line"], it["text"]) for it in part["report"]])
+        self.assertEqual([(1, 4)], [(row["card"], row["line"]) for row in part["rows"]])
+
+    def test_mixed_line_ends(self):
+        ends = zip("abcd", ["\n", "\r", "\r\n", "\n"])
+        octets = "".join(card(uid, "Ann").replace("\r\n", end) for uid, end in ends).encode()
+        part, = self.compare(octets, "cards.vcf")
+        self.assertEqual([("a", 1, 1), ("c", 2, 6), ("d", 3, 11)],
+                         [(row["uid"], row["card"], row["line"]) for row in part["rows"]])
+        self.assertEqual(1, part["not_carried"])
 
     def test_the_same_card_twice_in_a_part_is_passed(self):
         octets = card("a", "Ann").encode() * 2 + card("a", "Anna").encode()
@@ -459,9 +480,38 @@ class Worst(ConvertTest):
         self.assertEqual(("b@x.test", 3), (
             re.search("EMAIL[^:]*:(.*)\r", rows[0]["vcard"])[1], rows[0]["line"]))
 
+    def test_files_that_were_joined(self):
+        octets = b"\xef\xbb\xbf" + mixed_rows(3_000)
+        self.compare(octets + octets + b"\xef\xbb\xbf\n" + octets, "rows.csv")
+
+    def test_lines_above_the_header_are_told_once(self):
+        """They are told with the first part, also if its first row is too large."""
+        above = b"List of May\nAnn,a@x.test,,,\n"
+        rows = b"".join(b"Bob %d,b@x.test,,,\n" % number for number in range(1_000))
+        parts = self.compare(above + GOOGLE.encode() + rows, "rows.csv", [PIECE] * 10)
+        lost = [part["not_carried"] for part in parts]
+        self.assertLess(1, len(lost))
+        self.assertEqual([1] + [0] * (len(lost) - 1), lost)
+        large = b"Cy,c@x.test," + b"x" * 600_000 + b",,\n"
+        octets = above + GOOGLE.encode() + large + b"Bob,b@x.test,,,\n"
+        rows, report, numbers, _ = self.in_parts(octets, [])
+        self.assertEqual([
+            {"card": 0, "line": 1, "text": "a line above the header isn't carried"},
+            {"card": 0, "line": 2, "text": "not carried: it is above the header"},
+            {"card": 1, "line": 4, "text": "not carried: it has more than 524,288 octets"},
+        ], report)
+        self.assertEqual(([5], [1, 0, 2]), ([row["line"] for row in rows], numbers))
+
     def test_lines_that_end_with_a_carriage_return_alone(self):
         octets = mixed_cards(3_000).replace(b"\r\n", b"\n").replace(b"\n", b"\r")
         self.compare(octets, "cards.vcf")
+        rows = mixed_rows(HEAD_OCTETS + 4_000)
+        octets = b"List\r" + rows.replace(b"\n", b"\r")
+        for size in range(1, 400, 7):
+            parts = self.compare(octets, "rows.csv", [HEAD_OCTETS + 900, size])
+        lines = octets.split(b"\r")
+        for row in (row for part in parts for row in part["rows"]):
+            self.assertIn(lines[row["line"] - 1].split(b",")[0].decode(), row["vcard"])
 
 
 if __name__ == "__main__":

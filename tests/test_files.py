@@ -200,7 +200,7 @@ class Copies(FileTest):
 
 
 class FullDisks(FileTest):
-    """Writes that fail for want of room, and crashes at such writes."""
+    """Writes that fail for lack of room, and crashes at such writes."""
 
     folder_type = QuickFolder
 

@@ -1,4 +1,4 @@
--- What the resync of a store does, over all stores. This project's own.
+-- What the resync of a store does, over all stores.
 use Rattle.std.specs.Prelude.{◌==◌, ℕ, Result, if◌then◌else◌}
 use Rattle.book_model.specs.declared.denied.Denied.{Denied}
 use Rattle.book_resync.specs.Resyncing.{resync_step}

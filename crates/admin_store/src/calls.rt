@@ -1,6 +1,6 @@
 //! Stores that have the calls of administrators.
-ghost use Rattle.admin_store.specs.Keeps.{keep_step};
 ghost use Rattle.admin_store.specs.Resyncs.{Resyncs};
+ghost use Rattle.book_model.specs.BookQueries.{keep_step};
 ghost use Rattle.book_model.specs.CallOutcomes.{IfFault};
 ghost use Rattle.sync_core.specs.StoreModels.{AnswersExactly, KeepsTerms};
 

@@ -1,5 +1,5 @@
 -- Names for ASCII octets and classes of octets (RFC 20; RFC 5234, appendix B.1, calls the classes
--- ALPHA and DIGIT). This project's own.
+-- ALPHA and DIGIT).
 --
 -- Each is an `abbrev`, so the prover sees the number: `octet == colon` is `octet == 58`, which is
 -- what `*octet == b':'` tests in a body, and `is_digit octet` is what

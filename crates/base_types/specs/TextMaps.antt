@@ -1,4 +1,4 @@
--- Maps with text keys, seen as finite maps from octets. This project's own.
+-- Maps with text keys, seen as finite maps from octets.
 use Rattle.std.specs.Prelude.{ℕ, Bool, ◌&&◌, List, [], ◌∷◌, String, string_bytes, bytes_eq}
 use Rattle.std.specs.Ordering.{nat_cmp}
 use Rattle.std.specs.declared.cmp.Ordering.{Ordering}

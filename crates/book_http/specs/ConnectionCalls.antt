@@ -1,5 +1,4 @@
--- The calls on a connection, one after another, and the order in which `serve` makes them. This
--- project's own.
+-- The calls on a connection, one after another, and the order in which `serve` makes them.
 use Rattle.std.specs.Prelude.{◌≡◌, ◌≢◌, ◌⊎◌, ◌+◌, ◌≤◌, ◌^◌, ◌-◌, ⊤, ℕ, zero, suc, Bool, List, []}
 use Rattle.std.specs.Prelude.{◌∷◌, ◌++◌, length, take, Option, Some, None, Result, Ok, Err}
 use Rattle.std.specs.IoError.{error_kind}

@@ -1,4 +1,4 @@
--- What contracts know of a connection. This project's own.
+-- What contracts know of a connection.
 use Rattle.std.specs.Prelude.{ℕ, List, Option}
 use Rattle.book_http.specs.ConnectionCalls.{ConnectionCall}
 

@@ -1,4 +1,4 @@
--- Serving the connections of a listener, one after another. This project's own.
+-- Serving the connections of a listener, one after another.
 use Rattle.std.specs.Prelude.{◌≡◌, ◌<◌, ⊤, ℕ, List, [], ◌∷◌, ◌++◌, length, map, Option, Some, None}
 use Rattle.std.specs.Option.{option_or}
 use Rattle.http_requests.specs.HandlerRuns.{HandlerRelation, FaultReplies}

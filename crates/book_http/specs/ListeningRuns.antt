@@ -1,4 +1,4 @@
--- The connections of a listener as one run of the service over a store. This project's own.
+-- The connections of a listener as one run of the service over a store.
 use Rattle.std.specs.Prelude.{◌≡◌, ◌⊎◌, ℕ, Bool, List, [], ◌∷◌, ◌++◌, Option, None}
 use Rattle.std.specs.Io.KnownBytes.{Appends, Consumes}
 use Rattle.book_http.specs.declared.serve_fault.ServeFault.{ServeFault}

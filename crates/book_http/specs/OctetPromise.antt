@@ -1,4 +1,4 @@
--- The laws of the octets of every connection to the service, over every store. This project's own.
+-- The laws of the octets of every connection to the service, over every store.
 use Rattle.std.specs.Prelude.{◌≡◌, ◌⊎◌, ℕ, Bool, true, false, List, [], ◌++◌, Option, Some, None}
 use Rattle.std.specs.Prelude.{Ok, slice_get, slice_set}
 use Rattle.std.specs.List.{flat_map}

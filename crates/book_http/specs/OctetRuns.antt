@@ -1,5 +1,5 @@
 -- Requests in octets as a trace of the service: their commands are performed in turn, and the
--- octets are the replies. This project's own.
+-- octets are the replies.
 use Rattle.std.specs.Prelude.{◌≡◌, ℕ, Bool, List, [], ◌∷◌, ◌++◌, Option, Some, None, Result, Ok}
 use Rattle.std.specs.Prelude.{Err}
 use Rattle.std.specs.List.{AllByRecursion}

@@ -1,4 +1,4 @@
--- The pieces of a connection's input. This project's own.
+-- The pieces of a connection's input.
 use Rattle.std.specs.Prelude.{◌≡◌, ◌<◌, ◌≤◌, ◌*◌, ℕ, List, length, All}
 use Rattle.std.specs.List.{concat}
 

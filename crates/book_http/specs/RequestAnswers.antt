@@ -1,4 +1,4 @@
--- What a complete request does, and the octets of its reply. This project's own.
+-- What a complete request does, and the octets of its reply.
 use Rattle.std.specs.Prelude.{◌≡◌, ℕ, Bool, List, Result, Ok, Err}
 use Rattle.book_commands.specs.declared.command.Command.{Command}
 use Rattle.book_commands.specs.declared.reply.Reply.{Reply}

@@ -1,4 +1,4 @@
--- The numbers of the faults of serving a connection. This project's own.
+-- The numbers of the faults of serving a connection.
 use Rattle.std.specs.Prelude.{ℕ}
 use Rattle.book_http.specs.declared.serve_fault.ServeFault.{ServeFault}
 use Rattle.book_http.specs.declared.serve_fault.ServeFault.TheVariants.{Read, Write, TooManyTurns}

@@ -1,6 +1,6 @@
 -- Serving a connection: the octets read, the octets written, and the new state of the handler. A
 -- reader is represented by the octets that are still to be read, and a writer by those that it
--- holds, if known. This project's own.
+-- holds, if known.
 use Rattle.std.specs.Prelude.{◌≡◌, ◌⊎◌, ◌≤◌, ℕ, List, ◌++◌, length, Option, Some, None}
 use Rattle.std.specs.Io.KnownBytes.{Appends, Consumes, IsAtEnd}
 use Rattle.book_http.specs.Pieces.{IsInPieces, IsPiece, piece_octets_max, pieces_max}

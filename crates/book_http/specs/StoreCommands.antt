@@ -1,5 +1,4 @@
--- What one command of the service does to a store, whatever the store keeps its books in. This
--- project's own.
+-- What one command of the service does to a store, whatever the store keeps its books in.
 use Rattle.sync_core.specs.StoreModels.{KeepsTerms, StoreModel}
 use Rattle.book_service.specs.Faults.{IfFaultReply, CommandFault}
 use Rattle.book_service.specs.Replies.{UnchangedIfReadOnly}

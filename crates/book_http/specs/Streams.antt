@@ -1,4 +1,4 @@
--- What is read from a reader, and what is written of a text. This project's own.
+-- What is read from a reader, and what is written of a text.
 use Rattle.std.specs.Prelude.{ℕ, ◌≤◌, List, length, take, Option}
 use Rattle.std.specs.Io.KnownBytes.{Appends, Consumes}
 

@@ -1,4 +1,4 @@
--- The calls of a store, defined on histories, and lists of calls. This project's own.
+-- The calls of a store, defined on histories, and lists of calls.
 use Rattle.std.specs.Prelude.{ℕ, List, [], ◌∷◌, Option, Result, Ok, Err}
 use Rattle.vcard_lines.specs.declared.line.Line.{Line}
 use Rattle.book_model.specs.declared.answers.BookLine.{BookLine}

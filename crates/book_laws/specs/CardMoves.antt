@@ -1,5 +1,4 @@
--- The effect of a move on all books: one card changes books, and nothing else changes. This
--- project's own.
+-- The effect of a move on all books: one card changes books, and nothing else changes.
 use Rattle.std.specs.Prelude.{ℕ, ◌≡◌, ◌≢◌, ◌+◌, List, length, sum_by, Option, Some, None}
 use Rattle.std.specs.FinMap as finite
 use Rattle.book_model.specs.declared.answers.Moved.{Moved}

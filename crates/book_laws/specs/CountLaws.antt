@@ -1,4 +1,4 @@
--- The counts of a log. This project's own.
+-- The counts of a log.
 use Rattle.std.specs.Prelude.{◌≡◌, ◌+◌, List, length}
 use Rattle.std.specs.FinMap as finite
 use Rattle.book_model.specs.Counting.{total_changes, arrived_cards, departed_cards}

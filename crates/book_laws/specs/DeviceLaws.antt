@@ -1,4 +1,4 @@
--- Laws of devices that apply the pages of reports. This project's own.
+-- Laws of devices that apply the pages of reports.
 use Rattle.std.specs.Prelude.{ℕ, ◌≡◌, ◌<◌, ◌≤◌, min, ◌↔◌, false, List, [], ◌∷◌, length, take, map}
 use Rattle.std.specs.Prelude.{Option, Some, None, IsSome, Ok, Err, Contains}
 use Rattle.std.specs.List.Sorted.{IsStrictlyIncreasing}

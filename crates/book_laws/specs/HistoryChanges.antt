@@ -1,4 +1,4 @@
--- Removals, moves, imports and forgetting, defined on histories. This project's own.
+-- Removals, moves, imports and forgetting, defined on histories.
 use Rattle.std.specs.Prelude.{ℕ, Bool, not, ◌&&◌, nat_lt, nat_le, List, length, filter, is_some}
 use Rattle.std.specs.Prelude.{Option, Some, None, Result, Ok}
 use Rattle.std.specs.FinMap as finite

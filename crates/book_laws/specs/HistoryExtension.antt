@@ -1,4 +1,4 @@
--- How a later history of a book extends an earlier one. This project's own.
+-- How a later history of a book extends an earlier one.
 use Rattle.std.specs.Prelude.{ℕ, ◌≡◌, ◌≤◌, List, ◌++◌, Some}
 use Rattle.std.specs.FinMap as finite
 use Rattle.book_model.specs.declared.answers.ImportTally.{ImportTally}

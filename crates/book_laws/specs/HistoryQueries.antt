@@ -1,4 +1,4 @@
--- The calls that only read, defined on histories. This project's own.
+-- The calls that only read, defined on histories.
 use Rattle.std.specs.Prelude.{ℕ, List, map, length, Option, Result, Ok}
 use Rattle.std.specs.FinMap as finite
 use Rattle.book_model.specs.declared.answers.BookLine.{BookLine}

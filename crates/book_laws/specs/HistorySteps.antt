@@ -1,4 +1,4 @@
--- Creating a book, a put and a report, defined on histories. This project's own.
+-- Creating a book, a put and a report, defined on histories.
 use Rattle.std.specs.Prelude.{ℕ, nat_le, List, [], ◌∷◌, length, Option, Some, None, Result, Ok, Err}
 use Rattle.std.specs.Prelude.{if◌then◌else◌}
 use Rattle.std.specs.Option.{option_map_or}

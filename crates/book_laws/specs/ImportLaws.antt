@@ -1,4 +1,4 @@
--- The counts of an import, by the cards that were live before it. This project's own.
+-- The counts of an import, by the cards that were live before it.
 use Rattle.std.specs.Prelude.{◌+◌, ◌≡◌, List, length}
 use Rattle.std.specs.FinMap as finite
 use Rattle.vcard_lines.specs.declared.line.Line.{Line}

@@ -1,4 +1,4 @@
--- The live cards of a book are what its members' last events stored. This project's own.
+-- The live cards of a book are what its members' last events stored.
 use Rattle.std.specs.Prelude.{ℕ, ◌≡◌, ◌↔◌, List, Some}
 use Rattle.std.specs.FinMap as finite
 use Rattle.book_model.specs.declared.answers.Stored.{Stored}

@@ -1,4 +1,4 @@
--- The changes of a log, counted by reason. This project's own.
+-- The changes of a log, counted by reason.
 use Rattle.std.specs.Prelude.{List, [], ◌∷◌}
 use Rattle.book_model.specs.declared.counts.Counts.{Counts}
 use Rattle.book_model.specs.Counting.{no_counts, counts_after_change}

@@ -1,4 +1,4 @@
--- The rows that a store keeps of a log. This project's own.
+-- The rows that a store keeps of a log.
 use Rattle.std.specs.Prelude.{ℕ, ◌+◌, Bool, ◌||◌, nat_lt, List, [], ◌∷◌, length, is_some}
 use Rattle.std.specs.FinMap as finite
 use Rattle.base_types.specs.TextMaps.{text_cmp}

@@ -1,4 +1,4 @@
--- An accepted move transfers one card between two books. This project's own.
+-- An accepted move transfers one card between two books.
 use Rattle.std.specs.Prelude.{ℕ, ◌≡◌, List, Option, Ok}
 use Rattle.book_model.specs.declared.answers.Moved.{Moved}
 use Rattle.book_laws.specs.CardMoves.{TransfersOneCard}

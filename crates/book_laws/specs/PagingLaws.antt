@@ -1,4 +1,4 @@
--- Bounds on due members and truncated pages. This project's own.
+-- Bounds on due members and truncated pages.
 use Rattle.std.specs.Prelude.{ℕ, ◌+◌, ◌*◌, ◌≡◌, ◌<◌, ◌≤◌, true, false, List, [], ◌∷◌, length, drop}
 use Rattle.std.specs.Prelude.{replicate, Some}
 use Rattle.std.specs.FinMap as finite

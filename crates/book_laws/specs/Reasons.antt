@@ -1,4 +1,4 @@
--- The reasons of changes, and how many events of a log have each. This project's own.
+-- The reasons of changes, and how many events of a log have each.
 use Rattle.std.specs.Prelude.{◌≡◌, Bool, true, false, List, count_by}
 use Rattle.book_model.specs.declared.change.Change.{Change}
 use Rattle.book_model.specs.declared.change.Change.TheVariants.{Stores, TakesAway}

@@ -1,4 +1,4 @@
--- Refinement: a step on rows against the same call on histories. This project's own.
+-- Refinement: a step on rows against the same call on histories.
 use Rattle.std.specs.Prelude.{◌≡◌, Result, Ok, Err}
 use Rattle.book_model.specs.declared.page.Page.{Page}
 use Rattle.book_model.specs.declared.refusal.Refusal.{Refusal}

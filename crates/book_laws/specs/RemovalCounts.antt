@@ -1,4 +1,4 @@
--- How many cards were removed from a book after a given number. This project's own.
+-- How many cards were removed from a book after a given number.
 use Rattle.std.specs.Prelude.{ℕ, ◌≡◌, ◌-◌, ◌<◌, Bool, true, false, List, length, take, count_by}
 use Rattle.std.specs.Prelude.{Some}
 use Rattle.std.specs.FinMap as finite

@@ -1,4 +1,4 @@
--- Which members a report lists. This project's own.
+-- Which members a report lists.
 use Rattle.std.specs.Prelude.{ℕ, ◌⊎◌, ◌↔◌, List, IsSome, Contains}
 use Rattle.std.specs.FinMap as finite
 use Rattle.book_model.specs.declared.token.Mark.{Mark}

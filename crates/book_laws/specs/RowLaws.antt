@@ -1,4 +1,4 @@
--- The rows of all books, book by book. This project's own.
+-- The rows of all books, book by book.
 use Rattle.std.specs.Prelude.{ℕ, ◌≡◌, List}
 use Rattle.std.specs.Option.{option_map}
 use Rattle.std.specs.FinMap as finite

@@ -1,4 +1,4 @@
--- The rows of a store after a list of calls. This project's own.
+-- The rows of a store after a list of calls.
 use Rattle.std.specs.Prelude.{List, fold, Result, Ok}
 use Rattle.std.specs.Result.{result_unwrap_or}
 use Rattle.book_model.specs.declared.refusal.Refusal.{Refusal}

@@ -1,4 +1,4 @@
--- Laws of every list of calls. This project's own.
+-- Laws of every list of calls.
 use Rattle.std.specs.Prelude.{ℕ, ◌≡◌, List, ◌∷◌, Some, Ok}
 use Rattle.std.specs.FinMap as finite
 use Rattle.vcard_lines.specs.declared.line.Line.{Line}

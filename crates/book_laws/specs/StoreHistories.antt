@@ -1,4 +1,4 @@
--- The histories of a store's books, and the rows that a store keeps of them. This project's own.
+-- The histories of a store's books, and the rows that a store keeps of them.
 use Rattle.std.specs.Prelude.{ℕ, ◌≡◌, ◌≤◌, Bool, not, ◌&&◌, nat_lt, List, length, map, filter}
 use Rattle.std.specs.Prelude.{is_some, Some}
 use Rattle.std.specs.FinMap as finite

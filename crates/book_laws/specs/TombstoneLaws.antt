@@ -1,4 +1,4 @@
--- Which tombstones a book keeps, and which it drops by itself. This project's own.
+-- Which tombstones a book keeps, and which it drops by itself.
 use Rattle.std.specs.Prelude.{ℕ, ◌≡◌, ◌<◌, ◌⊎◌, ◌↔◌, List, [], ◌∷◌, ◌++◌, length, map, Option, Some}
 use Rattle.std.specs.Prelude.{IsSome, Ok, Contains}
 use Rattle.std.specs.List.Sorted.{IsStrictlyIncreasing}

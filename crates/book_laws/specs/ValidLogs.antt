@@ -1,4 +1,4 @@
--- Which logs a book can have. This project's own.
+-- Which logs a book can have.
 use Rattle.std.specs.Prelude.{ℕ, ◌≡◌, ◌≢◌, List, [], ◌∷◌, Option, None, IsSome, IsSomeAnd}
 use Rattle.std.specs.FinMap as finite
 use Rattle.vcard_lines.specs.declared.line.Line.{Line}

@@ -1,4 +1,4 @@
--- The versions of live cards. This project's own.
+-- The versions of live cards.
 use Rattle.std.specs.Prelude.{ℕ, ◌≡◌, List, Some}
 use Rattle.std.specs.FinMap as finite
 use Rattle.book_model.specs.declared.answers.Stored.{Stored}

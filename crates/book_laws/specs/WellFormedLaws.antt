@@ -1,4 +1,4 @@
--- The books of a store stay well formed, whatever calls are made. This project's own.
+-- The books of a store stay well formed, whatever calls are made.
 use Rattle.std.specs.Prelude.{ℕ, ◌≡◌, ◌≢◌, ◌≤◌, IfOk, List, Option, Some, Result, Ok, Err}
 use Rattle.std.specs.FinMap as finite
 use Rattle.vcard_lines.specs.declared.line.Line.{Line}

@@ -1,4 +1,4 @@
--- The properties of a page of a well-formed book. This project's own.
+-- The properties of a page of a well-formed book.
 use Rattle.std.specs.Prelude.{◌≡◌, ◌<◌, ◌≤◌}
 use Rattle.std.specs.List.{All}
 use Rattle.vcard_text.specs.Cards.{uid_of}

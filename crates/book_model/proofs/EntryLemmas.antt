@@ -43,7 +43,7 @@ absent_removed counts name absent = same_map text_total exact_bytes _ _ (λ q. �
     (λ there. sym (get-remove text_total counts name q ∙ cond-false _ _ _ there))
     (cases_Bool (same_name q name)))
 
--- an insertion that failed for want of memory leaves no entry
+-- an insertion that failed for lack of memory leaves no entry
 pub inserted : {E : Type 0} (r : Result (Unit {0}) E) (old before after : CountsByName) (name : List ℕ) (n : ℕ) → before ≡ old → finite.get old name ≡ None → OnOk r (after ≡ finite.insert before name n) → OnErr r (after ≡ before) → IsWritten old after name n
 inserted (Ok u) old before after name n same absent ok err = inl (ok ∙ ap (λ (m : CountsByName). finite.insert m name n) same)
 inserted (Err e) old before after name n same absent ok err = inr (err ∙ same ∙ absent_removed old name absent)

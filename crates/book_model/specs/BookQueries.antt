@@ -1,4 +1,4 @@
--- The calls that only read, defined on rows. This project's own.
+-- The calls that only read, defined on rows.
 use Rattle.std.specs.Prelude.{ℕ, Bool, not, ◌&&◌, nat_lt, List, [], ◌∷◌, map, flat_map, filter}
 use Rattle.std.specs.Prelude.{length, is_some, Result, Ok, codes}
 use Rattle.std.specs.Borrow.{Bor}
@@ -118,3 +118,11 @@ abbrev pub tally_step : Books → List ℕ → Result Tally Refusal
 tally_step books name = do
   book ← book_named books name
   Ok (book_tally book)
+
+-- ---- keeps
+
+-- the most tombstones that a book keeps, asked by name
+abbrev pub keep_step : Books → List ℕ → Result ℕ Refusal
+keep_step books name = do
+  book ← book_named books name
+  Ok book.keep

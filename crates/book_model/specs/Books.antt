@@ -1,4 +1,4 @@
--- A store as contracts see it: its books by name, each with its rows. This project's own.
+-- A store as contracts see it: its books by name, each with its rows.
 use Rattle.std.specs.Prelude.{ℕ, Bool, List, Option, Result, Ok, Err}
 use Rattle.std.specs.Option.{option_map, option_map_or, option_and_then}
 use Rattle.std.specs.Borrow.{Bor}

@@ -1,4 +1,4 @@
--- The result of a call, compared with its definition. This project's own.
+-- The result of a call, compared with its definition.
 use Rattle.std.specs.Prelude.{◌≡◌, Bool, Result, Ok, Err, if◌then◌else◌}
 use Rattle.book_model.specs.declared.denied.Denied.{Denied}
 use Rattle.book_model.specs.declared.denied.Denied.TheVariants.{Refused, Fault}

@@ -1,4 +1,4 @@
--- When numbers of tombstones stay right. This project's own.
+-- When numbers of tombstones stay right.
 use Rattle.std.specs.Prelude.{ℕ, ◌≡◌, ◌+◌, List, Some, None}
 use Rattle.std.specs.FinMap as finite
 use Rattle.vcard_lines.specs.declared.line.Line.{Line}

@@ -1,4 +1,4 @@
--- Changes counted by reason. This project's own.
+-- Changes counted by reason.
 use Rattle.std.specs.Prelude.{ℕ, Bool, ◌+◌, ◌-◌, if◌then◌else◌}
 use Rattle.book_model.specs.declared.counts.Counts.{Counts}
 use Rattle.book_model.specs.declared.change.Change.{Change}

@@ -1,4 +1,4 @@
--- How many tombstones the books of a store have, by name. This project's own.
+-- How many tombstones the books of a store have, by name.
 use Rattle.std.specs.Prelude.{ℕ, ◌≡◌, ◌⊎◌, Bool, false, List, Some}
 use Rattle.std.specs.Option.{option_map_or}
 use Rattle.std.specs.Coded.{Coded, coded_ℕ}
@@ -19,7 +19,7 @@ abbrev pub AreCountsOf : CountsByName → Books → Type 0
 AreCountsOf counts books = (name : List ℕ) (n : ℕ) → finite.get counts name ≡ Some n →
     (book : Book) × (finite.get books name ≡ Some book) × (tombstone_count book ≡ n)
 
--- the entry of the name is this number, or it was removed for want of memory
+-- the entry of the name is this number, or it was removed for lack of memory
 abbrev pub IsWritten : CountsByName → CountsByName → List ℕ → ℕ → Type 0
 IsWritten old new name n =
     (new ≡ finite.insert old name n) ⊎ (new ≡ finite.remove old name)

@@ -1,4 +1,4 @@
--- Creating a book. This project's own.
+-- Creating a book.
 use Rattle.std.specs.Prelude.{ℕ, ◌+◌, Bool, not, nat_lt, List, Result, Ok}
 use Rattle.std.specs.FinMap as finite
 use Rattle.book_model.specs.declared.refusal.Refusal.{Refusal}

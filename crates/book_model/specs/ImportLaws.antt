@@ -1,4 +1,4 @@
--- The counts of an import, by the cards that were live before it. This project's own.
+-- The counts of an import, by the cards that were live before it.
 use Rattle.std.specs.Prelude.{ℕ, ◌+◌, ◌≡◌, Bool, false, not, List, map, count_by, Option, Some}
 use Rattle.std.specs.Prelude.{None, is_none}
 use Rattle.std.specs.List.{IsDistinct}

@@ -1,5 +1,4 @@
--- Importing cards under a key. The key is kept with the tally, so that imports are idempotent. This
--- project's own.
+-- Importing cards under a key. The key is kept with the tally, so that imports are idempotent.
 use Rattle.std.specs.Prelude.{ℕ, ◌+◌, ◌==◌, Bool, ◌&&◌, ◌||◌, nat_le, List, length, fold, Option}
 use Rattle.std.specs.Prelude.{Some, None, Result, Ok, if◌then◌else◌}
 use Rattle.std.specs.List.{list_all}

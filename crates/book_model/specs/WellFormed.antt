@@ -1,5 +1,5 @@
 -- The invariants of every store's rows, after any calls. Opening a stored book checks the same
--- invariants. This project's own.
+-- invariants.
 use Rattle.std.specs.Prelude.{ℕ, ◌≡◌, ◌<◌, ◌≤◌, ◌+◌, true, List, Some, None}
 use Rattle.std.specs.FinMap as finite
 use Rattle.vcard_lines.specs.declared.line.Line.{Line}

@@ -1,6 +1,6 @@
 //! The limits of a store.
 ghost use Rattle.std.specs.Prelude.{◌≡◌, ◌≤◌, ◌↔◌, IfSome, IsSome};
-ghost use Rattle.book_model.specs.Bounds.{bounds_of, with_keep, IsInRange};
+ghost use Rattle.book_model.specs.Bounds.{bounds_of, standard_limits, with_keep, IsInRange};
 
 use std::marker::Model;
 
@@ -86,11 +86,7 @@ impl Limits {
     /// 100 entries of a page, 10,000 live cards and 1,000,000,000,000 changes of a book, 100 books,
     /// and 10,000 tombstones of a book.
     pub fn standard() -> Limits
-        ensures page { result.page_max ≡ 100 }
-        ensures cards { result.cards_max ≡ 10000 }
-        ensures changes { result.changes_max ≡ 1000000000000 }
-        ensures books { result.books_max ≡ 100 }
-        ensures keep { result.keep ≡ 10000 }
+        ensures { result ≡ standard_limits }
     {
         Limits {
             page_max: 100,

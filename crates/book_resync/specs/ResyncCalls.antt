@@ -1,4 +1,4 @@
--- The commands that a resync stands for. This project's own.
+-- The commands that a resync stands for.
 use Rattle.std.specs.Prelude.{ℕ, zero, suc, List, [], ◌∷◌, ◌++◌, flat_map, Option, Some, None}
 use Rattle.std.specs.Prelude.{Result, Ok}
 use Rattle.std.specs.FinMap as finite

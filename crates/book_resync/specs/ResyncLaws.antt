@@ -1,4 +1,4 @@
--- What a resync is, and what it leaves. This project's own.
+-- What a resync is, and what it leaves.
 use Rattle.std.specs.Prelude.{ℕ, ◌≡◌, ◌<◌, ◌≤◌, ◌⊎◌, false, true, List, Option, Some, None}
 use Rattle.std.specs.Prelude.{is_some, Ok, Err}
 use Rattle.std.specs.Option.{option_map}

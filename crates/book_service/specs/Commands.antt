@@ -1,4 +1,4 @@
--- The effect and reply of each command, on books with their full histories. This project's own.
+-- The effect and reply of each command, on books with their full histories.
 use Rattle.std.specs.Prelude.{ℕ, ◌≡◌, ◌⊎◌, List, Option, Some, None, Result, Ok, Err}
 use Rattle.vcard_lines.specs.declared.line.Line.{Line}
 use Rattle.vcard_text.specs.Cards.{kind_of}

@@ -1,5 +1,4 @@
--- How a device handles the reply to its request (RFC 6578, sections 3.2 to 3.6). This project's
--- own.
+-- How a device handles the reply to its request (RFC 6578, sections 3.2 to 3.6).
 use Rattle.std.specs.Prelude.{◌≡◌, ◌⊎◌, None, Result, Ok, Err}
 use Rattle.book_model.specs.declared.denied.Fault.{Fault}
 use Rattle.book_model.specs.declared.denied.Fault.TheVariants.{Memory}

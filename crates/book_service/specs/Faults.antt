@@ -1,4 +1,4 @@
--- The faults that a reply may have, given those that the store may return. This project's own.
+-- The faults that a reply may have, given those that the store may return.
 use Rattle.std.specs.Prelude.{◌⊎◌, List, All}
 use Rattle.std.specs.List.{zip}
 use Rattle.book_model.specs.declared.denied.Fault.{Fault as FaultKind}

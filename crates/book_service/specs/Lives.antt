@@ -1,5 +1,5 @@
 -- The life of a store: what its server's runs make together, with crashes and restarts between
--- them. This project's own.
+-- them.
 use Rattle.std.specs.Prelude.{◌≡◌, ◌⊎◌, List, [], ◌∷◌, ◌++◌, map}
 use Rattle.book_laws.specs.StoreHistories.{IsSoundStoreHistory}
 use Rattle.book_commands.specs.declared.command.Command.{Command}

@@ -1,5 +1,5 @@
 -- Copying a whole book: a new device requests pages until one isn't truncated (RFC 6578, section
--- 3.6). This project's own.
+-- 3.6).
 use Rattle.std.specs.Prelude.{ℕ, ◌≡◌, ◌<◌, ◌≤◌, ◌⊎◌, nat_le, min, max, Bool, true, false, List, []}
 use Rattle.std.specs.Prelude.{◌∷◌, length, Option, Some, None, Result, Ok, Err}
 use Rattle.std.specs.FinMap as finite

@@ -1,4 +1,4 @@
--- The tokens of pages survive a round trip through text. This project's own.
+-- The tokens of pages survive a round trip through text.
 use Rattle.std.specs.Prelude.{ℕ, ◌≡◌, List, Option, Ok}
 use Rattle.book_model.specs.declared.page.Page.{Page}
 use Rattle.book_model.specs.declared.token.Token.{Token}

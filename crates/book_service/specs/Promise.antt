@@ -1,5 +1,5 @@
 -- The promise of the server: what holds over every run of commands and device requests, from every
--- sound state. Each definition is cited by a clause of `runs_keep_the_promise`. This project's own.
+-- sound state. Each definition is cited by a clause of `runs_keep_the_promise`.
 use Rattle.book_laws.specs.Reasons.{CountsMatchReasons}
 use Rattle.book_laws.specs.LastChanges.{IsStoredLast}
 use Rattle.std.specs.Prelude.{ℕ, ◌+◌, ◌<◌, ◌≡◌, ◌⊎◌, false, List, [], ◌∷◌, ◌++◌, length, ◌↔◌}

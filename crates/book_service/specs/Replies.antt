@@ -1,4 +1,4 @@
--- What a reply contains, and which replies leave the books unchanged. This project's own.
+-- What a reply contains, and which replies leave the books unchanged.
 use Rattle.std.specs.Prelude.{◌≡◌, Result, Ok, Err}
 use Rattle.book_model.specs.declared.denied.Denied.{Denied}
 use Rattle.book_model.specs.declared.denied.Denied.TheVariants.{Refused, Fault}

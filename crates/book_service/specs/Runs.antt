@@ -1,4 +1,4 @@
--- Runs of the system of books and devices: states, steps and traces. This project's own.
+-- Runs of the system of books and devices: states, steps and traces.
 use Rattle.std.specs.Prelude.{ℕ, ◌≡◌, ◌<◌, List, [], ◌∷◌, map, Option, Some, slice_get, slice_set}
 use Rattle.book_model.specs.Bounds.{Bounds}
 use Rattle.book_model.specs.Books.{Books}

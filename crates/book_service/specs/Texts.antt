@@ -1,4 +1,4 @@
--- Parsing the texts in commands: a card, CSV rows, and sync tokens. This project's own.
+-- Parsing the texts in commands: a card, CSV rows, and sync tokens.
 use Rattle.std.specs.Prelude.{ℕ, ◌≡◌, ◌≢◌, ◌⊎◌, List, [], Option, Some, None, Result, Ok, Err}
 use Rattle.vcard_lines.specs.declared.fault.CardFault.{CardFault}
 use Rattle.vcard_lines.specs.declared.line.Line.{Line}

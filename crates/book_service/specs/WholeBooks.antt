@@ -1,5 +1,4 @@
--- Replies computed from all live cards of a book: CSV rows and the people of a group. This
--- project's own.
+-- Replies computed from all live cards of a book: CSV rows and the people of a group.
 use Rattle.std.specs.Prelude.{ℕ, ◌≡◌, List, map}
 use Rattle.std.specs.FinMap as finite
 use Rattle.base_types.specs.TextMaps.{text_cmp}

@@ -1,4 +1,4 @@
--- The files of a store that was closed. This project's own.
+-- The files of a store that was closed.
 use Rattle.sqlite.specs.Closing.{HoldsAlone}
 use Rattle.sqlite.specs.Files.{image_of}
 use Rattle.sqlite.specs.Recovery.{Image}

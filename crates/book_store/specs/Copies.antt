@@ -1,4 +1,4 @@
--- Copies of a store, also without some of its books. This project's own.
+-- Copies of a store, also without some of its books.
 use Rattle.std.specs.Prelude.{ℕ, ℤ, ◌≡◌, ◌*◌, List}
 use Rattle.sqlite.specs.State.{State}
 use Rattle.sqlite_disk.specs.declared.Disk.{Ghosts}

@@ -1,4 +1,4 @@
--- What a crash leaves of a store between its calls. This project's own.
+-- What a crash leaves of a store between its calls.
 use Rattle.sqlite.specs.Held.{state}
 use Rattle.sqlite.specs.State.{State}
 use Rattle.sqlite.specs.Tree.{Trees}

@@ -1,4 +1,4 @@
--- Why no store is opened or created in files, by what they held. This project's own.
+-- Why no store is opened or created in files, by what they held.
 use Rattle.std.specs.Prelude.{◌≡◌, ◌⊎◌, ⊤, IfSome, Option, Some, None}
 use Rattle.sqlite.specs.declared.error.Error.{Error}
 use Rattle.sqlite.specs.declared.error.Error.TheVariants.{SqliteFailure}

@@ -1,4 +1,4 @@
--- What a search of files for a faulty row found, by what the files held. This project's own.
+-- What a search of files for a faulty row found, by what the files held.
 use Rattle.std.specs.Prelude.{Option, Some, None, Result, Ok, Err}
 use Rattle.sqlite.specs.declared.file.Leftover.{Leftover}
 use Rattle.sqlite.specs.Files.{IsCleanLeft}

@@ -1,4 +1,4 @@
--- The results of creating and opening a store. This project's own.
+-- The results of creating and opening a store.
 use Rattle.std.specs.Prelude.{◌≡◌, IsTrue, Err, false}
 use Rattle.sqlite.specs.Held.{Held, state}
 use Rattle.sqlite.specs.Recovery.{Image}

@@ -1,5 +1,4 @@
--- What a run of a program leaves in the files of a store, and what the next run opens. This
--- project's own.
+-- What a run of a program leaves in the files of a store, and what the next run opens.
 use Rattle.std.specs.Prelude.{◌≡◌}
 use Rattle.sqlite.specs.Effect.{Database}
 use Rattle.sqlite.specs.Recovery.{Image}

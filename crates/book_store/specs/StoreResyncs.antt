@@ -1,4 +1,4 @@
--- What a resync does to a store over tables. This project's own.
+-- What a resync does to a store over tables.
 use Rattle.std.specs.Prelude.{ℕ, Result}
 use Rattle.sqlite.specs.Held.{state}
 use Rattle.sqlite.specs.State.{Survives}

@@ -1,4 +1,4 @@
--- A store over tables, as contracts see it, and its invariant. This project's own.
+-- A store over tables, as contracts see it, and its invariant.
 use Rattle.std.specs.Prelude.{◌≡◌, false, Result, refl, ⊤}
 use Rattle.std.specs.Coded.{Coded, code_by, coded×}
 use Rattle.sqlite.specs.Held.{Held, held_code, state}

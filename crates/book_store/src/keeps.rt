@@ -1,8 +1,8 @@
 //! The most tombstones that a book keeps.
+ghost use Rattle.book_model.specs.BookQueries.{keep_step};
 ghost use Rattle.book_store.specs.StoreViews.{table_model};
 ghost use Rattle.store_lookups.specs.CallResults.{IsExactly};
 ghost use Rattle.store_lookups.specs.OnConnections.{ChangeFaultsFromOutside};
-ghost use Rattle.store_queries.specs.KeepQueries.{keep_step};
 ghost use Rattle.store_tables.specs.OnConnections.{OnlyReads};
 ghost use Rattle.sync_core.specs.StoreModels.{AnswersQuery, KeepsTerms};
 

@@ -19,7 +19,7 @@ use Rattle.card_conversion.specs.declared.course.Course.{Course}
 use Rattle.card_conversion.specs.declared.ledger.Summary.{Summary}
 use Rattle.card_conversion.specs.Courses.{ConvertsRows, counts_of}
 use Rattle.std.proofs.lemmas.Grind.{fold-append}
-use Rattle.contact_csv.specs.Contacts.{Becomes, IsReady, columns_of, rows_of}
+use Rattle.contact_csv.specs.Contacts.{BecomesContact, IsReady, columns_of, rows_of}
 use Rattle.contact_columns.specs.declared.columns.Column.{Column}
 use Rattle.contact_csv.specs.declared.rows.ContactReader.{ContactReader}
 use Rattle.card_conversion.specs.declared.contacts.fate.RowFate.{RowFate}
@@ -142,11 +142,11 @@ module _ {R : Type 0} (remaining : R → Option (List ℕ)) where
   more_read (e ∷ es) fields fate a b c first then = (first.0, first.1, more_read es fields fate first.0 b c first.2 then)
 
 -- the row with these fields became a card or a fault, which has the fate
-card_of : (columns : List Column) (fields : List (List ℕ)) (row : Result Conversion RowFault) (made : Conversion) → Becomes columns fields row → row ≡ Ok made → IsCard made.card → IsRowContact columns fields made
-card_of columns fields row made becomes is card = record { card = card; contact = subst (Becomes columns fields) is becomes }
+card_of : (columns : List Column) (fields : List (List ℕ)) (row : Result Conversion RowFault) (made : Conversion) → BecomesContact columns fields row → row ≡ Ok made → IsCard made.card → IsRowContact columns fields made
+card_of columns fields row made becomes is card = record { card = card; contact = subst (BecomesContact columns fields) is becomes }
 
-fate_of : (columns : List Column) (fields : List (List ℕ)) (uids : List (List ℕ)) (row : Result Conversion RowFault) (fate : RowFate) → Becomes columns fields row → IsFateOf uids row fate → IsFate columns uids fields fate
-fate_of columns fields uids row (Refused fault) becomes is = subst (Becomes columns fields) is becomes
+fate_of : (columns : List Column) (fields : List (List ℕ)) (uids : List (List ℕ)) (row : Result Conversion RowFault) (fate : RowFate) → BecomesContact columns fields row → IsFateOf uids row fate → IsFate columns uids fields fate
+fate_of columns fields uids row (Refused fault) becomes is = subst (BecomesContact columns fields) is becomes
 fate_of columns fields uids row (Repeated made) becomes is = (card_of columns fields row made becomes is.0 is.1, is.2)
 fate_of columns fields uids row (Taken made) becomes is = (card_of columns fields row made becomes is.0 is.1, is.2)
 fate_of columns fields uids row (Declined made words) becomes is = (card_of columns fields row made becomes is.0 is.1, is.2)

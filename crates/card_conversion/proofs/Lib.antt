@@ -1,3 +1,5 @@
+mod AboveLemmas
+mod ExportLemmas
 mod FileLemmas
 mod LineLemmas
 mod MovedLemmas

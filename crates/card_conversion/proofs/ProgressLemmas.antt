@@ -24,7 +24,7 @@ use Rattle.card_conversion.specs.Fates.{Entry, HaveFates, IsFate, cards_of, card
 use Rattle.card_conversion.specs.Moved.{own_uid}
 use Rattle.vcard_import.specs.declared.conversion.Conversion.{Conversion}
 use Rattle.card_conversion.specs.internal.PieceReaders.{HasEnded, left_of}
-use Rattle.card_conversion.specs.internal.States.{Progress, Takes}
+use Rattle.card_conversion.specs.internal.States.{Progress, TakesPiece}
 use Rattle.import_text.proofs.FillLemmas.{consumes_more}
 
 abbrev entry_of : List ℕ → Fate → Entry
@@ -193,7 +193,7 @@ module _ {A : Type 0} (writes : List Line → A → A → Type 0) where
         → Consumes (left_of remaining old) (left_of remaining found) []
         → Consumes (left_of remaining found) (left_of remaining new) octets
         → HasEnded remaining new
-        → Takes writes octets map after now then fate
+        → TakesPiece writes octets map after now then fate
         → more ≡ counted summary fate
         → Progress writes remaining input uids start before then new after more
     one_piece now then old found new map after octets fate summary more p nothing passes ended takes counts =

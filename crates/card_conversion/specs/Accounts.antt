@@ -1,4 +1,4 @@
--- What the conversion of a file did. This project's own.
+-- What the conversion of a file did.
 use Rattle.std.specs.Prelude.{ℕ, ◌≡◌, ◌≢◌, List, [], Option, IfSome, map}
 use Rattle.std.specs.List.{AllByRecursion, AllPairs}
 use Rattle.std.specs.Io.KnownBytes.{Appends}

@@ -1,4 +1,4 @@
--- What the conversion of a file of contacts did. This project's own.
+-- What the conversion of a file of contacts did.
 use Rattle.std.specs.Prelude.{ℕ, ◌≡◌, ◌≢◌, true, false, List, [], ◌∷◌, Option, map}
 use Rattle.std.specs.List.{AllByRecursion, AllPairs}
 use Rattle.csv.specs.Reading.{ReadRecord}

@@ -1,4 +1,4 @@
--- What became of the rows of a file of contacts. This project's own.
+-- What became of the rows of a file of contacts.
 use Rattle.std.specs.Prelude.{ℕ, List, [], ◌∷◌, ◌++◌, flat_map, fold}
 use Rattle.std.specs.List.{Contains}
 use Rattle.vcard_lines.specs.declared.line.Line.{Line}
@@ -32,7 +32,7 @@ IsFate columns uids fields (Declined made words) =
 IsFate columns uids fields (Written made) =
     IsRowContact columns fields made × (Contains uids (uid_of made.card) → ⊥)
 
--- the UID of a card that came to the outlet
+-- the UID of a card that came to the sink
 abbrev pub uids_of_fate : RowFate → List (List ℕ)
 uids_of_fate (Refused fault) = []
 uids_of_fate (Repeated made) = []
@@ -54,6 +54,7 @@ with_fault summary row.Empty = summary
 with_fault summary row.Broken = with_refused summary
 with_fault summary (row.Nul place) = with_refused summary
 with_fault summary row.Width = with_refused summary
+with_fault summary row.Header = with_refused summary
 with_fault summary (row.Card fault) = with_refused summary
 
 -- the numbers after a row with this fate: one that an earlier row repeats is no loss
@@ -75,7 +76,7 @@ pub record RowEntry : Type 0 where
 abbrev pub cards_of : List RowEntry → List (List Line)
 cards_of entries = flat_map (λ entry. cards_of_fate entry.fate) entries
 
--- the UIDs of the cards that came to the outlet, in order
+-- the UIDs of the cards that came to the sink, in order
 abbrev pub uids_of : List RowEntry → List (List ℕ)
 uids_of entries = flat_map (λ entry. uids_of_fate entry.fate) entries
 

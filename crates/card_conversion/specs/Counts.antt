@@ -1,4 +1,4 @@
--- How many cards of a file were written, were changed and weren't carried. This project's own.
+-- How many cards of a file were written, were changed and weren't carried.
 use Rattle.std.specs.Prelude.{ℕ, ◌+◌, ◌-◌, ◌^◌, ◌==◌, List, length, min, fold, if◌then◌else◌}
 use Rattle.vcard_import.specs.declared.conversion.Conversion.{Conversion}
 use Rattle.card_conversion.specs.declared.fate.Fate.{Fate}

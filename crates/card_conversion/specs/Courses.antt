@@ -1,4 +1,4 @@
--- The conversion of one more file, after others. This project's own.
+-- The conversion of one more file, after others.
 use Rattle.std.specs.Prelude.{ℕ, ◌≡◌, List, [], ◌∷◌, ◌++◌, Option, IfSome, flat_map, fold, true, false}
 use Rattle.csv.specs.Reading.{ReadRecord}
 use Rattle.csv.specs.declared.reader.Reader.{Reader}
@@ -69,6 +69,12 @@ pub record ConvertsPieces {A : Type 0} (writes : List Line → A → A → Type 
     pub entries : List Entry
     pub whole : IfSome input (λ octets. octets ≡ fates.octets_of entries)
     pub part : ConvertsPart writes (of_pieces entries) uids old new before after
+
+-- Some texts were converted piece by piece, after cards with these UIDs. Which texts isn't said.
+abbrev pub ConvertsTexts : {A : Type 0} → (List Line → A → A → Type 0) → List (List ℕ) → Course
+    → Course → A → A → Type 0
+ConvertsTexts writes uids old new before after =
+    (entries : List Entry) × ConvertsPart writes (of_pieces entries) uids old new before after
 
 -- The rows are all records that the reader has left, in order.
 pub record ReadsAll {R : Type 0} (remaining : R → Option (List ℕ)) (reader : ContactReader R)

@@ -1,4 +1,4 @@
--- What became of a card at an outlet. This project's own.
+-- What became of a card at a sink.
 use Rattle.std.specs.Prelude.{ℕ, ◌≡◌, ◌↔◌, List, [], ◌∷◌, ◌++◌}
 use Rattle.std.specs.FinMap as finite
 use Rattle.std.specs.List.{Contains}
@@ -8,10 +8,10 @@ use Rattle.vcard_lines.specs.declared.line.Line.{Line}
 use Rattle.vcard_text.specs.Cards.{uid_of}
 use Rattle.card_conversion.specs.declared.delivery.Outcome.{Outcome}
 use Rattle.card_conversion.specs.declared.delivery.Outcome.TheVariants as outcome
-use Rattle.card_conversion.specs.declared.outlet.Delivery.{Delivery}
-use Rattle.card_conversion.specs.declared.outlet.Delivery.TheVariants.{Written, Refused}
+use Rattle.card_conversion.specs.declared.card_sink.Delivery.{Delivery}
+use Rattle.card_conversion.specs.declared.card_sink.Delivery.TheVariants.{Written, Refused}
 
--- the card was written, or the outlet is unchanged
+-- the card was written, or the sink is unchanged
 abbrev pub Delivers : {A : Type 0} → (A → A → Type 0) → Delivery → A → A → Type 0
 Delivers writes Written before after = writes before after
 Delivers writes (Refused words) before after = after ≡ before
@@ -27,9 +27,9 @@ WritesInTurn {A} writes (card ∷ cards) before after =
 abbrev pub HasUids : finite.FinMap text_cmp (Unit {0}) → List (List ℕ) → Type 0
 HasUids map uids = (uid : List ℕ) → IsSome (finite.get map uid) ↔ Contains uids uid
 
--- What became of a card after cards with these UIDs came to the outlet. It has one of the UIDs, and
--- the outlet is unchanged; or it has a new one, and the outlet is unchanged or wrote the card. The
--- map has the UIDs of the cards that came to the outlet.
+-- What became of a card after cards with these UIDs came to the sink. It has one of the UIDs, and
+-- the sink is unchanged; or it has a new one, and the sink is unchanged or wrote the card. The
+-- map has the UIDs of the cards that came to the sink.
 abbrev pub ComesTo : {A : Type 0} → (List Line → A → A → Type 0) → List (List ℕ) → List Line
     → finite.FinMap text_cmp (Unit {0}) → A → A → Outcome → Type 0
 ComesTo writes uids card map before after outcome.Repeated =

@@ -1,4 +1,4 @@
--- What becomes of the pieces of a file that is converted. This project's own.
+-- What becomes of the pieces of a file that is converted.
 use Rattle.std.specs.Prelude.{ℕ, ◌≡◌, ◌≤◌, ◌⊎◌, ◌||◌, ◌&&◌, ◌==◌}
 use Rattle.std.specs.Prelude.{Bool, true, false, List, [], ◌∷◌, ◌++◌}
 use Rattle.std.specs.Prelude.{count_by, length, flat_map, codes, drop, nat_lt, not, take_while}
@@ -80,7 +80,7 @@ IsFate uids octets (Written made) =
 IsFate uids octets (Moved made) =
     IsApart uids octets made × (Contains uids (uid_of made.card) → ⊥)
 
--- the UID of a card that came to the outlet, and of one that was written also the one of its own
+-- the UID of a card that came to the sink, and of one that was written also the one of its own
 abbrev pub uids_of_fate : Fate → List (List ℕ)
 uids_of_fate Blank = []
 uids_of_fate Other = []
@@ -121,7 +121,7 @@ octets_of entries = flat_map (λ entry. entry.octets) entries
 abbrev pub cards_of : List Entry → List (List Line)
 cards_of entries = flat_map (λ entry. cards_of_fate entry.fate) entries
 
--- the UIDs of the cards that came to the outlet, and those that cards which were written would have
+-- the UIDs of the cards that came to the sink, and those that cards which were written would have
 -- of their own, in order
 abbrev pub uids_of : List Entry → List (List ℕ)
 uids_of entries = flat_map (λ entry. uids_of_fate entry.fate) entries

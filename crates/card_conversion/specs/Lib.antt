@@ -1,3 +1,4 @@
+pub mod AboveLines
 pub mod Accounts
 pub mod Counts
 pub mod Courses

@@ -1,4 +1,4 @@
--- The line ends of a file of cards. This project's own.
+-- The line ends of a file of cards.
 use Rattle.std.specs.Prelude.{ℕ, Bool, true, false, List, map, ◌==◌, if◌then◌else◌}
 use Rattle.base_types.specs.Octets.{carriage_return, line_feed}
 

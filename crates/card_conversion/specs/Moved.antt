@@ -1,5 +1,4 @@
--- A card under a UID of its own, where an earlier card of its file has the same UID. This project's
--- own.
+-- A card under a UID of its own, where an earlier card of its file has the same UID.
 use Rattle.std.specs.Prelude.{ℕ, ◌≡◌, List, map, codes, if◌then◌else◌}
 use Rattle.vcard_lines.specs.declared.line.Line.{Line}
 use Rattle.vcard_text.specs.Cards.{IsCard, canonical_text, line_is_named}

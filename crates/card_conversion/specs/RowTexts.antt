@@ -1,4 +1,4 @@
--- The text of one row of an import. This project's own.
+-- The text of one row of an import.
 use Rattle.std.specs.Prelude.{ℕ, List}
 use Rattle.csv.specs.Writing.{default_writer, row_text}
 use Rattle.vcard_lines.specs.declared.line.Line.{Line}

@@ -1,10 +1,10 @@
-//! Writes a card to an outlet, unless an earlier one has its UID.
+//! Writes a card to a sink, unless an earlier one has its UID.
 ghost use Rattle.std.specs.Prelude.{ℕ, List, IfOk};
 ghost use Rattle.card_conversion.specs.Deliveries.{ComesTo, HasUids};
 ghost use Rattle.card_conversion.specs.internal.States.{IsAdmitted};
 
+use crate::card_sink::{CardSink, Delivery};
 use crate::fault::ConversionFault;
-use crate::outlet::{Delivery, Outlet};
 use base_types::{NoMemory, Text, TextMap};
 use std::alloc::Global;
 use vcard_text::Card;
@@ -12,9 +12,9 @@ use vcard_text::Card;
 /// What became of a card that was converted.
 #[derive(Drop)]
 pub enum Outcome {
-    /// It has the UID of an earlier card that came to the outlet.
+    /// It has the UID of an earlier card that came to the sink.
     Repeated,
-    /// The outlet can't take it, for a reason in words.
+    /// The sink can't take it, for a reason in words.
     Declined(Text),
     /// It was written.
     Written,
@@ -32,23 +32,23 @@ fn is_new(alloc: Global, uids: &mut TextMap<()>, uid: &str) -> Result<bool, NoMe
     Ok(true)
 }
 
-/// Writes a card to the outlet, unless its UID is one of those that came to the outlet before, and
+/// Writes a card to the sink, unless its UID is one of those that came to the sink before, and
 /// remembers the UID. `number` counts the cards of the file, from 1. An `Err` is `Output` or
 /// `Memory`.
-pub fn deliver<O: Outlet>(
+pub fn deliver<O: CardSink>(
     alloc: Global,
     uids: &mut TextMap<()>,
     number: u64,
     card: &Card,
-    outlet: &mut O,
+    sink: &mut O,
 ) -> Result<Outcome, ConversionFault>
     ensures { (known : List (List ℕ)) → HasUids uids.old known
-        → IfOk result (ComesTo O.writes known card.now uids.new outlet.old outlet.new) }
+        → IfOk result (ComesTo O.writes known card.now uids.new sink.old sink.new) }
 {
     if !is_new(alloc, uids, card.uid())? {
         return Ok(Outcome::Repeated);
     }
-    match outlet.put(alloc, number, card)? {
+    match sink.put(alloc, number, card)? {
         Delivery::Written => Ok(Outcome::Written),
         Delivery::Refused(words) => Ok(Outcome::Declined(words)),
     }

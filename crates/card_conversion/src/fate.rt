@@ -21,7 +21,7 @@ pub(crate) enum Fate {
     /// It is another card with the UID of an earlier one, and would be too long under one of its
     /// own.
     Crowded(Conversion),
-    /// It is a card that the outlet can't take, for a reason in words.
+    /// It is a card that the sink can't take, for a reason in words.
     Declined(Conversion, Text),
     /// It is a card that was written.
     Written(Conversion),

@@ -1,6 +1,6 @@
 //! Why a conversion stopped.
 
-use crate::outlet::OutletFault;
+use crate::card_sink::SinkFault;
 use base_types::{NoMemory, Text};
 use std::alloc::AllocError;
 use std::io::{Error, ErrorKind};
@@ -30,11 +30,11 @@ impl From<AllocError> for ConversionFault {
     }
 }
 
-impl From<OutletFault> for ConversionFault {
-    fn from(fault: OutletFault) -> ConversionFault {
+impl From<SinkFault> for ConversionFault {
+    fn from(fault: SinkFault) -> ConversionFault {
         match fault {
-            OutletFault::Memory => ConversionFault::Memory,
-            OutletFault::Failed(words) => ConversionFault::Output(words),
+            SinkFault::Memory => ConversionFault::Memory,
+            SinkFault::Failed(words) => ConversionFault::Output(words),
         }
     }
 }

@@ -4,10 +4,10 @@ ghost use Rattle.import_text.specs.Texts.{text_octets};
 ghost use Rattle.card_conversion.specs.Accounts.{ConvertsAll};
 ghost use Rattle.card_conversion.specs.Courses.{ConvertsPieces, Knows};
 
+use crate::card_sink::CardSink;
 use crate::course::Course;
 use crate::fault::{ConversionFault, read_fault};
 use crate::ledger::Summary;
-use crate::outlet::Outlet;
 use crate::reporting::Report;
 use crate::run::{convert_cards, convert_more_cards};
 use import_text::TextReader;
@@ -17,40 +17,40 @@ use std::io::{Read, Write};
 /// Converts a file of cards of vCard 2.1, 3.0 and 4.0, in UTF-8, Windows-1252, or UTF-16 with its
 /// byte order mark.
 ///
-/// An `Err` is `Input` if the file can't be read to its end, `Output` if the outlet takes no more
+/// An `Err` is `Input` if the file can't be read to its end, `Output` if the sink takes no more
 /// cards, `Report` if the report can't be written, or `Memory`. Cards that were written before it
 /// remain.
-pub fn convert_file<R: Read + Drop, O: Outlet, E: Write>(
+pub fn convert_file<R: Read + Drop, O: CardSink, E: Write>(
     alloc: Global,
     reader: R,
-    outlet: &mut O,
+    sink: &mut O,
     errors: &mut E,
 ) -> Result<Summary, ConversionFault>
     // The pieces are those of the file's octets, or of its text in UTF-8 if it is in UTF-16.
     ensures { IfOk result (λ summary. ConvertsAll O.writes
-        (option_map text_octets (R.remaining reader)) outlet.old outlet.new summary) }
+        (option_map text_octets (R.remaining reader)) sink.old sink.new summary) }
 {
     match TextReader::new(alloc, reader) {
-        Ok(text) => convert_cards(alloc, text, outlet, errors),
+        Ok(text) => convert_cards(alloc, text, sink, errors),
         Err(error) => Err(read_fault(error)),
     }
 }
 
 /// The same of one more file, after others (see `convert_more_cards`).
-pub fn convert_more_file<R: Read + Drop, O: Outlet, E: Write, T: Write>(
+pub fn convert_more_file<R: Read + Drop, O: CardSink, E: Write, T: Write>(
     alloc: Global,
     course: &mut Course,
     reader: R,
-    outlet: &mut O,
+    sink: &mut O,
     report: &mut Report<E, T>,
 ) -> Result<(), ConversionFault>
     // The pieces are those of the file's octets, or of its text in UTF-8 if it is in UTF-16.
     ensures { OnOk result ((uids : List (List ℕ)) → Knows course.old uids → ConvertsPieces O.writes
-        (option_map text_octets (R.remaining reader)) uids course.old course.new outlet.old
-        outlet.new) }
+        (option_map text_octets (R.remaining reader)) uids course.old course.new sink.old
+        sink.new) }
 {
     match TextReader::new(alloc, reader) {
-        Ok(text) => convert_more_cards(alloc, course, text, outlet, report),
+        Ok(text) => convert_more_cards(alloc, course, text, sink, report),
         Err(error) => Err(read_fault(error)),
     }
 }

@@ -45,6 +45,13 @@ impl Ledger {
         self.place.line = 1;
     }
 
+    /// The next piece is at this line. Cards are counted on.
+    pub(crate) fn go_to_line(&mut self, line: u64)
+        ensures { self.new.summary ≡ self.old.summary }
+    {
+        self.place.line = line;
+    }
+
     /// The number of the next card, which is counted.
     pub(crate) fn next_number(&mut self) -> u64
         ensures { self.new.summary ≡ self.old.summary }

@@ -2,10 +2,12 @@
 //! and Outlook export as CSV, one row at a time, and reports each change.
 #![tactic(auto)]
 
+mod card_sink;
 mod chunks;
 mod contacts;
 mod course;
 mod delivery;
+mod exports;
 mod fate;
 mod fault;
 mod file;
@@ -16,7 +18,6 @@ mod ledger;
 mod line_cursor;
 mod line_ends;
 mod moved;
-mod outlet;
 mod parts;
 mod piece_reader;
 mod pieces;
@@ -24,20 +25,23 @@ mod report;
 mod reporting;
 mod rows;
 mod rows_order;
-mod rows_outlet;
+mod rows_sink;
 mod run;
 
-pub use contacts::{convert_contacts, convert_contacts_to_rows, convert_more_contacts};
+pub use card_sink::{CardSink, Delivery, SinkFault};
+pub use contacts::{
+    convert_contacts, convert_contacts_to_rows, convert_contacts_under, convert_more_contacts,
+};
 pub use course::Course;
 pub use delivery::{Outcome, deliver};
+pub use exports::convert_more_exports;
 pub use fault::ConversionFault;
 pub use file::{convert_file, convert_more_file};
 pub use foreign::foreign_format;
 pub use ledger::Summary;
 pub use line_ends::{LineEnds, ends_with_returns};
-pub use outlet::{Delivery, Outlet, OutletFault};
 pub use reporting::Report;
 pub use rows::{header_text, row_text};
 pub use rows_order::convert_to_rows;
-pub use rows_outlet::RowsOutlet;
+pub use rows_sink::RowsSink;
 pub use run::{convert_cards, convert_more_cards};

@@ -5,14 +5,15 @@ ghost use Rattle.card_conversion.specs.LineEnds.{line_end};
 use std::io;
 use std::io::Read;
 
-/// Whether the first line of a text ends with a carriage return that no line feed follows.
+/// Whether the first line of a text ends with a carriage return alone, and not with one or two and a
+/// line feed.
 pub fn ends_with_returns(head: &[u8]) -> bool {
     let place = head
         .iter()
         .position(|octet| *octet == b'\r' || *octet == b'\n')
         .unwrap_or(head.len());
     let end = head.get(place..).unwrap_or(&[]);
-    end.starts_with(b"\r") && !end.starts_with(b"\r\n")
+    end.starts_with(b"\r") && !end.starts_with(b"\r\n") && !end.starts_with(b"\r\r\n")
 }
 
 /// A line feed for a carriage return.

@@ -5,7 +5,7 @@ ghost use Rattle.card_conversion.specs.internal.PieceReaders.{HasEnded, left_of,
 
 use crate::chunks::read_chunk;
 use crate::fault::ConversionFault;
-use import_text::{joined, split_piece};
+use import_text::{joined, split_text};
 use std::alloc::Global;
 use std::io::Read;
 
@@ -89,7 +89,7 @@ impl<R: Read + Drop> PieceReader<R> {
             if self.is_at_end && self.unread().is_empty() {
                 return Ok(None);
             }
-            let (piece, rest) = split_piece(self.unread());
+            let (piece, rest) = split_text(self.unread());
             let is_whole = self.is_at_end || rest.contains(&b'\n');
             if is_whole || self.unread().len() >= PIECE_OCTETS_MAX {
                 return Ok(Some(piece.len()));

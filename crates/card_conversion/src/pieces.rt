@@ -8,13 +8,13 @@ ghost use Rattle.vcard_import.specs.Conversions.{IsRefused};
 ghost use Rattle.std.specs.List.{list_all};
 ghost use Rattle.card_conversion.specs.Fates.{IsApart, IsConversion, first_line, is_blank};
 ghost use Rattle.card_conversion.specs.Fates.{is_card, is_overfull, is_semicolon, is_white};
-ghost use Rattle.card_conversion.specs.internal.States.{DeliversNew, Takes, TakesAfter};
+ghost use Rattle.card_conversion.specs.internal.States.{DeliversNew, TakesPiece, TakesAfter};
 ghost use Rattle.vcard_text.specs.Spelling.{without_bom};
 
+use crate::card_sink::{CardSink, Delivery};
 use crate::fate::Fate;
 use crate::fault::ConversionFault;
 use crate::moved::{card_under, own_uid};
-use crate::outlet::{Delivery, Outlet};
 use crate::piece_reader::PIECE_OCTETS_MAX;
 use base_types::{NoMemory, TextMap};
 use import_text::begins_with_word;
@@ -87,20 +87,20 @@ fn is_overfull(piece: &[u8]) -> bool
 
 /// Writes a card, and remembers its UID. Of one that was written it remembers the UID of its own,
 /// too.
-fn write_new<O: Outlet>(
+fn write_new<O: CardSink>(
     alloc: Global,
     uids: &mut TextMap<()>,
     number: u64,
     card: &Card,
-    outlet: &mut O,
+    sink: &mut O,
 ) -> Result<Delivery, ConversionFault>
     ensures { (known : List (List ℕ)) → HasUids uids.old known
-        → IfOk result (DeliversNew O.writes known card.now uids.new outlet.old outlet.new) }
+        → IfOk result (DeliversNew O.writes known card.now uids.new sink.old sink.new) }
 {
     let uid = String::from_str(alloc, card.uid())?;
     let own = own_uid(alloc, card)?;
     uids.insert(uid, ())?;
-    match outlet.put(alloc, number, card)? {
+    match sink.put(alloc, number, card)? {
         Delivery::Written => {
             uids.insert(own, ())?;
             Ok(Delivery::Written)
@@ -110,18 +110,18 @@ fn write_new<O: Outlet>(
 }
 
 /// Writes a card that got a UID of its own.
-fn write_moved<O: Outlet>(
+fn write_moved<O: CardSink>(
     alloc: Global,
     uids: &mut TextMap<()>,
     number: u64,
     moved: Conversion,
-    outlet: &mut O,
+    sink: &mut O,
 ) -> Result<Fate, ConversionFault>
     ensures { (octets : List ℕ) → (known : List (List ℕ)) → HasUids uids.old known
         → IsApart known octets moved → (Contains known (uid_of moved.card) → ⊥)
-        → IfOk result (TakesAfter O.writes octets known uids.new outlet.old outlet.new) }
+        → IfOk result (TakesAfter O.writes octets known uids.new sink.old sink.new) }
 {
-    match write_new(alloc, uids, number, &moved.card, outlet)? {
+    match write_new(alloc, uids, number, &moved.card, sink)? {
         Delivery::Written => Ok(Fate::Moved(moved)),
         Delivery::Refused(words) => Ok(Fate::Declined(moved, words)),
     }
@@ -129,16 +129,16 @@ fn write_moved<O: Outlet>(
 
 /// What becomes of a card with the UID of an earlier one: the same card is passed, and another one
 /// is written under a UID of its own.
-fn take_again<O: Outlet>(
+fn take_again<O: CardSink>(
     alloc: Global,
     uids: &mut TextMap<()>,
     number: u64,
     conversion: Conversion,
-    outlet: &mut O,
+    sink: &mut O,
 ) -> Result<Fate, ConversionFault>
     ensures { (octets : List ℕ) → (known : List (List ℕ)) → HasUids uids.old known
         → Contains known (uid_of conversion.card) → IsConversion octets conversion
-        → IfOk result (TakesAfter O.writes octets known uids.new outlet.old outlet.new) }
+        → IfOk result (TakesAfter O.writes octets known uids.new sink.old sink.new) }
 {
     let own = own_uid(alloc, &conversion.card)?;
     if uids.get(own.as_str()).is_some() {
@@ -147,7 +147,7 @@ fn take_again<O: Outlet>(
     match card_under(alloc, &conversion.card, own.as_str())? {
         Some(card) => {
             let Conversion { card: _, changes } = conversion;
-            write_moved(alloc, uids, number, Conversion { card, changes }, outlet)
+            write_moved(alloc, uids, number, Conversion { card, changes }, sink)
         }
         None => Ok(Fate::Crowded(conversion)),
     }
@@ -155,20 +155,20 @@ fn take_again<O: Outlet>(
 
 /// Writes a card that was converted, under a UID of its own if another card has the same. The same
 /// card is passed.
-fn deliver_piece<O: Outlet>(
+fn deliver_piece<O: CardSink>(
     alloc: Global,
     uids: &mut TextMap<()>,
     number: u64,
     conversion: Conversion,
-    outlet: &mut O,
+    sink: &mut O,
 ) -> Result<Fate, ConversionFault>
     ensures { (octets : List ℕ) → IsConversion octets conversion
-        → IfOk result (Takes O.writes octets uids.old uids.new outlet.old outlet.new) }
+        → IfOk result (TakesPiece O.writes octets uids.old uids.new sink.old sink.new) }
 {
     if uids.get(conversion.card.uid()).is_some() {
-        return take_again(alloc, uids, number, conversion, outlet);
+        return take_again(alloc, uids, number, conversion, sink);
     }
-    match write_new(alloc, uids, number, &conversion.card, outlet)? {
+    match write_new(alloc, uids, number, &conversion.card, sink)? {
         Delivery::Written => Ok(Fate::Written(conversion)),
         Delivery::Refused(words) => Ok(Fate::Declined(conversion, words)),
     }
@@ -192,16 +192,16 @@ fn convert(alloc: Global, piece: &[u8]) -> Result<Result<Conversion, ImportFault
     }
 }
 
-/// Converts a piece if it is a card, and writes the card to the outlet. `number` counts the cards
+/// Converts a piece if it is a card, and writes the card to the sink. `number` counts the cards
 /// of the file, from 1.
-pub(crate) fn take_piece<O: Outlet>(
+pub(crate) fn take_piece<O: CardSink>(
     alloc: Global,
     uids: &mut TextMap<()>,
     number: u64,
     piece: &[u8],
-    outlet: &mut O,
+    sink: &mut O,
 ) -> Result<Fate, ConversionFault>
-    ensures { IfOk result (Takes O.writes piece.now uids.old uids.new outlet.old outlet.new) }
+    ensures { IfOk result (TakesPiece O.writes piece.now uids.old uids.new sink.old sink.new) }
 {
     if are_white(without_bom(piece)) {
         return Ok(Fate::Blank);
@@ -216,7 +216,7 @@ pub(crate) fn take_piece<O: Outlet>(
         return Ok(Fate::Overfull);
     }
     match convert(alloc, piece)? {
-        Ok(conversion) => deliver_piece(alloc, uids, number, conversion, outlet),
+        Ok(conversion) => deliver_piece(alloc, uids, number, conversion, sink),
         Err(fault) => Ok(Fate::Refused(fault)),
     }
 }

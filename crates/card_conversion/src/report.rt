@@ -21,6 +21,23 @@ pub(crate) struct Place {
     pub(crate) line: u64,
 }
 
+/// The fields of a row of an export beside its card.
+#[derive(Clone, Copy)]
+pub(crate) struct RowFields<'a> {
+    /// The field `uid`, which may be empty.
+    pub(crate) uid: &'a str,
+    /// Whether a field after the card isn't empty.
+    pub(crate) has_more: bool,
+}
+
+/// Those of a card that is in no row.
+pub(crate) fn no_fields() -> RowFields<'static> {
+    RowFields {
+        uid: "",
+        has_more: false,
+    }
+}
+
 /// The most characters of a name in a report.
 const NAME_CHARS_MAX: usize = 60;
 
@@ -52,7 +69,7 @@ fn name_of(alloc: Global, line: &[u8]) -> Result<String, NoMemory> {
 }
 
 /// The name with X- before it, unless it begins so.
-fn aside_name(alloc: Global, name: &str) -> Result<String, NoMemory> {
+fn extension_name(alloc: Global, name: &str) -> Result<String, NoMemory> {
     if name.starts_with("X-") {
         return Ok(String::from_str(alloc, name)?);
     }
@@ -89,7 +106,7 @@ fn added_lines<'a>(conversion: &'a Conversion) -> &'a [Line] {
 
 /// The words for a line that was kept under another name.
 fn aside_words(alloc: Global, at: &mut Reported<'_>, name: &str) -> Result<String, NoMemory> {
-    let aside = aside_name(alloc, name)?;
+    let aside = extension_name(alloc, name)?;
     match find_name(at.lines, aside.as_str(), "X-AGENT") {
         Some((kept, rest)) => {
             at.lines = rest;
@@ -157,6 +174,12 @@ fn change_words(
             (
                 Said::Content(Weight::Lost),
                 format!(in alloc; "{name} lost the fraction of a second")?,
+            )
+        }
+        ChangeKind::Cleaned => {
+            (
+                Said::Content(Weight::Lost),
+                format!(in alloc; "{name} lost control characters")?,
             )
         }
         ChangeKind::Renamed => (
@@ -228,6 +251,41 @@ fn report_change<E: Write, T: Write>(
     Ok(())
 }
 
+/// Reports in these words what a card has lost.
+fn report_loss<E: Write, T: Write>(
+    alloc: Global,
+    place: Place,
+    words: &str,
+    parts: &mut Parts,
+    report: &mut Report<E, T>,
+) -> Result<(), ConversionFault> {
+    report.list_line(alloc, card_line(alloc, place, words)?.as_str())?;
+    let line = place.line;
+    let text = format!(in alloc; "line {line}: {words}")?;
+    parts.add(Weight::Lost, text.as_str())?;
+    Ok(())
+}
+
+/// Reports the fields of a card's row that the card doesn't have.
+fn report_fields<E: Write, T: Write>(
+    alloc: Global,
+    place: Place,
+    fields: RowFields<'_>,
+    uid: &str,
+    parts: &mut Parts,
+    report: &mut Report<E, T>,
+) -> Result<(), ConversionFault> {
+    if !fields.uid.is_empty() && fields.uid != uid {
+        let words = "the row has another UID, which is left out";
+        report_loss(alloc, place, words, parts, report)?;
+    }
+    if fields.has_more {
+        let words = "the row has a third cell, which is left out";
+        report_loss(alloc, place, words, parts, report)?;
+    }
+    Ok(())
+}
+
 /// Reports characters that couldn't be read, if the card has some.
 fn report_lost<E: Write, T: Write>(
     alloc: Global,
@@ -239,12 +297,7 @@ fn report_lost<E: Write, T: Write>(
     let Some(words) = lost_words(alloc, lines)? else {
         return Ok(());
     };
-    let words = words.as_str();
-    report.list_line(alloc, card_line(alloc, place, words)?.as_str())?;
-    let line = place.line;
-    let text = format!(in alloc; "line {line}: {words}")?;
-    parts.add(Weight::Lost, text.as_str())?;
-    Ok(())
+    report_loss(alloc, place, words.as_str(), parts, report)
 }
 
 /// Whether each card that begins in the piece ends there.
@@ -272,11 +325,27 @@ fn report_unended<E: Write, T: Write>(
         return Ok(());
     }
     let words = "the card has no END: lines of it may be missing";
-    report.list_line(alloc, card_line(alloc, place, words)?.as_str())?;
-    let line = place.line;
-    let text = format!(in alloc; "line {line}: {words}")?;
-    parts.add(Weight::Lost, text.as_str())?;
-    Ok(())
+    report_loss(alloc, place, words, parts, report)
+}
+
+/// Tells the parts of a card, if there are some.
+fn tell_parts<E: Write, T: Write>(
+    alloc: Global,
+    place: Place,
+    parts: &Parts,
+    report: &mut Report<E, T>,
+) -> Result<(), ConversionFault> {
+    if parts.is_empty() {
+        return Ok(());
+    }
+    let card = place.card;
+    let text = parts.text(alloc)?;
+    let text = text.as_str();
+    report.tell(
+        alloc,
+        parts.weight,
+        format!(in alloc; "card {card}, {text}")?.as_str(),
+    )
 }
 
 /// Reports the changes of a card that begins at the place, after the parts that there are.
@@ -304,25 +373,17 @@ fn report_changes<E: Write, T: Write>(
     }
     report_lost(alloc, place, lines, parts, report)?;
     report_unended(alloc, place, piece, parts, report)?;
-    if parts.is_empty() {
-        return Ok(());
-    }
-    let card = place.card;
-    let text = parts.text(alloc)?;
-    let text = text.as_str();
-    report.tell(
-        alloc,
-        parts.weight,
-        format!(in alloc; "card {card}, {text}")?.as_str(),
-    )
+    tell_parts(alloc, place, parts, report)
 }
 
-/// Reports a card that was written under a UID of its own.
+/// Reports a card that was written under a UID of its own. So the UID that it had isn't compared
+/// with that of its row.
 fn report_moved<E: Write, T: Write>(
     alloc: Global,
     place: Place,
     piece: &[u8],
     conversion: &Conversion,
+    fields: RowFields<'_>,
     report: &mut Report<E, T>,
 ) -> Result<(), ConversionFault> {
     let uid = conversion.card.uid();
@@ -335,6 +396,7 @@ fn report_moved<E: Write, T: Write>(
         Weight::Moved,
         format!(in alloc; "line {line}: {words}")?.as_str(),
     )?;
+    report_fields(alloc, place, fields, fields.uid, &mut parts, report)?;
     report_changes(alloc, place, piece, conversion, &mut parts, report)
 }
 
@@ -342,11 +404,23 @@ fn report_moved<E: Write, T: Write>(
 fn report_repeated<E: Write, T: Write>(
     alloc: Global,
     place: Place,
+    conversion: &Conversion,
+    fields: RowFields<'_>,
     report: &mut Report<E, T>,
 ) -> Result<(), ConversionFault> {
     report.count(alloc, FormKind::SameCard, "")?;
     let line = card_line(alloc, place, "an earlier card is the same")?;
-    report.list_line(alloc, line.as_str())
+    report.list_line(alloc, line.as_str())?;
+    let mut parts = Parts::new(alloc);
+    report_fields(
+        alloc,
+        place,
+        fields,
+        conversion.card.uid(),
+        &mut parts,
+        report,
+    )?;
+    tell_parts(alloc, place, &parts, report)
 }
 
 /// Reports a card that isn't carried, with the reason in words.
@@ -372,12 +446,13 @@ fn report_other<E: Write, T: Write>(
     report.tell_all(alloc, Weight::NotCarried, text.as_str())
 }
 
-/// Reports what became of a piece at the place.
+/// Reports what became of a piece at the place. `fields` are those of its row.
 pub(crate) fn report_piece<E: Write, T: Write>(
     alloc: Global,
     place: Place,
     piece: &[u8],
     fate: &Fate,
+    fields: RowFields<'_>,
     report: &mut Report<E, T>,
 ) -> Result<(), ConversionFault> {
     match fate {
@@ -403,7 +478,7 @@ pub(crate) fn report_piece<E: Write, T: Write>(
             let why = format!(in alloc; "{fault}")?;
             report_refused(alloc, place, why.as_str(), report)
         }
-        Fate::Repeated(_) => report_repeated(alloc, place, report),
+        Fate::Repeated(conversion) => report_repeated(alloc, place, conversion, fields, report),
         Fate::Crowded(_) => {
             report_refused(
                 alloc,
@@ -415,8 +490,16 @@ pub(crate) fn report_piece<E: Write, T: Write>(
         Fate::Declined(_, why) => report_refused(alloc, place, why.as_str(), report),
         Fate::Written(conversion) => {
             let mut parts = Parts::new(alloc);
+            report_fields(
+                alloc,
+                place,
+                fields,
+                conversion.card.uid(),
+                &mut parts,
+                report,
+            )?;
             report_changes(alloc, place, piece, conversion, &mut parts, report)
         }
-        Fate::Moved(conversion) => report_moved(alloc, place, piece, conversion, report),
+        Fate::Moved(conversion) => report_moved(alloc, place, piece, conversion, fields, report),
     }
 }

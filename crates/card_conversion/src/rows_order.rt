@@ -7,7 +7,7 @@ use crate::fault::ConversionFault;
 use crate::file::convert_file;
 use crate::laws::written_rows_are_read;
 use crate::ledger::Summary;
-use crate::rows_outlet::RowsOutlet;
+use crate::rows_sink::RowsSink;
 use std::alloc::Global;
 use std::io::{Read, Write};
 
@@ -15,18 +15,18 @@ use std::io::{Read, Write};
 pub fn convert_to_rows<R: Read + Drop, W: Write, E: Write>(
     alloc: Global,
     reader: R,
-    outlet: &mut RowsOutlet<W>,
+    sink: &mut RowsSink<W>,
     errors: &mut E,
 ) -> Result<Summary, ConversionFault>
     // The pieces of the file's octets have their fates. The header and the rows of the cards among
     // them were written. `read_rows` reads them as these cards, of which no two have one UID.
     ensures { IfOk result (λ summary.
         ConvertsToRows (option_map text_octets (R.remaining reader))
-        (W.contents outlet.old.writer) (W.contents outlet.new.writer) summary) }
+        (W.contents sink.old.writer) (W.contents sink.new.writer) summary) }
 {
     // A law: the header and the rows of cards with different UIDs are read back as these cards.
     written_rows_are_read();
 
-    outlet.start(alloc)?;
-    convert_file(alloc, reader, outlet, errors)
+    sink.start(alloc)?;
+    convert_file(alloc, reader, sink, errors)
 }

@@ -1,4 +1,4 @@
--- The texts of group faults. This project's own.
+-- The texts of group faults.
 use Rattle.std.specs.Prelude.{ℕ, List, codes}
 use Rattle.card_core.specs.declared.fault.GroupFault.{GroupFault}
 use Rattle.card_core.specs.declared.fault.GroupFault.TheVariants.{NoSuchCard, NotGroup, Memory}

@@ -1,5 +1,4 @@
--- The order that a command line gives: the value of its matches, by `clap`'s definitions. This
--- project's own.
+-- The order that a command line gives: the value of its matches, by `clap`'s definitions.
 use Rattle.std.specs.Prelude.{ℕ, ◌≡◌, ◌≢◌, ◌-◌, ◌^◌, ◌/◌, ◌%◌, ◌==◌, ◌&&◌, ⊤, Bool, true, false}
 use Rattle.std.specs.Prelude.{List, [], Option}
 use Rattle.std.specs.Prelude.{Some, None, Result, Ok, Err, codes, find, option_map, option_and_then}

@@ -1,4 +1,4 @@
--- The command line, by `clap`'s definitions. This project's own.
+-- The command line, by `clap`'s definitions.
 use Rattle.std.specs.Prelude.{ℕ, ◌≡◌, ⊤, true, false, List, [], ◌∷◌, Some, codes}
 use Rattle.clap.specs.Walk.{Rule, Text, rule_of}
 use Rattle.clap.specs.Simple.{App, Shape, app_of, new_rule, new_shape}

@@ -1,4 +1,4 @@
--- How the order `convert` ends, and what it writes to standard output. This project's own.
+-- How the order `convert` ends, and what it writes to standard output.
 use Rattle.std.specs.Prelude.{ℕ, ◌≡◌, ◌||◌, ◌==◌, Bool, not, List, [], length}
 use Rattle.std.specs.Prelude.{Option, is_some, if◌then◌else◌}
 use Rattle.vcard_lines.specs.declared.line.Line.{Line}
@@ -6,14 +6,14 @@ use Rattle.card_conversion.specs.Accounts.{WritesRows}
 use Rattle.card_conversion.specs.Courses.{AllHaveFates, Part, cards_of_all, summary_of_all}
 use Rattle.card_conversion.specs.Deliveries.{WritesInTurn}
 use Rattle.card_conversion.specs.declared.ledger.Summary.{Summary}
-use Rattle.cli_convert.specs.declared.wanted.Wanted.{Wanted}
+use Rattle.cli_convert.specs.declared.options.ConvertOptions.{ConvertOptions}
 
 -- the exit status of a conversion: 0 if all was carried, and 1 if something wasn't
 abbrev pub status_of : Summary → ℕ
 status_of summary = if summary.refused == 0 then 0 else 1
 
 -- rows go to standard output: no folder and no bound is given
-abbrev pub prints_rows : Wanted → Bool
+abbrev pub prints_rows : ConvertOptions → Bool
 prints_rows wanted = not (is_some wanted.folder || is_some wanted.rows || is_some wanted.octets)
 
 -- This number of files was converted, one after another. Each piece or row of them has its fate
@@ -39,6 +39,6 @@ pub record Prints (count : ℕ) (before after : Option (List ℕ)) (summary : Su
 
 -- A conversion of this number of files to standard output ended with the status that its summary
 -- gives.
-abbrev pub Ends : ℕ → Option (List ℕ) → Option (List ℕ) → ℕ → Type 0
-Ends count before after status =
+abbrev pub EndsConversion : ℕ → Option (List ℕ) → Option (List ℕ) → ℕ → Type 0
+EndsConversion count before after status =
     (summary : Summary) × Prints count before after summary × (status ≡ status_of summary)

@@ -1,4 +1,4 @@
--- The names of the files that are written. This project's own.
+-- The names of the files that are written.
 use Rattle.std.specs.Prelude.{ℕ, ◌||◌, ◌&&◌, ◌==◌, Bool, not, List, length, nat_le, nat_lt}
 use Rattle.std.specs.Prelude.{slice_index_or, ◌++◌, codes, decimal, drop, nat_eq, if◌then◌else◌}
 use Rattle.std.specs.Char.{is_ascii_alphanumeric}

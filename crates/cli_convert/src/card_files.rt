@@ -1,9 +1,9 @@
-//! An outlet that writes a file for each card into a folder.
+//! A sink that writes a file for each card into a folder.
 
 use crate::create::{Created, create_new, write_to};
 use crate::names::card_path;
 use base_types::Text;
-use card_conversion::{Delivery, Outlet, OutletFault};
+use card_conversion::{CardSink, Delivery, SinkFault};
 use std::alloc::Global;
 use std::fs;
 use std::fs::Files;
@@ -16,12 +16,12 @@ pub(crate) struct CardFiles<'a, F> {
     pub(crate) folder: &'a str,
 }
 
-impl<'a, F: Files> Outlet for CardFiles<'a, F> {
+impl<'a, F: Files> CardSink for CardFiles<'a, F> {
     ghost use Rattle.std.specs.Prelude.{◌≡◌};
 
     ghost writes = { λ _ before after. after ≡ before };
 
-    fn put(&mut self, alloc: Global, number: u64, card: &Card) -> Result<Delivery, OutletFault> {
+    fn put(&mut self, alloc: Global, number: u64, card: &Card) -> Result<Delivery, SinkFault> {
         let text = write_card(alloc, card)?;
         let path = card_path(alloc, self.folder, number, card.uid())?;
         let path = path.as_str();

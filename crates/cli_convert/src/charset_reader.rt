@@ -1,7 +1,7 @@
-//! `CharsetReader`: reads a file in a named character set as UTF-8.
+//! `CharsetReader`: reads a file in a named encoding as UTF-8.
 
 use base_types::NoMemory;
-use import_text::{Charset, charset_named, read_charset};
+use import_text::{Charset, charset_named, joined, read_charset};
 use std::alloc::Global;
 use std::io;
 use std::io::{Error, ErrorKind, Read};
@@ -9,10 +9,13 @@ use std::io::{Error, ErrorKind, Read};
 /// The number of octets that are read at once.
 const CHUNK_OCTETS: usize = 4096;
 
+/// The most octets of a character in UTF-8.
+const CHAR_OCTETS_MAX: u32 = 4;
+
 /// How the text of a file is encoded.
 #[derive(Clone, Copy)]
 pub(crate) enum Encoding {
-    /// As its first octets say: UTF-8, UTF-16, or else Windows-1252.
+    /// As its octets say: UTF-8, UTF-16, or else Windows-1252.
     Found,
     /// UTF-8.
     Utf8,
@@ -88,22 +91,62 @@ impl Encoding {
         }
     }
 
-    /// The character set, if each octet is a character.
-    pub(crate) fn charset(self) -> Option<Charset> {
+    /// How a file is decoded that begins with these octets. One with a byte order mark of UTF-16 is
+    /// decoded later.
+    pub(crate) fn decoding(self, front: &[u8]) -> Decoding {
         match self {
-            Encoding::Octets(charset) => Some(charset),
-            _ => None,
+            Encoding::Octets(charset) => Decoding::Octets(charset),
+            Encoding::Utf8 if !has_mark(front) => Decoding::Utf8,
+            _ => Decoding::Plain,
         }
     }
 }
 
-/// Reads a file as it is, or one in a character set as UTF-8.
+/// How the octets of a file are decoded.
+#[derive(Clone, Copy)]
+pub(crate) enum Decoding {
+    /// They are given on as they are.
+    Plain,
+    /// They are UTF-8, and U+FFFD stands for what is no character.
+    Utf8,
+    /// Each octet is a character.
+    Octets(Charset),
+}
+
+/// The number of octets of the character in UTF-8 that begins with this one.
+fn char_len(first: u8) -> usize {
+    if first < 0xC0 {
+        1
+    } else if first < 0xE0 {
+        2
+    } else if first < 0xF0 {
+        3
+    } else {
+        4
+    }
+}
+
+/// The number of octets at the end that begin a character in UTF-8 and don't end it.
+fn open_len(octets: &[u8]) -> usize {
+    let place = octets
+        .iter()
+        .rposition(|octet| *octet < 0x80 || *octet >= 0xC0)
+        .unwrap_or(octets.len());
+    let begun = octets.get(place..).unwrap_or(&[]);
+    match begun.first() {
+        Some(first) if begun.len() < char_len(*first) => begun.len(),
+        _ => 0,
+    }
+}
+
+/// Reads a file as it is, or one in a named encoding as UTF-8.
 #[derive(Drop)]
 pub(crate) struct CharsetReader<R> {
     pub(crate) alloc: Global,
     pub(crate) reader: R,
-    /// The character set, if each octet is a character.
-    pub(crate) charset: Option<Charset>,
+    pub(crate) decoding: Decoding,
+    /// The octets that were read last, if they begin a character and don't end it.
+    pub(crate) begun: Vec<u8>,
     /// The text of the octets that were read, of which those from `start` weren't given on yet.
     pub(crate) text: String,
     pub(crate) start: usize,
@@ -115,8 +158,38 @@ impl<R: Read + Drop> CharsetReader<R> {
         self.text.as_bytes().get(self.start..).unwrap_or(&[])
     }
 
-    /// Reads some octets. There are none at the end of the source.
-    fn read_more(&mut self, charset: Charset) -> io::Result<()> {
+    /// Takes the next octets of UTF-8. None are the end of the source.
+    fn take_utf8(&mut self, more: &[u8]) -> Result<(), NoMemory> {
+        let octets = joined(self.alloc, self.begun.as_slice(), more)?;
+        let octets = octets.as_slice();
+        let open = if more.is_empty() { 0 } else { open_len(octets) };
+        let end = octets.len().saturating_sub(open);
+        let whole = octets.get(..end).unwrap_or(octets);
+        let begun = octets.get(end..).unwrap_or(&[]);
+        self.text = String::from_utf8_lossy(self.alloc, whole)?;
+        self.start = 0;
+        self.begun = joined(self.alloc, begun, &[])?;
+        Ok(())
+    }
+
+    /// Reads some octets of UTF-8. There is no text only at the end of the source: a character has
+    /// ended after as many reads as it has octets.
+    fn read_utf8(&mut self) -> io::Result<()> {
+        for _read in 0..CHAR_OCTETS_MAX {
+            let mut chunk = [0; CHUNK_OCTETS];
+            let count = self.reader.read(&mut chunk)?;
+            if self.take_utf8(chunk.get(..count).unwrap_or(&[])).is_err() {
+                return Err(Error::from(ErrorKind::OutOfMemory));
+            }
+            if count == 0 || !self.unread().is_empty() {
+                break;
+            }
+        }
+        Ok(())
+    }
+
+    /// Reads some octets of a character set. There are none at the end of the source.
+    fn read_octets(&mut self, charset: Charset) -> io::Result<()> {
         let mut chunk = [0; CHUNK_OCTETS];
         let count = self.reader.read(&mut chunk)?;
         let octets = chunk.get(..count).unwrap_or(&[]);
@@ -129,15 +202,24 @@ impl<R: Read + Drop> CharsetReader<R> {
             Err(_) => Err(Error::from(ErrorKind::OutOfMemory)),
         }
     }
+
+    /// Reads some text. There is none at the end of the source.
+    fn read_more(&mut self) -> io::Result<()> {
+        match self.decoding {
+            Decoding::Plain => Ok(()),
+            Decoding::Utf8 => self.read_utf8(),
+            Decoding::Octets(charset) => self.read_octets(charset),
+        }
+    }
 }
 
 impl<R: Read + Drop> Read for CharsetReader<R> {
     fn read(&mut self, buf: &mut [u8]) -> io::Result<usize> {
-        let Some(charset) = self.charset else {
+        if matches!(self.decoding, Decoding::Plain) {
             return self.reader.read(buf);
-        };
+        }
         if self.unread().is_empty() {
-            self.read_more(charset)?;
+            self.read_more()?;
         }
         let mut unread = self.unread();
         let count = unread.read(buf)?;

@@ -1,7 +1,7 @@
 //! Creates files, and never overwrites one.
 
 use base_types::{NoMemory, Text};
-use card_conversion::OutletFault;
+use card_conversion::SinkFault;
 use std::alloc::Global;
 use std::fs::{File, Files};
 use std::io::{ErrorKind, Write};
@@ -16,9 +16,9 @@ pub(crate) enum Created<T> {
 }
 
 /// The fault for a file that can't be written.
-pub(crate) fn unwritten(alloc: Global, path: &str) -> Result<OutletFault, NoMemory> {
+pub(crate) fn unwritten(alloc: Global, path: &str) -> Result<SinkFault, NoMemory> {
     let words = Text::new(format!(in alloc; "{path} can't be written")?);
-    Ok(OutletFault::Failed(words))
+    Ok(SinkFault::Failed(words))
 }
 
 /// Creates a file, unless there is one of that name.
@@ -26,7 +26,7 @@ pub(crate) fn create_new<F: Files>(
     alloc: Global,
     files: &F,
     path: &str,
-) -> Result<Created<F::File>, OutletFault> {
+) -> Result<Created<F::File>, SinkFault> {
     match File::create_new(files, path) {
         Ok(file) => Ok(Created::File(file)),
         Err(error) if error.kind() == ErrorKind::AlreadyExists => Ok(Created::Exists),
@@ -40,7 +40,7 @@ pub(crate) fn write_to<W: Write>(
     file: &mut W,
     path: &str,
     octets: &[u8],
-) -> Result<(), OutletFault> {
+) -> Result<(), SinkFault> {
     match file.write_all(octets) {
         Ok(()) => Ok(()),
         Err(_) => Err(unwritten(alloc, path)?),

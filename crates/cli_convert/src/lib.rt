@@ -8,13 +8,13 @@ mod create;
 mod exit;
 mod names;
 mod opening;
+mod options;
 mod row_files;
 mod run;
 mod several;
 mod sources;
-mod wanted;
 
-pub use card_conversion::RowsOutlet;
+pub use card_conversion::RowsSink;
 pub use contact_columns::DateOrder;
+pub use options::ConvertOptions;
 pub use run::run_convert;
-pub use wanted::Wanted;

@@ -6,7 +6,7 @@ use crate::exit::{
     ConvertStop, foreign_file, open_dates, unknown_charset, unknown_header, unreadable,
     wrong_columns,
 };
-use crate::wanted::Wanted;
+use crate::options::ConvertOptions;
 use card_conversion::foreign_format;
 use contact_columns::{DateOrder, Header, RowText, read_date_order, wish_fault};
 use import_text::TextReader;
@@ -73,7 +73,8 @@ pub(crate) fn text_after<'a, R: Read + Drop>(
     let reader = CharsetReader {
         alloc,
         reader: whole,
-        charset: encoding.charset(),
+        decoding: encoding.decoding(front),
+        begun: Vec::new(alloc),
         text: String::new(alloc),
         start: 0,
     };
@@ -81,7 +82,10 @@ pub(crate) fn text_after<'a, R: Read + Drop>(
 }
 
 /// The encoding that is wanted.
-pub(crate) fn wanted_encoding(alloc: Global, wanted: Wanted<'_>) -> Result<Encoding, ConvertStop> {
+pub(crate) fn wanted_encoding(
+    alloc: Global,
+    wanted: ConvertOptions<'_>,
+) -> Result<Encoding, ConvertStop> {
     match encoding_named(alloc, wanted.charset)? {
         Some(encoding) => Ok(encoding),
         None => Err(unknown_charset(alloc, wanted.file, wanted.charset.unwrap_or(""))),
@@ -89,7 +93,11 @@ pub(crate) fn wanted_encoding(alloc: Global, wanted: Wanted<'_>) -> Result<Encod
 }
 
 /// Fails if columns are given that the file doesn't have, or that can't be read.
-fn check_columns(alloc: Global, wanted: Wanted<'_>, head: &[u8]) -> Result<(), ConvertStop> {
+fn check_columns(
+    alloc: Global,
+    wanted: ConvertOptions<'_>,
+    head: &[u8],
+) -> Result<(), ConvertStop> {
     if wanted.columns.is_empty() {
         return Ok(());
     }
@@ -102,7 +110,7 @@ fn check_columns(alloc: Global, wanted: Wanted<'_>, head: &[u8]) -> Result<(), C
 /// Reads the head of the file, and what the file has.
 pub(crate) fn read_content<'a, R: Read>(
     alloc: Global,
-    wanted: Wanted<'a>,
+    wanted: ConvertOptions<'a>,
     reader: &mut R,
 ) -> Result<(Vec<u8>, Content<'a>), ConvertStop> {
     let path = wanted.file;
@@ -151,7 +159,7 @@ fn dates_in<R: Read + Drop>(
 fn file_dates<F: Files>(
     alloc: Global,
     files: &F,
-    wanted: Wanted<'_>,
+    wanted: ConvertOptions<'_>,
     header: Header<'_>,
 ) -> Result<DateOrder, ConvertStop> {
     let path = wanted.file;
@@ -166,6 +174,7 @@ fn header_with(header: Header<'_>, dates: DateOrder) -> Header<'_> {
     Header {
         start: header.start,
         lines: header.lines,
+        above: header.above,
         delimiter: header.delimiter,
         width: header.width,
         dates,
@@ -178,7 +187,7 @@ fn header_with(header: Header<'_>, dates: DateOrder) -> Header<'_> {
 pub(crate) fn with_dates<'a, F: Files>(
     alloc: Global,
     files: &F,
-    wanted: Wanted<'a>,
+    wanted: ConvertOptions<'a>,
     content: Content<'a>,
 ) -> Result<Content<'a>, ConvertStop> {
     let Content::Contacts(header) = content else {

@@ -1,8 +1,8 @@
-//! An outlet that writes rows to files, each within the bounds of an import.
+//! A sink that writes rows to files, each within the bounds of an import.
 
 use crate::create::{Created, create_new, write_to};
 use base_types::{NoMemory, Text};
-use card_conversion::{Delivery, Outlet, OutletFault, header_text, row_text};
+use card_conversion::{CardSink, Delivery, SinkFault, header_text, row_text};
 use std::alloc::Global;
 use std::fs::Files;
 use vcard_text::Card;
@@ -54,7 +54,7 @@ impl<'a, F: Files> RowFiles<'a, F> {
     }
 
     /// Creates the next file with its header.
-    fn next_file(&mut self, alloc: Global, header: &[u8]) -> Result<(), OutletFault> {
+    fn next_file(&mut self, alloc: Global, header: &[u8]) -> Result<(), SinkFault> {
         let number = self.count.saturating_add(1);
         let path = self.path_of(alloc, number)?;
         let mut file = match create_new(alloc, self.files, path.as_str())? {
@@ -62,7 +62,7 @@ impl<'a, F: Files> RowFiles<'a, F> {
             Created::Exists => {
                 let name = path.as_str();
                 let words = format!(in alloc; "{name} exists")?;
-                return Err(OutletFault::Failed(Text::new(words)));
+                return Err(SinkFault::Failed(Text::new(words)));
             }
         };
         write_to(alloc, &mut file, path.as_str(), header)?;
@@ -85,7 +85,7 @@ impl<'a, F: Files> RowFiles<'a, F> {
     }
 
     /// Writes a row to the present file, which has room for it.
-    fn write_row(&mut self, alloc: Global, row: &[u8]) -> Result<(), OutletFault> {
+    fn write_row(&mut self, alloc: Global, row: &[u8]) -> Result<(), SinkFault> {
         match &mut self.current {
             Some(current) => {
                 write_to(alloc, &mut current.file, current.path.as_str(), row)?;
@@ -98,12 +98,12 @@ impl<'a, F: Files> RowFiles<'a, F> {
     }
 }
 
-impl<'a, F: Files> Outlet for RowFiles<'a, F> {
+impl<'a, F: Files> CardSink for RowFiles<'a, F> {
     ghost use Rattle.std.specs.Prelude.{⊤};
 
     ghost writes = { λ _ _ _. ⊤ };
 
-    fn put(&mut self, alloc: Global, _number: u64, card: &Card) -> Result<Delivery, OutletFault> {
+    fn put(&mut self, alloc: Global, _number: u64, card: &Card) -> Result<Delivery, SinkFault> {
         let header = header_text(alloc)?;
         let row = row_text(alloc, card)?;
         let len = row.len() as u64;

@@ -1,6 +1,6 @@
 //! Runs the order.
 ghost use Rattle.std.specs.Prelude.{◌≡◌, ◌⊎◌, ◌+◌, ◌<◌, IfOk, IsTrue, length};
-ghost use Rattle.cli_convert.specs.Endings.{Ends, Prints, prints_rows};
+ghost use Rattle.cli_convert.specs.Endings.{EndsConversion, Prints, prints_rows};
 
 use crate::card_files::CardFiles;
 use crate::content::Content;
@@ -8,12 +8,12 @@ use crate::create::{Created, create_new};
 use crate::exit::{ConvertStop, end, existing_file, stop_of};
 use crate::names::rows_front;
 use crate::opening::{open_file, read_content, text_after, wanted_encoding, with_dates};
+use crate::options::ConvertOptions;
 use crate::row_files::RowFiles;
 use crate::several::{check_more, content_text, convert_all};
-use crate::wanted::Wanted;
 use base_types::Text;
 use card_conversion::laws::{written_cards_differ, written_rows_are_read};
-use card_conversion::{ConversionFault, Report, RowsOutlet, Summary};
+use card_conversion::{ConversionFault, Report, RowsSink, Summary};
 use contact_columns::left_out_columns;
 use std::alloc::Global;
 use std::fs;
@@ -55,7 +55,7 @@ fn check_folder<F: Files>(
 fn wanted_report<F: Files>(
     alloc: Global,
     files: &F,
-    wanted: Wanted<'_>,
+    wanted: ConvertOptions<'_>,
 ) -> Result<Option<F::File>, ConvertStop> {
     let Some(path) = wanted.report else {
         return Ok(None);
@@ -70,7 +70,7 @@ fn wanted_report<F: Files>(
 /// Tells once which columns are left out.
 fn tell_left_out<E: Write, T: Write>(
     alloc: Global,
-    wanted: Wanted<'_>,
+    wanted: ConvertOptions<'_>,
     report: &mut Report<E, T>,
 ) -> Result<(), ConvertStop> {
     let names = left_out_columns(alloc, wanted.columns)?;
@@ -89,7 +89,7 @@ fn tell_left_out<E: Write, T: Write>(
 /// to files.
 fn tell_end<E: Write, T: Write>(
     alloc: Global,
-    wanted: Wanted<'_>,
+    wanted: ConvertOptions<'_>,
     summary: Summary,
     files: Option<u64>,
     report: &mut Report<E, T>,
@@ -104,7 +104,7 @@ fn tell_end<E: Write, T: Write>(
 fn convert_to_row_files<F: Files, R: Read + Drop, E: Write>(
     alloc: Global,
     files: &F,
-    wanted: Wanted<'_>,
+    wanted: ConvertOptions<'_>,
     content: Content<'_>,
     text: R,
     report: &mut Report<E, F::File>,
@@ -112,9 +112,9 @@ fn convert_to_row_files<F: Files, R: Read + Drop, E: Write>(
     let front = rows_front(alloc, wanted.file, wanted.folder)?;
     let rows_max = wanted.rows.unwrap_or(ROWS_MAX);
     let octets_max = wanted.octets.unwrap_or(OCTETS_MAX);
-    let mut outlet = RowFiles::new(files, front, rows_max, octets_max);
-    let summary = convert_all(alloc, files, wanted, content, text, &mut outlet, report)?;
-    tell_end(alloc, wanted, summary, Some(outlet.count), report)?;
+    let mut sink = RowFiles::new(files, front, rows_max, octets_max);
+    let summary = convert_all(alloc, files, wanted, content, text, &mut sink, report)?;
+    tell_end(alloc, wanted, summary, Some(sink.count), report)?;
     Ok(summary)
 }
 
@@ -122,14 +122,14 @@ fn convert_to_row_files<F: Files, R: Read + Drop, E: Write>(
 fn convert_to_card_files<F: Files, R: Read + Drop, E: Write>(
     alloc: Global,
     files: &F,
-    wanted: Wanted<'_>,
+    wanted: ConvertOptions<'_>,
     folder: &str,
     content: Content<'_>,
     text: R,
     report: &mut Report<E, F::File>,
 ) -> Result<Summary, ConvertStop> {
-    let mut outlet = CardFiles { files, folder };
-    let summary = convert_all(alloc, files, wanted, content, text, &mut outlet, report)?;
+    let mut sink = CardFiles { files, folder };
+    let summary = convert_all(alloc, files, wanted, content, text, &mut sink, report)?;
     tell_end(alloc, wanted, summary, Some(summary.written), report)?;
     Ok(summary)
 }
@@ -138,10 +138,10 @@ fn convert_to_card_files<F: Files, R: Read + Drop, E: Write>(
 fn convert_to_writer<F: Files, R: Read + Drop, W: Write, E: Write>(
     alloc: Global,
     files: &F,
-    wanted: Wanted<'_>,
+    wanted: ConvertOptions<'_>,
     content: Content<'_>,
     text: R,
-    rows: &mut RowsOutlet<W>,
+    rows: &mut RowsSink<W>,
     report: &mut Report<E, F::File>,
 ) -> Result<Summary, ConvertStop>
     ensures { IfOk result (λ summary. Prints (length wanted.entry.more.now + 1)
@@ -163,10 +163,10 @@ fn convert_to_writer<F: Files, R: Read + Drop, W: Write, E: Write>(
 fn convert_opened<F: Files, R: Read + Drop, W: Write, E: Write>(
     alloc: Global,
     files: &F,
-    wanted: Wanted<'_>,
+    wanted: ConvertOptions<'_>,
     content: Content<'_>,
     text: R,
-    rows: &mut RowsOutlet<W>,
+    rows: &mut RowsSink<W>,
     report: &mut Report<E, F::File>,
 ) -> Result<Summary, ConvertStop>
     ensures { IfOk result (λ summary. IsTrue (prints_rows wanted.entry)
@@ -188,9 +188,9 @@ fn convert_opened<F: Files, R: Read + Drop, W: Write, E: Write>(
 fn convert_text<F: Files, R: Read + Drop, W: Write, E: Write>(
     alloc: Global,
     files: &F,
-    wanted: Wanted<'_>,
+    wanted: ConvertOptions<'_>,
     text: R,
-    rows: &mut RowsOutlet<W>,
+    rows: &mut RowsSink<W>,
     report: &mut Report<E, F::File>,
 ) -> Result<Summary, ConvertStop>
     ensures { IfOk result (λ summary. IsTrue (prints_rows wanted.entry)
@@ -211,8 +211,8 @@ fn convert_text<F: Files, R: Read + Drop, W: Write, E: Write>(
 fn convert<F: Files, W: Write, E: Write>(
     alloc: Global,
     files: &F,
-    wanted: Wanted<'_>,
-    rows: &mut RowsOutlet<W>,
+    wanted: ConvertOptions<'_>,
+    rows: &mut RowsSink<W>,
     report: &mut Report<E, F::File>,
 ) -> Result<Summary, ConvertStop>
     ensures { IfOk result (λ summary. IsTrue (prints_rows wanted.entry)
@@ -237,8 +237,8 @@ fn convert<F: Files, W: Write, E: Write>(
 pub fn run_convert<F: Files, W: Write, E: Write + Drop>(
     alloc: Global,
     files: &F,
-    wanted: Wanted<'_>,
-    rows: &mut RowsOutlet<W>,
+    wanted: ConvertOptions<'_>,
+    rows: &mut RowsSink<W>,
     errors: E,
 ) -> u8
     ensures status { (result ≡ 0) ⊎ ((result ≡ 1) ⊎ (result ≡ 3)) }
@@ -248,7 +248,7 @@ pub fn run_convert<F: Files, W: Write, E: Write + Drop>(
     // no two have one UID. The status is that of the summary, which counts what was carried and
     // what wasn't.
     ensures printed { result < 3 → IsTrue (prints_rows wanted.entry)
-        → Ends (length wanted.entry.more.now + 1) (W.contents rows.old.writer)
+        → EndsConversion (length wanted.entry.more.now + 1) (W.contents rows.old.writer)
         (W.contents rows.new.writer) result }
 {
     let mut report: Report<E, F::File> = Report::new(alloc, errors);

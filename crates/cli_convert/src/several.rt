@@ -6,11 +6,11 @@ ghost use Rattle.cli_convert.specs.Endings.{Converts};
 use crate::content::Content;
 use crate::exit::{ConvertStop, no_second_reading, stop_of};
 use crate::opening::{is_file, open_file, read_content, text_after, wanted_encoding, with_dates};
+use crate::options::ConvertOptions;
 use crate::sources::convert_to;
-use crate::wanted::Wanted;
 use base_types::Text;
 use card_conversion::{
-    ConversionFault, Course, LineEnds, Outlet, Report, Summary, ends_with_returns,
+    CardSink, ConversionFault, Course, LineEnds, Report, Summary, ends_with_returns,
 };
 use std::alloc::Global;
 use std::fs::Files;
@@ -45,7 +45,11 @@ pub(crate) fn content_text<'a, R: Read>(
 
 /// Fails if a file can't be converted: it can't be read, or isn't known, or not which number of its
 /// dates is the day; or it can't be read twice.
-fn check_file<F: Files>(alloc: Global, files: &F, wanted: Wanted<'_>) -> Result<(), ConvertStop> {
+fn check_file<F: Files>(
+    alloc: Global,
+    files: &F,
+    wanted: ConvertOptions<'_>,
+) -> Result<(), ConvertStop> {
     let encoding = wanted_encoding(alloc, wanted)?;
     let (front, file) = open_file(alloc, files, wanted.file)?;
     if !is_file(files, wanted.file) {
@@ -61,7 +65,7 @@ fn check_file<F: Files>(alloc: Global, files: &F, wanted: Wanted<'_>) -> Result<
 pub(crate) fn check_more<F: Files>(
     alloc: Global,
     files: &F,
-    wanted: Wanted<'_>,
+    wanted: ConvertOptions<'_>,
 ) -> Result<(), ConvertStop> {
     for file in wanted.more {
         check_file(alloc, files, wanted.of_file(file.as_str()))?;
@@ -71,38 +75,38 @@ pub(crate) fn check_more<F: Files>(
 
 /// Converts the text of one more file. Its name stands before each line of the report, if there are
 /// several files.
-fn convert_content<F: Files, R: Read + Drop, O: Outlet, E: Write>(
+fn convert_content<F: Files, R: Read + Drop, O: CardSink, E: Write>(
     alloc: Global,
     course: &mut Course,
-    wanted: Wanted<'_>,
+    wanted: ConvertOptions<'_>,
     content: Content<'_>,
     text: R,
-    outlet: &mut O,
+    sink: &mut O,
     report: &mut Report<E, F::File>,
 ) -> Result<(), ConvertStop>
     ensures { OnOk result ((uids : List (List ℕ)) → Knows course.old uids → (part : Part)
-        × ConvertsPart O.writes part uids course.old course.new outlet.old outlet.new) }
+        × ConvertsPart O.writes part uids course.old course.new sink.old sink.new) }
 {
     if !wanted.more.is_empty() {
         report.set_source(alloc, wanted.file)?;
     }
-    match convert_to(alloc, course, content, text, outlet, report) {
+    match convert_to(alloc, course, content, text, sink, report) {
         Ok(()) => Ok(()),
         Err(fault) => Err(stop_of(alloc, fault, wanted.file)),
     }
 }
 
 /// Opens one more file and converts it.
-fn convert_next<F: Files, O: Outlet, E: Write>(
+fn convert_next<F: Files, O: CardSink, E: Write>(
     alloc: Global,
     files: &F,
     course: &mut Course,
-    wanted: Wanted<'_>,
-    outlet: &mut O,
+    wanted: ConvertOptions<'_>,
+    sink: &mut O,
     report: &mut Report<E, F::File>,
 ) -> Result<(), ConvertStop>
     ensures { OnOk result ((uids : List (List ℕ)) → Knows course.old uids → (part : Part)
-        × ConvertsPart O.writes part uids course.old course.new outlet.old outlet.new) }
+        × ConvertsPart O.writes part uids course.old course.new sink.old sink.new) }
 {
     let encoding = wanted_encoding(alloc, wanted)?;
     let (front, file) = open_file(alloc, files, wanted.file)?;
@@ -110,27 +114,27 @@ fn convert_next<F: Files, O: Outlet, E: Write>(
     let (head, content) = read_content(alloc, wanted, &mut reader)?;
     let content = with_dates(alloc, files, wanted, content)?;
     let text = content_text(head.as_slice(), content, reader);
-    convert_content::<F, _, O, E>(alloc, course, wanted, content, text, outlet, report)
+    convert_content::<F, _, O, E>(alloc, course, wanted, content, text, sink, report)
 }
 
 /// Converts the text of the first file, and then all files after it.
-pub(crate) fn convert_all<F: Files, R: Read + Drop, O: Outlet, E: Write>(
+pub(crate) fn convert_all<F: Files, R: Read + Drop, O: CardSink, E: Write>(
     alloc: Global,
     files: &F,
-    wanted: Wanted<'_>,
+    wanted: ConvertOptions<'_>,
     content: Content<'_>,
     text: R,
-    outlet: &mut O,
+    sink: &mut O,
     report: &mut Report<E, F::File>,
 ) -> Result<Summary, ConvertStop>
     ensures { IfOk result (λ summary. Converts O.writes (length wanted.entry.more.now + 1)
-        outlet.old outlet.new summary) }
+        sink.old sink.new summary) }
 {
     let mut course = Course::new(alloc);
-    convert_content::<F, R, O, E>(alloc, &mut course, wanted, content, text, outlet, report)?;
+    convert_content::<F, R, O, E>(alloc, &mut course, wanted, content, text, sink, report)?;
     for file in wanted.more {
         let next = wanted.of_file(file.as_str());
-        convert_next(alloc, files, &mut course, next, outlet, report)?;
+        convert_next(alloc, files, &mut course, next, sink, report)?;
     }
     Ok(course.summary())
 }

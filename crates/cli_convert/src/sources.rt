@@ -5,16 +5,14 @@ ghost use Rattle.contact_csv.specs.Contacts.{IsReady};
 
 use crate::content::Content;
 use card_conversion::{
-    ConversionFault, Course, Outlet, Report, convert_more_contacts, convert_more_file,
+    CardSink, ConversionFault, Course, Report, convert_contacts_under, convert_more_exports,
+    convert_more_file,
 };
 use contact_columns::RowText;
 use contact_csv::{ContactFault, ContactReader, Header};
-use csv_cards::ExportText;
+use csv_cards::ExportRows;
 use std::alloc::Global;
 use std::io::{Read, Write};
-
-/// What stands for the header of an export, so that the lines of its rows are counted after it.
-const HEADER_LINE: &[u8] = b"\n";
 
 /// A reader of contacts, after its header. `reader` begins with the header.
 fn read_contacts<R: Read + Drop>(
@@ -32,29 +30,29 @@ fn read_contacts<R: Read + Drop>(
     }
 }
 
-/// Converts what one more file has to an outlet.
-pub(crate) fn convert_to<R: Read + Drop, O: Outlet, E: Write, T: Write>(
+/// Converts what one more file has to a sink.
+pub(crate) fn convert_to<R: Read + Drop, O: CardSink, E: Write, T: Write>(
     alloc: Global,
     course: &mut Course,
     content: Content<'_>,
     reader: R,
-    outlet: &mut O,
+    sink: &mut O,
     report: &mut Report<E, T>,
 ) -> Result<(), ConversionFault>
     ensures { OnOk result ((uids : List (List ℕ)) → Knows course.old uids → (part : Part)
-        × ConvertsPart O.writes part uids course.old course.new outlet.old outlet.new) }
+        × ConvertsPart O.writes part uids course.old course.new sink.old sink.new) }
 {
     match content {
         Content::Export => {
-            let text = HEADER_LINE.chain(ExportText::new(alloc, reader));
-            convert_more_file(alloc, course, text, outlet, report)
+            let rows = ExportRows::new(alloc, reader);
+            convert_more_exports(alloc, course, rows, sink, report)
         }
         Content::Contacts(header) => {
             let contacts = read_contacts(alloc, reader, header)?;
-            convert_more_contacts(alloc, course, contacts, outlet, report)
+            convert_contacts_under(alloc, course, &header.above, contacts, sink, report)
         }
         Content::Cards | Content::OtherRows => {
-            convert_more_file(alloc, course, reader, outlet, report)
+            convert_more_file(alloc, course, reader, sink, report)
         }
     }
 }

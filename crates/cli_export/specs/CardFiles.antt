@@ -1,4 +1,4 @@
--- What `export --vcf` prints: the cards of a book as one file of vCards. This project's own.
+-- What `export --vcf` prints: the cards of a book as one file of vCards.
 use Rattle.std.specs.Prelude.{ℕ, ◌≡◌, ◌⊎◌, Bool, List, flat_map, if◌then◌else◌, Option}
 use Rattle.std.specs.Prelude.{Result, Ok, Err}
 use Rattle.std.specs.FinMap as finite

@@ -1,4 +1,4 @@
--- Reading the program's arguments. This project's own.
+-- Reading the program's arguments.
 use Rattle.std.specs.Prelude.{ℕ, ◌≡◌, ⊤, List}
 use Rattle.std.specs.declared.io.ErrorKind.{ErrorKind}
 use Rattle.std.specs.declared.io.ErrorKind.TheVariants.{OutOfMemory}

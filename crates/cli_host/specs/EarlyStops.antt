@@ -1,5 +1,5 @@
 -- Why an order stops before its output is whole: a file or a device can't be used, or memory ran
--- out. This project's own.
+-- out.
 use Rattle.std.specs.Prelude.{◌≡◌, ℕ, List, Option}
 use Rattle.std.specs.Io.KnownBytes.{Keeps}
 use Rattle.book_http.specs.Streams.{WritesPrefix}

@@ -1,4 +1,4 @@
--- What the program reports on standard error, and its exit status. This project's own.
+-- What the program reports on standard error, and its exit status.
 use Rattle.std.specs.Prelude.{ℕ, ◌≡◌, ◌⊎◌, ◌∷◌, ◌++◌, [], List, Option, Result, Ok, Err, OnOk}
 use Rattle.std.specs.Io.KnownBytes.{Appends, Keeps}
 use Rattle.base_types.specs.Octets.{line_feed}

@@ -1,4 +1,4 @@
--- The host that orders run on: the calls that are made of it. This project's own.
+-- The host that orders run on: the calls that are made of it.
 use Rattle.std.specs.Prelude.{◌≡◌, ◌≢◌, ℕ, Bool, List, [], ◌∷◌, Option, Result}
 use Rattle.cli_orders.specs.declared.address.Address.{Address}
 use Rattle.cli_orders.specs.declared.restore_output.Restored.{Restored}

@@ -1,12 +1,11 @@
--- What `books` and `verify` print: a line for each book of the store. This project's own.
+-- What `books` and `verify` print: a line for each book of the store.
 use Rattle.std.specs.Prelude.{ℕ, ◌≡◌, List, [], ◌∷◌, ◌++◌, codes, decimal, flat_map, length, Option}
 use Rattle.std.specs.Prelude.{Result, Ok, Err}
 use Rattle.std.specs.Io.KnownBytes.{Appends, Keeps}
 use Rattle.std.specs.List.{Contains}
-use Rattle.admin_store.specs.Keeps.{keep_step}
 use Rattle.base_types.specs.Octets.{line_feed}
 use Rattle.book_http.specs.Streams.{WritesPrefix}
-use Rattle.book_model.specs.BookQueries.{book_lines, tally_step}
+use Rattle.book_model.specs.BookQueries.{book_lines, keep_step, tally_step}
 use Rattle.book_model.specs.Books.{Books}
 use Rattle.book_model.specs.declared.answers.BookLine.{BookLine}
 use Rattle.book_model.specs.declared.answers.Tally.{Tally}

@@ -1,5 +1,4 @@
--- What an order names, for what is said of its stop, and which orders always say something. This
--- project's own.
+-- What an order names, for what is said of its stop, and which orders always say something.
 use Rattle.std.specs.Prelude.{ℕ, Bool, true, false, List, [], Option, Some, None}
 use Rattle.cli_args.specs.declared.order.Order.{Order}
 use Rattle.cli_args.specs.declared.order.Order.TheVariants.{Try, Init, Book, Serve, Run, Import}

@@ -1,5 +1,4 @@
--- What an order does: the command, the file, the port and the limits that it names. This project's
--- own.
+-- What an order does: the command, the file, the port and the limits that it names.
 use Rattle.std.specs.Prelude.{ℕ, ◌*◌, ◌-◌, ◌^◌, min, List, Option, Some, None}
 use Rattle.book_commands.specs.declared.command.Command.TheVariants.{CreateBook, TallyOf, People}
 use Rattle.book_commands.specs.declared.command.Command.TheVariants.{Export as ExportRows}

@@ -1,4 +1,4 @@
--- Serving the store in a file to one connection after another. This project's own.
+-- Serving the store in a file to one connection after another.
 use Rattle.std.specs.Prelude.{◌≡◌, ◌≢◌, ◌⊎◌, ℕ, List, [], ◌∷◌, Option, Ok, Err}
 use Rattle.book_http.specs.ConnectionModels.{ConnectionModel}
 use Rattle.book_http.specs.OctetPromise.{ServiceStep}

@@ -1,4 +1,4 @@
--- What is said on a terminal of a long import or a long opening. This project's own.
+-- What is said on a terminal of a long import or a long opening.
 use Rattle.std.specs.Prelude.{ℕ, ◌/◌, List, [], ◌∷◌, ◌++◌, codes, decimal}
 use Rattle.base_types.specs.Octets.{line_feed}
 

@@ -1,4 +1,4 @@
--- What `resync` prints, and why it stops. This project's own.
+-- What `resync` prints, and why it stops.
 use Rattle.std.specs.Prelude.{◌≡◌, ◌⊎◌, ℕ, List, Option, Ok, Err}
 use Rattle.std.specs.Io.KnownBytes.{Appends, Keeps}
 use Rattle.admin_store.specs.Resyncs.{Resyncs}

@@ -1,4 +1,4 @@
--- What is said on a terminal before the program waits for input. This project's own.
+-- What is said on a terminal before the program waits for input.
 use Rattle.std.specs.Prelude.{ℕ, Bool, true, List, [], ◌∷◌, ◌++◌, codes, Result, Ok}
 use Rattle.base_types.specs.Octets.{line_feed}
 use Rattle.cli_args.specs.declared.fault.LineFault.{LineFault}

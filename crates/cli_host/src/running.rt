@@ -24,7 +24,7 @@ use book_service::Command;
 use cli_args::Order;
 use cli_export::run_card_export;
 use cli_orders::{
-    Stop, kind_of_file, line_feed_count, made_text, migrate_text, run_check, run_command,
+    Stop, created_line, kind_of_file, line_feed_count, migrate_text, run_check, run_command,
     run_mirror, version_text, write_out,
 };
 use hub_server::Endpoint;
@@ -44,7 +44,7 @@ fn run_init<S: Drop, P, L, M: Host<S, P, L>, W: Write>(
         (StopsMaking file stop (W.contents writer.old) (W.contents writer.new))) }
 {
     let _books = host.create(file.as_str())?;
-    write_out(writer, made_text().as_bytes())
+    write_out(writer, created_line().as_bytes())
 }
 
 /// Migrates the file to the current schema, and prints its number of books. The migration remains

@@ -19,7 +19,7 @@ use Rattle.book_model.specs.declared.denied.Denied.TheVariants.{Refused, Fault}
 use Rattle.book_model.specs.declared.page.Page.{Page}
 use Rattle.book_model.specs.declared.refusal.Refusal.{Refusal}
 use Rattle.book_model.specs.declared.refusal.Refusal.TheVariants.{NoSuchBook, BookFull, ChangesSpent, TooManyBooks}
-use Rattle.book_model.specs.Bounds.{Bounds, IsInRange, standard_keep}
+use Rattle.book_model.specs.Bounds.{Bounds, IsInRange, standard_keep, standard_limits}
 use Rattle.book_model.specs.Books.{Books}
 use Rattle.book_model.specs.Creating.{new_id, create_step}
 use Rattle.book_model.specs.CallOutcomes.{◌>>=◌, refuse_unless, MatchesStep, MatchesQuery, IfFault, IsOutOfMemory, denied_no_memory, denied_card_fault}
@@ -42,6 +42,9 @@ pub record AreStandard (limits : Bounds) : Type 0 where
   pub changes : limits.changes_max ≡ 1000000000000
   pub books : limits.books_max ≡ 100
   pub keep : limits.keep ≡ standard_keep
+
+pub are_standard : AreStandard standard_limits
+are_standard = record { page = refl; cards = refl; changes = refl; books = refl; keep = refl }
 
 abbrev name : List ℕ
 name = codes "try"

@@ -1,4 +1,4 @@
--- What a sentence says to do next. This project's own.
+-- What a sentence says to do next.
 use Rattle.std.specs.Prelude.{ℕ, List, [], ◌++◌, codes}
 use Rattle.cli_orders.specs.declared.advice.Advice.{Advice}
 use Rattle.cli_orders.specs.declared.advice.Advice.TheVariants.{Nothing, InitFile, RunWithCreate}

@@ -1,4 +1,4 @@
--- Serving connections after a line that announces the address. This project's own.
+-- Serving connections after a line that announces the address.
 use Rattle.std.specs.Prelude.{◌≡◌, ◌⊎◌, ℕ, List, [], ◌∷◌, ◌++◌, codes, decimal, Option}
 use Rattle.std.specs.Io.KnownBytes.{Appends, Keeps}
 use Rattle.base_types.specs.Octets.{line_feed}

@@ -1,4 +1,4 @@
--- The line in a row's card at which the card has its first fault. This project's own.
+-- The line in a row's card at which the card has its first fault.
 use Rattle.std.specs.Prelude.{ℕ, ◌≡◌, ◌⊎◌, ◌+◌, List, [], ◌∷◌, ◌++◌, length, Option, None}
 use Rattle.csv_cards.specs.Rows.{Row, RowsBeginWith, header, row_field}
 use Rattle.csv_cards.specs.declared.cause.CsvCause.{CsvCause}

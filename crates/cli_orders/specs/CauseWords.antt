@@ -1,4 +1,4 @@
--- The words for why a row isn't a card. This project's own.
+-- The words for why a row isn't a card.
 use Rattle.std.specs.Prelude.{ℕ, List, codes}
 use Rattle.csv_cards.specs.declared.cause.CsvCause.{CsvCause}
 use Rattle.csv_cards.specs.declared.cause.CsvCause.TheVariants as cause

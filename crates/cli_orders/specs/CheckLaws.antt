@@ -1,4 +1,4 @@
--- Which refusals `check` ends with. This project's own.
+-- Which refusals `check` ends with.
 use Rattle.std.specs.Prelude.{ℕ, List, Option}
 use Rattle.book_model.specs.declared.refusal.Refusal.{Refusal}
 use Rattle.book_service.specs.Texts.{HasBadRow, IsBadCard}

@@ -1,4 +1,4 @@
--- What an order does to a store of books, and what it prints. This project's own.
+-- What an order does to a store of books, and what it prints.
 use Rattle.std.specs.Prelude.{ℕ, List, Option}
 use Rattle.std.specs.Io.KnownBytes.{Appends, Keeps}
 use Rattle.book_http.specs.StoreCommands.{PerformsOnStore}

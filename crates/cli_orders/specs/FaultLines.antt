@@ -1,4 +1,4 @@
--- The line at which a text has its first fault (RFC 6350, section 3.2). This project's own.
+-- The line at which a text has its first fault (RFC 6350, section 3.2).
 use Rattle.std.specs.Prelude.{ℕ, ◌≡◌, ◌⊎◌, ◌+◌, ◌-◌, ◌<◌, ◌≤◌, ◌==◌, ◌&&◌, Bool, true, not}
 use Rattle.std.specs.Prelude.{List, [], ◌∷◌, ◌++◌, drop, get_or, length, nat_lt, take}
 use Rattle.std.specs.Prelude.{Option, Some, None}

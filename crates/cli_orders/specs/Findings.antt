@@ -1,4 +1,4 @@
--- What `check` finds in a file, and what it prints. This project's own.
+-- What `check` finds in a file, and what it prints.
 use Rattle.std.specs.Prelude.{ℕ, ◌≡◌, ◌⊎◌, ◌||◌, Bool, List, [], ◌∷◌, ◌++◌, codes, decimal, eqb}
 use Rattle.std.specs.Prelude.{length, Option, Some, None, Result, Ok, Err, if◌then◌else◌}
 use Rattle.std.specs.Io.KnownBytes.{Appends, Keeps}

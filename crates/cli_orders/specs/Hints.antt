@@ -1,4 +1,4 @@
--- What `check` says to do about a fault. This project's own.
+-- What `check` says to do about a fault.
 use Rattle.std.specs.Prelude.{ℕ, List, [], codes}
 use Rattle.csv_cards.specs.declared.cause.CsvCause.{CsvCause}
 use Rattle.csv_cards.specs.declared.cause.CsvCause.TheVariants as cause

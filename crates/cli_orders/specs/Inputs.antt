@@ -1,4 +1,4 @@
--- How much is read from standard input. This project's own.
+-- How much is read from standard input.
 use Rattle.std.specs.Prelude.{ℕ, ◌+◌}
 use Rattle.vcard_text.specs.Bounds.{text_octets_max}
 

@@ -1,4 +1,4 @@
--- The output texts of the program's orders. Each line ends in LF. This project's own.
+-- The output texts of the program's orders. Each line ends in LF.
 use Rattle.std.specs.Prelude.{ℕ, Bool, List, [], ◌∷◌, ◌++◌, codes, decimal, flat_map, if◌then◌else◌}
 use Rattle.std.specs.Prelude.{Option, Some, None}
 use Rattle.std.specs.FinMap as finite

@@ -1,4 +1,4 @@
--- The replies to the commands of orders. This project's own.
+-- The replies to the commands of orders.
 use Rattle.std.specs.Prelude.{⊤}
 use Rattle.book_commands.specs.declared.command.Command.{Command}
 use Rattle.book_commands.specs.declared.command.Command.TheVariants.{CreateBook, Import, Forget}

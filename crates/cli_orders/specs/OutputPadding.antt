@@ -1,4 +1,4 @@
--- Texts padded with spaces to a fixed width. A longer text isn't cut. This project's own.
+-- Texts padded with spaces to a fixed width. A longer text isn't cut.
 use Rattle.std.specs.Prelude.{ℕ, ◌-◌, List, [], ◌∷◌, ◌++◌, length}
 use Rattle.std.specs.List.{repeat}
 use Rattle.base_types.specs.Octets.{space}

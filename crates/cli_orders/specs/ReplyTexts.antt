@@ -1,4 +1,4 @@
--- What an order prints for the reply to its command. This project's own.
+-- What an order prints for the reply to its command.
 use Rattle.std.specs.Prelude.{◌≡◌, ◌⊎◌, ℕ, List, Option}
 use Rattle.std.specs.Io.KnownBytes.{Appends, Keeps}
 use Rattle.book_model.specs.declared.denied.Fault.TheVariants.{Store}

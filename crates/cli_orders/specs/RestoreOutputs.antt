@@ -1,4 +1,4 @@
--- What `restore` prints. This project's own.
+-- What `restore` prints.
 use Rattle.std.specs.Prelude.{ℕ, Bool, true, false, List, [], ◌∷◌, ◌++◌, codes, decimal, flat_map}
 use Rattle.base_types.specs.Octets.{line_feed}
 use Rattle.cli_orders.specs.declared.restore_output.Restored.{Restored}

@@ -1,4 +1,4 @@
--- The cause of a refused row, by the number that its refusal has. This project's own.
+-- The cause of a refused row, by the number that its refusal has.
 use Rattle.std.specs.Prelude.{ℕ, ◌==◌, List, [], ◌∷◌, find, Option}
 use Rattle.csv_cards.specs.Causes.{cause_number}
 use Rattle.csv_cards.specs.declared.cause.CsvCause.{CsvCause}

@@ -1,4 +1,4 @@
--- The words for what is wrong with a row of a damaged file. This project's own.
+-- The words for what is wrong with a row of a damaged file.
 use Rattle.std.specs.Prelude.{ℕ, List, codes}
 use Rattle.store_check.specs.declared.faults.BookFault.{BookFault}
 use Rattle.store_check.specs.declared.faults.BookFault.TheVariants as book

@@ -1,5 +1,5 @@
 -- What is said of a stop before its line, for people: what it is about, what is wrong, and what to
--- do next. This project's own.
+-- do next.
 use Rattle.std.specs.Prelude.{ℕ, ◌+◌, ◌==◌, ◌||◌, Bool, true, false, nat_lt, if◌then◌else◌}
 use Rattle.std.specs.Prelude.{List, [], ◌∷◌, ◌++◌, codes, decimal, Option, Some, None}
 use Rattle.base_types.specs.Octets.{line_feed}

@@ -1,4 +1,4 @@
--- The words for why an order stopped, and which order helps. This project's own.
+-- The words for why an order stopped, and which order helps.
 use Rattle.std.specs.Prelude.{ℕ, ℤ, pos, int_lt, List, codes, if◌then◌else◌}
 use Rattle.book_model.specs.declared.refusal.Refusal.{Refusal}
 use Rattle.book_model.specs.declared.refusal.Refusal.TheVariants.{NoSuchBook, BookExists}

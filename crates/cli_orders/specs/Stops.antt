@@ -1,4 +1,4 @@
--- The error of an order: its exit status and its line. This project's own.
+-- The error of an order: its exit status and its line.
 use Rattle.std.specs.Prelude.{ℕ, List, ◌∷◌, ◌++◌, codes, decimal}
 use Rattle.base_types.specs.Octets.{space}
 use Rattle.book_http.specs.ServeFaults.{serve_fault_number}

@@ -1,4 +1,4 @@
--- The output of the order `try`. This project's own.
+-- The output of the order `try`.
 use Rattle.std.specs.Prelude.{ℕ, List, [], ◌∷◌, ◌++◌, ◌⊎◌, length, flat_map, codes, decimal, Option}
 use Rattle.std.specs.Io.KnownBytes.{Appends, Keeps}
 use Rattle.vcard_text.specs.Cards.{canonical_text}

@@ -1,4 +1,4 @@
--- The result of putting one card into an empty book. This project's own.
+-- The result of putting one card into an empty book.
 use Rattle.std.specs.Prelude.{ℕ, ◌≡◌, List, [], ◌∷◌, length}
 use Rattle.vcard_lines.specs.declared.line.Line.{Line}
 use Rattle.vcard_text.specs.Cards.{uid_of}

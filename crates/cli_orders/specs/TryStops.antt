@@ -1,4 +1,4 @@
--- Why the order `try` stops. This project's own.
+-- Why the order `try` stops.
 use Rattle.std.specs.Prelude.{ℕ, ◌≡◌, List}
 use Rattle.book_model.specs.declared.denied.Fault.TheVariants.{Memory}
 use Rattle.book_service.specs.Texts.{IsBadCard}

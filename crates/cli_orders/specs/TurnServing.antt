@@ -1,4 +1,4 @@
--- Serving connections one after another, after a line that announces the port. This project's own.
+-- Serving connections one after another, after a line that announces the port.
 use Rattle.std.specs.Prelude.{◌≡◌, ◌⊎◌, ℕ, List, Option}
 use Rattle.std.specs.Io.KnownBytes.{Appends, Keeps}
 use Rattle.book_http.specs.ConnectionModels.{ConnectionModel}

@@ -48,7 +48,7 @@ pub use input::read_input;
 pub use line_starts::line_feed_count;
 pub use mirror_output::mirror_text;
 pub use one_line_outputs::{
-    book_text, copy_text, forget_text, import_text, made_text, migrate_text, resync_text,
+    book_text, copy_text, created_line, forget_text, import_text, migrate_text, resync_text,
 };
 pub use order_names::{OrderKind, OrderNames};
 pub use reading::{read_at_most, read_rows_of};

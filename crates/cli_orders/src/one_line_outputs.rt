@@ -9,7 +9,7 @@ use sync_core::ImportTally;
 use vcard_text::NoMemory;
 
 /// The output of `init`: `made`.
-pub fn made_text() -> &'static str
+pub fn created_line() -> &'static str
     ensures { result.now ≡ made_output }
 {
     "made\n"

@@ -1,5 +1,5 @@
 -- Which component of a structured value a column of Google's or Outlook's has (RFC 6350, sections
--- 6.2.2, 6.3.1 and 6.6.4). This project's own.
+-- 6.2.2, 6.3.1 and 6.6.4).
 use Rattle.std.specs.Prelude.{ℕ, Bool, ◌||◌, List, codes, bytes_eq, nat_eq, Option, Some, None}
 use Rattle.std.specs.Prelude.{if◌then◌else◌}
 use Rattle.std.specs.List.{ends_with}

@@ -2,30 +2,26 @@
 ghost use Rattle.std.specs.Prelude.{◌≡◌, ◌++◌, IfOk, OnOk, string_bytes};
 ghost use Rattle.std.specs.List.{list_all};
 ghost use Rattle.std.specs.Str.{encode_utf8_all};
-ghost use Rattle.contact_columns.specs.Cells.{has_line_feed, clean_char, clean_text, cell_text};
+ghost use Rattle.contact_columns.specs.Cells.{clean_char, clean_text, cell_text};
 ghost use Rattle.contact_columns.specs.Cells.{is_blank, is_void};
 
 use import_text::read_text;
 use std::alloc::Global;
 use vcard_text::{NoMemory, Text};
 
-fn has_line_feed(text: &str) -> bool
-    ensures { result ≡ has_line_feed text.now }
-{
-    text.as_bytes().iter().any(|octet| *octet == b'\n')
-}
-
-/// Appends what a character of a cell becomes. `has_feeds` says whether the cell has line feeds, so
-/// that a carriage return ends no line.
-fn push_clean(text: &mut String, has_feeds: bool, c: char) -> Result<(), NoMemory>
+/// Appends what a character of a cell becomes. `is_after_return` says that it comes right after a
+/// carriage return, which ended a line, so that a line feed ends no other.
+fn push_clean(text: &mut String, is_after_return: bool, c: char) -> Result<(), NoMemory>
     ensures { OnOk result (string_bytes text.new
-        ≡ string_bytes text.old ++ encode_utf8_all (clean_char has_feeds c)) }
+        ≡ string_bytes text.old ++ encode_utf8_all (clean_char is_after_return c)) }
 {
     if c == '\r' {
-        if !has_feeds {
-            text.push('\n')?;
+        text.push('\n')?;
+    } else if c == '\n' {
+        if !is_after_return {
+            text.push(c)?;
         }
-    } else if c == '\n' || c == '\t' {
+    } else if c == '\t' {
         text.push(c)?;
     } else if c.is_ascii_control() {
         text.push(' ')?;
@@ -36,25 +32,27 @@ fn push_clean(text: &mut String, has_feeds: bool, c: char) -> Result<(), NoMemor
 }
 
 /// The text with what its characters become.
-fn clean_text(alloc: Global, text: &str, has_feeds: bool) -> Result<String, NoMemory>
-    ensures { IfOk result (λ clean. string_bytes clean ≡ clean_text has_feeds text.now) }
+fn clean_text(alloc: Global, text: &str) -> Result<String, NoMemory>
+    ensures { IfOk result (λ clean. string_bytes clean ≡ clean_text text.now) }
 {
     let mut clean = String::new(alloc);
+    let mut is_after_return = false;
     for c in text.chars() {
-        push_clean(&mut clean, has_feeds, c)?;
+        push_clean(&mut clean, is_after_return, c)?;
+        is_after_return = c == '\r';
     }
     Ok(clean)
 }
 
-/// The text of a cell: UTF-8 if it is, and otherwise Windows-1252. Line feeds are its only line
-/// ends, and each other control character but the tab is a space. The only `Err` is out of memory.
+/// The text of a cell, as `read_text` reads it. Line feeds are its only line ends, one for each CR LF,
+/// CR or LF, and each other control character but the tab is a space. The only `Err` is out of
+/// memory.
 #[tactic(auto, unfolding(crate::specs::Cells::cell_text))]
 pub fn cell_text(alloc: Global, octets: &[u8]) -> Result<Text, NoMemory>
     ensures { IfOk result (λ text. text ≡ cell_text octets.now) }
 {
     let text = read_text(alloc, octets)?;
-    let has_feeds = has_line_feed(text.as_str());
-    Ok(Text::new(clean_text(alloc, text.as_str(), has_feeds)?))
+    Ok(Text::new(clean_text(alloc, text.as_str())?))
 }
 
 /// Whether the text is white space.

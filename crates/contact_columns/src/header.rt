@@ -1,7 +1,9 @@
 //! Where the header of a file of contacts is, and the delimiter of its cells.
 
+use crate::above::{ABOVE_MAX, AboveLine, lines_above};
 use crate::columns::{read_columns, unread_columns};
 use crate::dates::DateOrder;
+use crate::row_ends::rows_end_with_returns;
 use csv::{ByteRecord, ReaderBuilder};
 use std::alloc::Global;
 use vcard_text::{NoMemory, Text};
@@ -11,8 +13,10 @@ use vcard_text::{NoMemory, Text};
 pub struct Header<'a> {
     /// The number of octets before it: those of a mark, of a line `sep=;` or of notes.
     pub start: usize,
-    /// The number of line feeds before it.
+    /// The number of lines before it.
     pub lines: u64,
+    /// The lines before it, from the first on, and blank ones after them.
+    pub above: [AboveLine; ABOVE_MAX],
     /// The octet between cells.
     pub delimiter: u8,
     /// The number of its cells.
@@ -61,9 +65,11 @@ fn header_at(alloc: Global, octets: &[u8], wished: &str) -> Result<Option<(u8, u
     Ok(found)
 }
 
-/// The number of octets of the first line.
-fn line_len(octets: &[u8]) -> usize {
-    match octets.iter().position(|octet| *octet == b'\n') {
+/// The number of octets of the first line. `are_returns` says that lines end with a carriage return
+/// alone.
+pub(crate) fn line_len(octets: &[u8], are_returns: bool) -> usize {
+    let end = if are_returns { b'\r' } else { b'\n' };
+    match octets.iter().position(|octet| *octet == end) {
         Some(place) => place.saturating_add(1),
         None => octets.len(),
     }
@@ -78,20 +84,23 @@ pub fn find_header<'a>(
     head: &[u8],
     wished: &'a str,
 ) -> Result<Option<Header<'a>>, NoMemory> {
+    let are_returns = rows_end_with_returns(head);
     let mut start: usize = 0;
     for lines in 0..LINES_MAX {
         let rest = head.get(start..).unwrap_or(&[]);
         if let Some((delimiter, width)) = header_at(alloc, rest, wished)? {
+            let before = head.get(..start).unwrap_or(&[]);
             return Ok(Some(Header {
                 start,
                 lines,
+                above: lines_above(alloc, before, are_returns, delimiter, width)?,
                 delimiter,
                 width,
                 dates: DateOrder::Unknown,
                 wished,
             }));
         }
-        start = start.saturating_add(line_len(rest));
+        start = start.saturating_add(line_len(rest, are_returns));
     }
     Ok(None)
 }

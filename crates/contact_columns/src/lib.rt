@@ -2,6 +2,7 @@
 //! the texts of its cells.
 #![tactic(auto)]
 
+mod above;
 mod cell;
 mod columns;
 mod components;
@@ -15,6 +16,7 @@ mod mapping;
 mod meaning;
 mod numbered_names;
 mod outlook;
+mod row_ends;
 mod row_scan;
 mod row_text;
 mod slots;
@@ -23,6 +25,7 @@ mod targets;
 mod wish_faults;
 mod wishes;
 
+pub use above::AboveLine;
 pub use cell::{cell_text, is_void};
 pub use columns::{Column, ContactColumns, read_columns};
 pub use components::component_of;
@@ -32,8 +35,9 @@ pub use fields::row_field;
 pub use header::{Header, find_header, unknown_columns};
 pub use mapping::mapped_columns;
 pub use meaning::{Part, component_count};
+pub use row_ends::rows_end_with_returns;
 pub use row_scan::{RowEnd, row_end};
-pub use row_text::{BROKEN_ROW, RowText};
+pub use row_text::{BROKEN_ROW, LONG_ROW, RowText};
 pub use slots::{Slot, SlotColumn};
 pub use suggestion::suggested_columns;
 pub use wish_faults::wish_fault;

@@ -4,6 +4,9 @@
 /// closed.
 const CELL_LINES_MAX: u32 = 200;
 
+/// The byte order mark of UTF-8.
+const MARK: &[u8] = b"\xEF\xBB\xBF";
+
 /// Where an octet is in a row (RFC 4180).
 #[derive(Clone, Copy, PartialEq, Eq)]
 enum Place {
@@ -38,6 +41,9 @@ pub enum RowEnd {
     At(usize),
     /// A quote isn't closed, or not before text; the line in which it stands has this many octets.
     Broken(usize),
+    /// A cell in quotes has more than 200 lines, or its quote isn't closed. The line in which the
+    /// quote stands has this many octets.
+    Long(usize),
     /// A quote isn't closed so far. If it stays so, the line in which it stands has this many octets.
     Open(usize),
     /// A quote isn't closed, or not before text, and no line ends after it.
@@ -122,8 +128,10 @@ impl RowScan {
 
     /// The end of a row in which a quote isn't closed: that of the line in which the quote stands.
     fn broken_end(&self, octets: &[u8], from: usize) -> RowEnd {
-        if let Some(end) = self.cell_line {
-            return RowEnd::Broken(end);
+        match self.cell_line {
+            Some(end) if self.lines >= CELL_LINES_MAX => return RowEnd::Long(end),
+            Some(end) => return RowEnd::Broken(end),
+            None => {}
         }
         let rest = octets.get(from..).unwrap_or(&[]);
         match rest.iter().position(|octet| *octet == b'\n') {
@@ -142,12 +150,22 @@ impl RowScan {
     }
 }
 
+/// The number of octets of a byte order mark at the front, where a file was put after another one.
+pub(crate) fn mark_len(octets: &[u8]) -> usize {
+    if octets.starts_with(MARK) {
+        MARK.len()
+    } else {
+        0
+    }
+}
+
 /// Where the row at the front of the octets ends, as `RowText` cuts rows: `Open`, `Endless` and
-/// `Unended` are so only if no octets follow. `width` is the number of cells of the header.
+/// `Unended` are so only if no octets follow. A byte order mark may come before the row. `width` is
+/// the number of cells of the header.
 pub fn row_end(delimiter: u8, width: usize, octets: &[u8]) -> RowEnd {
     let mut scan = RowScan::new();
-    let mut after: usize = 0;
-    for octet in octets {
+    let mut after = mark_len(octets);
+    for octet in octets.get(after..).unwrap_or(&[]) {
         let octet = *octet;
         if scan.is_broken_by(delimiter, octet) {
             return scan.broken_end(octets, after);

@@ -1,6 +1,7 @@
 //! `RowText`: the text of a file of rows, in which a quote that isn't closed ends with its line.
 
-use crate::row_scan::{RowEnd, row_end};
+use crate::row_ends::{end_rows, first_end};
+use crate::row_scan::{RowEnd, mark_len, row_end};
 use import_text::{fill, joined};
 use std::alloc::Global;
 use std::io;
@@ -20,6 +21,10 @@ const READS_MAX: u32 = 1_000_000;
 /// end of the line. A NUL is in no cell that is carried.
 pub const BROKEN_ROW: &[u8] = b"\0\"";
 
+/// The cell that stands for a row with a cell of more than 200 lines, or with a quote that isn't
+/// closed. It begins as `BROKEN_ROW`.
+pub const LONG_ROW: &[u8] = b"\0\"L";
+
 /// What is done with the octets that come next.
 #[derive(Clone, Copy, PartialEq, Eq)]
 enum Mode {
@@ -31,12 +36,14 @@ enum Mode {
     DropsLine,
 }
 
-/// Reads the rows of a file, and gives them on as they are. For a row in which a quote isn't
-/// closed, or is followed by other text than a quote, a delimiter or the end of the line, it gives a
-/// row with the cell `BROKEN_ROW`, and reads on with the line after that of the quote. A quote is
-/// one that isn't closed if there are 200 lines or 8,388,608 octets after it, or if its row has
-/// several lines and not as many cells as the header. It gives as many line feeds as the file has,
-/// and at the end of a file that doesn't end with one, the end of its first line.
+/// Reads the rows of a file, and gives them on as they are, without a byte order mark. For a row in
+/// which a quote isn't closed, or is followed by other text than a quote, a delimiter or the end of
+/// the line, it gives a row with the cell `BROKEN_ROW`, and reads on with the line after that of
+/// the quote. A quote is one that isn't closed if there are 200 lines or 8,388,608 octets after it,
+/// or if its row has several lines and not as many cells as the header. With 200 lines, the cell is
+/// `LONG_ROW`. It gives as many line feeds as the file has, and at the end of a file that doesn't
+/// end with one, the end of its first line. Where the first line ends with a carriage return alone,
+/// each carriage return of the file counts as a line feed.
 #[derive(Drop)]
 pub struct RowText<R> {
     alloc: Global,
@@ -57,6 +64,8 @@ pub struct RowText<R> {
     is_line_ended: bool,
     /// Whether a carriage return is before the first line feed.
     has_returns: Option<bool>,
+    /// Whether lines end with a carriage return alone.
+    are_returns: Option<bool>,
 }
 
 fn no_memory() -> Error {
@@ -74,11 +83,11 @@ fn read_chunk<R: Read>(alloc: Global, reader: &mut R, size: usize) -> io::Result
     Ok(chunk)
 }
 
-/// The row that stands for octets of a broken one, with as many line feeds, and at least one if it
-/// ends its line.
-fn broken_row(alloc: Global, octets: &[u8]) -> io::Result<Vec<u8>> {
+/// The row with this cell that stands for octets of a broken one, with as many line feeds, and at
+/// least one if it ends its line.
+fn broken_row(alloc: Global, cell: &[u8], octets: &[u8]) -> io::Result<Vec<u8>> {
     let mut made = Vec::new(alloc);
-    if made.extend_from_slice(BROKEN_ROW).is_err() {
+    if made.extend_from_slice(cell).is_err() {
         return Err(no_memory());
     }
     for octet in octets {
@@ -121,6 +130,7 @@ impl<R: Read + Drop> RowText<R> {
             mode: Mode::Rows,
             is_line_ended: true,
             has_returns: None,
+            are_returns: None,
         }
     }
 
@@ -147,9 +157,14 @@ impl<R: Read + Drop> RowText<R> {
         let Ok(input) = joined(self.alloc, self.unread(), chunk.as_slice()) else {
             return Err(no_memory());
         };
+        let mut input = input;
         self.is_at_end = chunk.len() < size;
-        if let Some(last) = chunk.as_slice().last() {
-            self.is_line_ended = *last == b'\n';
+        self.are_returns = self.are_returns.or(first_end(input.as_slice()));
+        if self.are_returns == Some(true) {
+            end_rows(input.as_mut_slice());
+        }
+        if !chunk.is_empty() {
+            self.is_line_ended = input.as_slice().ends_with(b"\n");
         }
         self.has_returns = self.has_returns.or(has_returns(input.as_slice()));
         self.input = input;
@@ -157,10 +172,10 @@ impl<R: Read + Drop> RowText<R> {
         Ok(())
     }
 
-    /// Passes octets, and gives a broken row in their place.
-    fn break_row(&mut self, len: usize) -> io::Result<()> {
+    /// Passes octets, and gives a broken row with this cell in their place.
+    fn break_row(&mut self, cell: &[u8], len: usize) -> io::Result<()> {
         let front = self.unread().get(..len).unwrap_or(&[]);
-        let made = broken_row(self.alloc, front)?;
+        let made = broken_row(self.alloc, cell, front)?;
         self.made = made;
         self.given = 0;
         self.start = self.start.saturating_add(len);
@@ -170,15 +185,17 @@ impl<R: Read + Drop> RowText<R> {
     /// Finds what is given next of the octets that are unread. Returns false if it depends on what
     /// follows them.
     fn find_row(&mut self) -> io::Result<bool> {
+        self.start = self.start.saturating_add(mark_len(self.unread()));
         let len = self.unread().len();
         let is_last = self.is_at_end || len >= ROW_OCTETS_MAX;
         match row_end(self.delimiter, self.width, self.unread()) {
             RowEnd::At(end) => self.ready = end,
-            RowEnd::Broken(end) => self.break_row(end)?,
+            RowEnd::Broken(end) => self.break_row(BROKEN_ROW, end)?,
+            RowEnd::Long(end) => self.break_row(LONG_ROW, end)?,
             _ if !is_last => return Ok(false),
-            RowEnd::Open(end) => self.break_row(end)?,
+            RowEnd::Open(end) => self.break_row(BROKEN_ROW, end)?,
             RowEnd::Endless => {
-                self.break_row(len)?;
+                self.break_row(BROKEN_ROW, len)?;
                 self.mode = Mode::DropsLine;
             }
             RowEnd::Unended => {

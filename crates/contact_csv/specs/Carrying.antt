@@ -1,5 +1,5 @@
 -- How a card carries a cell: which line has its text, or which change reports it (RFC 6350,
--- sections 3.3 and 5; RFC 6868). This project's own.
+-- sections 3.3 and 5; RFC 6868).
 use Rattle.std.specs.Prelude.{ℕ, ◌≡◌, ◌⊎◌, Bool, true, false, ◌||◌, ◌&&◌, ◌==◌, List, [], ◌∷◌}
 use Rattle.std.specs.Prelude.{◌++◌, codes, bytes_eq, flat_map, map, get_or, Option, Some, None}
 use Rattle.std.specs.Prelude.{if◌then◌else◌}

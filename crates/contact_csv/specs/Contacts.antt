@@ -1,4 +1,4 @@
--- The contact of a row, and a reader of the rows of a file. This project's own.
+-- The contact of a row, and a reader of the rows of a file.
 use Rattle.std.specs.Prelude.{ℕ, ◌≡◌, ◌<◌, Bool, true, false, List, [], Option, length, get_or, map}
 use Rattle.std.specs.Prelude.{option_map}
 use Rattle.std.specs.Prelude.{Result, MatchResult}
@@ -15,7 +15,7 @@ use Rattle.vcard_import.specs.declared.change.Change.{Change}
 use Rattle.vcard_import.specs.declared.conversion.Conversion.{Conversion}
 use Rattle.contact_csv.specs.Carrying.{IsCarried, column_at}
 use Rattle.contact_columns.specs.Cells.{cell_text}
-use Rattle.contact_csv.specs.RowFaults.{has_nul, has_width, is_broken, is_empty_row}
+use Rattle.contact_csv.specs.RowFaults.{has_names, has_nul, has_width, is_broken, is_empty_row}
 use Rattle.contact_csv.specs.RowUids.{IsRowUid}
 use Rattle.contact_csv.specs.declared.row_fault.RowFault.{RowFault}
 use Rattle.contact_csv.specs.declared.row_fault.RowFault.TheVariants as row
@@ -45,11 +45,12 @@ IsFaulty columns fields row.Empty = is_empty_row fields ≡ true
 IsFaulty columns fields row.Broken = is_broken fields ≡ true
 IsFaulty columns fields (row.Nul place) = has_nul (get_or fields place []) ≡ true
 IsFaulty columns fields row.Width = has_width columns fields ≡ false
+IsFaulty columns fields row.Header = has_names columns fields ≡ true
 IsFaulty columns fields (row.Card fault) = IsRefused columns fields fault
 
 -- What the row becomes: its contact, or the fault for which it isn't converted.
-abbrev pub Becomes : List Column → List (List ℕ) → Result Conversion RowFault → Type 0
-Becomes columns fields row = MatchResult row
+abbrev pub BecomesContact : List Column → List (List ℕ) → Result Conversion RowFault → Type 0
+BecomesContact columns fields row = MatchResult row
     (λ made. IsContact columns fields made.card made.changes)
     (λ fault. IsFaulty columns fields fault)
 

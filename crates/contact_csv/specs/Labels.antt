@@ -1,5 +1,4 @@
--- Which types of vCard 4.0 a label of Google's is (RFC 6350, sections 5.6, 6.4.1 and 6.6.6). This
--- project's own.
+-- Which types of vCard 4.0 a label of Google's is (RFC 6350, sections 5.6, 6.4.1 and 6.6.6).
 use Rattle.std.specs.Prelude.{ℕ, List, [], ◌∷◌, codes, if◌then◌else◌}
 use Rattle.std.specs.Str.{str_eq_ignore_ascii_case}
 

@@ -1,7 +1,8 @@
--- Why a row isn't converted. This project's own.
-use Rattle.std.specs.Prelude.{ℕ, ◌==◌, Bool, List, [], ◌∷◌}
+-- Why a row isn't converted.
+use Rattle.std.specs.Prelude.{ℕ, ◌==◌, ◌||◌, Bool, List, [], ◌∷◌}
 use Rattle.std.specs.Prelude.{get_or, length, map, nat_eq}
 use Rattle.std.specs.List.{list_all, list_any, starts_with}
+use Rattle.std.specs.Str.{str_eq_ignore_ascii_case, trim}
 use Rattle.contact_columns.specs.Cells.{cell_text, is_void}
 use Rattle.contact_columns.specs.declared.columns.Column.{Column}
 
@@ -22,3 +23,12 @@ is_empty_row fields = list_all is_void (map cell_text fields)
 -- as many cells as the header
 abbrev pub has_width : List Column → List (List ℕ) → Bool
 has_width columns fields = length fields == length columns
+
+-- The cell has no value, or is the name of a column but for white space and the case of letters.
+abbrev pub is_name_of : List Column → List ℕ → Bool
+is_name_of columns cell = is_void cell
+    || list_any (λ column. str_eq_ignore_ascii_case column.name (trim cell)) columns
+
+-- each cell that has a value is the name of a column
+abbrev pub has_names : List Column → List (List ℕ) → Bool
+has_names columns fields = list_all (is_name_of columns) (map cell_text fields)

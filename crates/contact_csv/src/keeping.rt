@@ -46,7 +46,7 @@ fn name_char(c: char) -> char {
 }
 
 /// The name of the property that keeps a cell of the column: `X-` and the column's name.
-fn aside_name(alloc: Global, column: &str) -> Result<String, NoMemory>
+fn extension_name(alloc: Global, column: &str) -> Result<String, NoMemory>
     ensures { IfOk result (λ name. IsAsideName (string_bytes name)) }
 {
     let mut rest = String::new(alloc);
@@ -59,12 +59,12 @@ fn aside_name(alloc: Global, column: &str) -> Result<String, NoMemory>
 }
 
 /// The line that keeps a cell.
-fn aside_line(alloc: Global, column: &str, text: &str) -> Result<Line, NoMemory>
+fn extension_line(alloc: Global, column: &str, text: &str) -> Result<Line, NoMemory>
     ensures name { IfOk result (λ line. IsAsideName line.name) }
     ensures value { IfOk result (λ line. line.value ≡ escaped_value text.now) }
     ensures upper { IfOk result (λ line. upper_line line ≡ line) }
 {
-    let name = aside_name(alloc, column)?;
+    let name = extension_name(alloc, column)?;
     let value = escape(alloc, text)?;
     Ok(with_upper_name(plain_line(alloc, name.as_str(), value)?))
 }
@@ -161,7 +161,7 @@ impl Kept {
     ) -> Result<(), NoMemory>
         ensures { OnOk result (KeepsAside place text.now self.old self.new) }
     {
-        let line = aside_line(alloc, column, text)?;
+        let line = extension_line(alloc, column, text)?;
         self.lines.push(line)?;
         self.report(place, ChangeKind::KeptAside)
     }

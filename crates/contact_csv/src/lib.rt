@@ -19,7 +19,8 @@ mod uid;
 mod values;
 
 pub use contact_columns::{
-    Column, ContactColumns, DateOrder, Header, find_header, read_columns, read_date_order,
+    AboveLine, Column, ContactColumns, DateOrder, Header, find_header, read_columns,
+    read_date_order,
 };
 pub use conversion::convert_row;
 pub use fault::ContactFault;

@@ -4,7 +4,8 @@ ghost use Rattle.std.specs.List.{list_all};
 ghost use Rattle.csv.specs.Records.{fields_of};
 ghost use Rattle.contact_columns.specs.Cells.{cell_text, is_void};
 ghost use Rattle.contact_csv.specs.Contacts.{IsFaulty};
-ghost use Rattle.contact_csv.specs.RowFaults.{has_nul, has_width, is_broken};
+ghost use Rattle.contact_csv.specs.RowFaults.{has_names, has_nul, has_width, is_broken};
+ghost use Rattle.contact_csv.specs.RowFaults.{is_name_of};
 
 use contact_columns::{Column, is_void, row_field};
 use csv::ByteRecord;
@@ -21,6 +22,8 @@ pub enum RowFault {
     Nul(usize),
     /// It has more or fewer cells than the header.
     Width,
+    /// Its cells are the names of the columns, in any order: it is the header again.
+    Header,
     /// Its contact is no card.
     Card(CardFault),
 }
@@ -64,6 +67,31 @@ fn has_width(columns: &[Column], row: &ByteRecord) -> bool
     row.len() == columns.len()
 }
 
+/// Whether the cell has no value, or is the name of a column.
+fn is_name_of(columns: &[Column], cell: &str) -> bool
+    ensures { result ≡ is_name_of columns.now cell.now }
+{
+    let name = cell.trim();
+    is_void(cell)
+        || columns
+            .iter()
+            .any(|column| column.name.as_str().eq_ignore_ascii_case(name))
+}
+
+/// Whether each cell that has a value is the name of a column.
+fn has_names(columns: &[Column], cells: &[Text]) -> bool
+    ensures { result ≡ list_all (is_name_of columns.now) cells.now }
+{
+    cells.iter().all(|cell| is_name_of(columns, cell.as_str()))
+}
+
+/// Whether at least as many cells have a value as columns have a name.
+fn has_as_many(columns: &[Column], cells: &[Text]) -> bool {
+    let filled = cells.iter().filter(|cell| !is_void(cell.as_str())).count();
+    let named = columns.iter().filter(|it| !it.name.is_empty()).count();
+    filled >= named
+}
+
 /// Why the row isn't converted, whatever its contact is. `cells` are the texts of its cells.
 pub(crate) fn fault_of_row(columns: &[Column], row: &ByteRecord, cells: &[Text]) -> Option<RowFault>
     requires { cells.now ≡ map cell_text (fields_of row.now) }
@@ -80,6 +108,9 @@ pub(crate) fn fault_of_row(columns: &[Column], row: &ByteRecord, cells: &[Text])
     }
     if !has_width(columns, row) {
         return Some(RowFault::Width);
+    }
+    if has_names(columns, cells) && has_as_many(columns, cells) {
+        return Some(RowFault::Header);
     }
     None
 }

@@ -2,14 +2,14 @@
 ghost use Rattle.std.specs.Prelude.{◌≡◌, ℕ, List, IfOk, IfSome, IfNone, true, false};
 ghost use Rattle.csv.specs.Reading.{ReadRecord};
 ghost use Rattle.csv.specs.Records.{fields_of};
-ghost use Rattle.contact_csv.specs.Contacts.{Becomes, IsFaulty, IsReady, HasReadHeader};
+ghost use Rattle.contact_csv.specs.Contacts.{BecomesContact, IsFaulty, IsReady, HasReadHeader};
 ghost use Rattle.contact_csv.specs.Contacts.{rows_of, columns_of, delimiter_of};
 
 use crate::conversion::{convert_row, row_cells};
 use crate::fault::ContactFault;
 use crate::owners::Owners;
 use crate::row_fault::{RowFault, fault_of_row, is_broken};
-use contact_columns::{ContactColumns, Header, read_columns, row_field};
+use contact_columns::{ContactColumns, Header, LONG_ROW, read_columns, row_field};
 use csv::{ByteRecord, Error, ErrorKind, Reader, ReaderBuilder};
 use std::alloc::Global;
 use std::io::Read;
@@ -129,6 +129,11 @@ impl<R: Read + Drop> ContactReader<R> {
         self.end_line().saturating_sub(lines)
     }
 
+    /// Whether the last row is broken and may have a cell of more than 200 lines (see `RowText`).
+    pub fn may_be_long(&self) -> bool {
+        row_field(&self.row, 0).starts_with(LONG_ROW)
+    }
+
     /// Reads the next row, and returns whether there is one.
     fn read_row(&mut self) -> Result<bool, ContactFault>
         ensures row { IfOk result (λ found. IsReady self.old → ReadRecord R.remaining
@@ -148,7 +153,7 @@ impl<R: Read + Drop> ContactReader<R> {
         alloc: Global,
         may_own: bool,
     ) -> Result<Result<Conversion, RowFault>, ContactFault>
-        ensures { IfOk result (Becomes (columns_of self.now) (fields_of self.now.row)) }
+        ensures { IfOk result (BecomesContact (columns_of self.now) (fields_of self.now.row)) }
     {
         if let Some(fault) = self.row_fault(alloc)? {
             return Ok(Err(fault));
@@ -186,7 +191,7 @@ impl<R: Read + Drop> ContactReader<R> {
         ensures row { IfOk result (λ read. IfSome read (λ row.
             IsReady self.old → (fields : List (List ℕ))
             × ReadRecord R.remaining (rows_of self.old) (rows_of self.new) true fields
-            × Becomes (columns_of self.old) fields row)) }
+            × BecomesContact (columns_of self.old) fields row)) }
 
         // `None` comes only after the last record.
         ensures end { IfOk result (λ read. IfNone read (IsReady self.old → (fields : List (List ℕ))

@@ -7,7 +7,7 @@ mod streams;
 
 use base_types::Text;
 use cli_args::{LineFault, Order};
-use cli_convert::{DateOrder, RowsOutlet, Wanted, run_convert};
+use cli_convert::{ConvertOptions, DateOrder, RowsSink, run_convert};
 use cli_host::{note_waiting, order_of_args, run_and_report};
 use file_host::FileHost;
 use std::env;
@@ -35,7 +35,7 @@ fn date_order(day_first: bool, month_first: bool) -> Option<DateOrder> {
 }
 
 /// What to convert, if that is the order.
-fn conversion_of(order: &Result<Order, LineFault>) -> Option<Wanted<'_>> {
+fn conversion_of(order: &Result<Order, LineFault>) -> Option<ConvertOptions<'_>> {
     match order {
         Ok(
             Order::Convert {
@@ -50,7 +50,7 @@ fn conversion_of(order: &Result<Order, LineFault>) -> Option<Wanted<'_>> {
                 charset,
                 report,
             },
-        ) => Some(Wanted {
+        ) => Some(ConvertOptions {
             file: file.as_str(),
             more: more.as_slice(),
             folder: given(folder),
@@ -66,8 +66,8 @@ fn conversion_of(order: &Result<Order, LineFault>) -> Option<Wanted<'_>> {
 }
 
 /// Converts, and returns the exit status.
-fn convert(rt: &HostRuntime, wanted: Wanted<'_>) -> u8 {
-    let mut rows = RowsOutlet {
+fn convert(rt: &HostRuntime, wanted: ConvertOptions<'_>) -> u8 {
+    let mut rows = RowsSink {
         writer: rt.stdout(),
     };
     run_convert(rt.alloc(), rt, wanted, &mut rows, rt.stderr())

@@ -1,4 +1,4 @@
--- The reply to a request for a conversion. This project's own.
+-- The reply to a request for a conversion.
 use Rattle.std.specs.Prelude.{ℕ, ◌≡◌, Bool, true, false, List, Result, Ok, Err, bytes_eq, codes}
 use Rattle.convert_posts.specs.ConvertRequests.{asked_in, is_for_convert}
 use Rattle.convert_posts.specs.PartValues.{part_value, unconverted_value}

@@ -1,4 +1,4 @@
--- Requests for a conversion: their path, and what they ask for. This project's own.
+-- Requests for a conversion: their path, and what they ask for.
 use Rattle.std.specs.Prelude.{ℕ, Bool, true, false, ◌==◌, List, [], ◌∷◌, Option, Some, None}
 use Rattle.std.specs.Prelude.{Result, Ok, Err, bytes_eq, codes, unwrap_or, if◌then◌else◌}
 use Rattle.contact_columns.specs.declared.dates.DateOrder.{DateOrder}

@@ -1,4 +1,4 @@
--- What became of a part of a file. This project's own.
+-- What became of a part of a file.
 use Rattle.std.specs.Prelude.{ℕ, Bool, ◌≡◌, ◌≢◌, ◌≤◌, List, [], ◌∷◌, ◌++◌, Option, Some}
 use Rattle.std.specs.Prelude.{length, map, take}
 use Rattle.std.specs.List.{AllByRecursion, AllPairs}

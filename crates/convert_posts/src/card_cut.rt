@@ -4,7 +4,7 @@ ghost use Rattle.std.specs.Prelude.{◌≤◌, IfOk, length};
 use crate::cut::{Cut, Front, PIECE_OCTETS_MAX, PIECES_MAX};
 use crate::weight::card_weight;
 use base_types::NoMemory;
-use import_text::{is_card, split_piece};
+use import_text::{is_card, split_text};
 use std::alloc::Global;
 
 /// The first octets, at most `most`.
@@ -22,7 +22,7 @@ pub(crate) fn front(octets: &[u8], most: usize) -> &[u8]
 fn front_of(text: &[u8], more: bool) -> Front {
     let window = front(text, PIECE_OCTETS_MAX);
     let is_whole_text = window.len() == text.len();
-    let (piece, after) = split_piece(window);
+    let (piece, after) = split_text(window);
     if after.contains(&b'\n') || is_whole_text && !more {
         return Front::Whole(piece.len());
     }

@@ -6,6 +6,8 @@ ghost use Rattle.convert_posts.specs.declared.part.Kind.TheVariants as TheKind;
 
 use crate::asked::Asked;
 use crate::card_cut::front;
+use crate::card_part::read_all;
+use crate::content::HEAD_OCTETS;
 use crate::converted::{Converted, convert_rows};
 use crate::cut::{Cut, count_feeds};
 use crate::frame::{Frame, finished_part, open_part, small_part};
@@ -13,8 +15,9 @@ use crate::part::{Dates, Kind, Part};
 use crate::row_cut::{RowKind, cut_rows, header_len};
 use crate::row_list::Origin;
 use base_types::{NoMemory, Text};
-use contact_columns::{DateOrder, RowText, mapped_columns, read_date_order};
-use contact_csv::{ContactFault, ContactReader, Header};
+use card_conversion::LineEnds;
+use contact_columns::{DateOrder, RowText, mapped_columns, read_date_order, rows_end_with_returns};
+use contact_csv::{AboveLine, ContactFault, ContactReader, Header};
 use std::alloc::Global;
 
 /// The header with this order of day and month.
@@ -22,6 +25,7 @@ fn header_with(header: Header<'_>, dates: DateOrder) -> Header<'_> {
     Header {
         start: header.start,
         lines: header.lines,
+        above: header.above,
         delimiter: header.delimiter,
         width: header.width,
         dates,
@@ -61,18 +65,26 @@ fn order_of(dates: Dates) -> DateOrder {
     }
 }
 
-/// Where a part of rows is in its file. `before` are the octets up to the end of the header. In a
-/// later part they stand there again, and the part's lines begin after them.
-pub(crate) fn origin_of(asked: &Asked, before: &[u8]) -> Origin {
+/// The lines above the header that are told with a part: all with the first part, which begins with
+/// them, and none with a later one.
+fn lines_told<'a>(asked: &Asked, header: &'a Header<'_>) -> &'a [AboveLine] {
+    if asked.line > 1 { &[] } else { &header.above }
+}
+
+/// Whether lines above the header are told with a part.
+fn tells_lines(asked: &Asked, header: &Header<'_>) -> bool {
+    let lines = lines_told(asked, header);
+    lines.iter().any(|line| *line != AboveLine::Blank)
+}
+
+/// Where a part of rows is in its file. `feeds` is the number of lines up to the end of the header.
+/// In a later part they stand there again, and the part's lines begin after them.
+pub(crate) fn origin_of(asked: &Asked, feeds: u64) -> Origin {
     let origin = asked.origin();
     Origin {
         card: origin.card,
         line: origin.line,
-        feeds: if asked.line > 1 {
-            count_feeds(before)
-        } else {
-            0
-        },
+        feeds: if asked.line > 1 { feeds } else { 0 },
     }
 }
 
@@ -119,7 +131,8 @@ fn convert_contacts_in(
         return Ok(None);
     };
     let columns = mapped_columns(alloc, contacts.columns())?;
-    match convert_rows(alloc, contacts, origin, starts)? {
+    let above = lines_told(asked, &header);
+    match convert_rows(alloc, above, contacts, origin, starts)? {
         Some(converted) => Ok(Some(Contacts {
             converted,
             columns,
@@ -156,6 +169,85 @@ fn convert_cut(
     }
 }
 
+/// The front of a body of contacts.
+#[derive(Drop)]
+struct RowsCut {
+    /// The number of octets up to the end of the header.
+    header: usize,
+    /// The number of lines in them.
+    feeds: u64,
+    /// The number of octets that are converted at once.
+    taken: usize,
+    /// The rows.
+    cut: Cut,
+}
+
+/// The front of a text of contacts whose lines end with line feeds.
+fn cut_text(alloc: Global, text: &[u8], header: Header<'_>, more: bool) -> Result<RowsCut, NoMemory>
+    ensures { IfOk result (λ rows. rows.taken ≤ length text.now) }
+{
+    let kind = RowKind::Contacts(header.delimiter, header.width);
+    let from_header = text.get(header.start..).unwrap_or(&[]);
+    let end = header.start.saturating_add(header_len(kind, from_header));
+    let (taken, cut) = cut_rows(alloc, kind, text, end, more)?;
+    Ok(RowsCut {
+        header: end,
+        feeds: count_feeds(front(text, end)),
+        taken,
+        cut,
+    })
+}
+
+/// The front of a body of contacts.
+fn cut_body(alloc: Global, body: &[u8], header: Header<'_>, more: bool) -> Result<RowsCut, NoMemory>
+    ensures { IfOk result (λ rows. rows.taken ≤ length body.now) }
+{
+    if !rows_end_with_returns(front(body, HEAD_OCTETS)) {
+        return cut_text(alloc, body, header, more);
+    }
+    let reader = LineEnds {
+        reader: body,
+        are_returns: true,
+    };
+    let text = read_all(alloc, reader)?;
+    let rows = cut_text(alloc, text.as_slice(), header, more)?;
+    Ok(RowsCut {
+        header: rows.header,
+        feeds: rows.feeds,
+        taken: front(body, rows.taken).len(),
+        cut: rows.cut,
+    })
+}
+
+/// Converts no row, but tells the lines above the header. The first row is too large, so that it is
+/// told with the next part.
+fn header_part(
+    alloc: Global,
+    asked: &Asked,
+    body: &[u8],
+    header: Header<'_>,
+    rows: &RowsCut,
+) -> Result<Option<Part>, NoMemory>
+    ensures { IfOk result (λ done. IfSome done (IsPart body.now)) }
+{
+    let frame = Frame {
+        kind: Kind::Contacts,
+        header: rows.header,
+        taken: front(body, rows.header).len(),
+        origin: origin_of(asked, rows.feeds),
+        cards: 0,
+        feeds: rows.feeds,
+    };
+    convert_cut(
+        alloc,
+        asked,
+        body,
+        header,
+        frame,
+        &Cut::after(alloc, rows.feeds),
+    )
+}
+
 /// Converts the front of a body of contacts. `None` if it can't be read.
 pub(crate) fn contacts_part(
     alloc: Global,
@@ -165,21 +257,21 @@ pub(crate) fn contacts_part(
 ) -> Result<Option<Part>, NoMemory>
     ensures { IfOk result (λ done. IfSome done (IsPart body.now)) }
 {
-    let kind = RowKind::Contacts(header.delimiter, header.width);
-    let from_header = body.get(header.start..).unwrap_or(&[]);
-    let end = header.start.saturating_add(header_len(kind, from_header));
-    let (taken, cut) = cut_rows(alloc, kind, body, end, asked.more)?;
-    if asked.more && cut.is_empty() {
+    let rows = cut_body(alloc, body, header, asked.more)?;
+    if rows.cut.passed.is_some() && tells_lines(asked, &header) {
+        return header_part(alloc, asked, body, header, &rows);
+    }
+    if asked.more && rows.cut.is_empty() {
         let part = open_part(alloc, asked, Kind::Contacts)?;
         return Ok(Some(part));
     }
     let frame = Frame {
         kind: Kind::Contacts,
-        header: end,
-        taken,
-        origin: origin_of(asked, front(body, end)),
-        cards: cut.starts.len() as u64,
-        feeds: cut.feeds,
+        header: rows.header,
+        taken: rows.taken,
+        origin: origin_of(asked, rows.feeds),
+        cards: rows.cut.starts.len() as u64,
+        feeds: rows.cut.feeds,
     };
-    convert_cut(alloc, asked, body, header, frame, &cut)
+    convert_cut(alloc, asked, body, header, frame, &rows.cut)
 }

@@ -5,7 +5,7 @@ use crate::card_cut::front;
 use crate::unconverted::Unconverted;
 use base_types::NoMemory;
 use card_conversion::foreign_format;
-use contact_columns::wish_fault;
+use contact_columns::{rows_end_with_returns, wish_fault};
 use contact_csv::{Header, find_header};
 use csv_cards::is_export;
 use import_text::{begins_with_word, is_card, split_piece};
@@ -58,9 +58,9 @@ pub(crate) enum NotContent {
     Header,
 }
 
-/// The first line with its end, and the octets after it.
-fn split_line(octets: &[u8]) -> (&[u8], &[u8]) {
-    match octets.iter().position(|octet| *octet == b'\n') {
+/// The first line with the octet that ends it, and the octets after it.
+fn split_line(octets: &[u8], end: u8) -> (&[u8], &[u8]) {
+    match octets.iter().position(|octet| *octet == end) {
         Some(place) => {
             let len = place.saturating_add(1);
             (front(octets, len), octets.get(len..).unwrap_or(&[]))
@@ -97,9 +97,14 @@ impl Texts {
 /// The most cells of a line among which a header is, and the most of them that aren't of ASCII.
 fn widest_line(head: &[u8]) -> Texts {
     let mut most = Texts { all: 0, wide: 0 };
+    let end = if rows_end_with_returns(head) {
+        b'\r'
+    } else {
+        b'\n'
+    };
     let mut rest = head;
     for _line in 0..HEAD_LINES {
-        let (line, after) = split_line(rest);
+        let (line, after) = split_line(rest, end);
         let cells = Texts::count(line, b",;\t|");
         most.all = most.all.max(cells.all);
         most.wide = most.wide.max(cells.wide);

@@ -1,5 +1,5 @@
 //! Converts the text of a part.
-ghost use Rattle.std.specs.Prelude.{IfOk, IfSome};
+ghost use Rattle.std.specs.Prelude.{ℕ, List, Some, IfOk, IfSome};
 ghost use Rattle.contact_csv.specs.Contacts.{IsReady};
 ghost use Rattle.convert_posts.specs.Parts.{IsOfContacts, IsOfPieces};
 
@@ -8,9 +8,11 @@ use crate::row_list::{Origin, RowList};
 use base_types::{Items, NoMemory};
 use card_conversion::laws::written_cards_differ;
 use card_conversion::{
-    ConversionFault, Course, Report, Summary, convert_more_cards, convert_more_contacts,
+    ConversionFault, Course, Report, Summary, convert_contacts_under, convert_more_cards,
+    convert_more_exports,
 };
-use contact_csv::ContactReader;
+use contact_csv::{AboveLine, ContactReader};
+use csv_cards::ExportRows;
 use std::alloc::Global;
 use std::io;
 use std::io::Read;
@@ -60,9 +62,41 @@ pub(crate) fn convert_pieces<R: Read + Drop>(
     }
 }
 
-/// Converts contacts. `None` if the reader fails.
+/// Converts the cards in rows of an export. `None` if the reader fails.
+pub(crate) fn convert_exports<R: Read + Drop>(
+    alloc: Global,
+    cards: ExportRows<R>,
+    origin: Origin,
+    starts: &[u64],
+) -> Result<Option<Converted>, NoMemory>
+    ensures { IfOk result (λ done. IfSome done (λ it.
+        (text : List ℕ) × IsOfPieces (Some text) it.summary it.rows)) }
+{
+    written_cards_differ();
+    let mut rows = RowList::new(alloc, origin, starts);
+    let mut lines = Vec::new(alloc);
+    let mut report = Report::new(alloc, io::sink());
+    report.set_file(Some(&mut lines));
+    let mut course = Course::new(alloc);
+    match convert_more_exports(alloc, &mut course, cards, &mut rows, &mut report) {
+        Ok(()) => {
+            drop(report);
+            Ok(Some(Converted {
+                summary: course.summary(),
+                rows: rows.rows,
+                report: lines,
+            }))
+        }
+        Err(fault) if is_memory(&fault) => Err(NoMemory),
+        Err(_) => Ok(None),
+    }
+}
+
+/// Converts contacts, which come after a header that is under these lines. `None` if the reader
+/// fails.
 pub(crate) fn convert_rows<R: Read + Drop>(
     alloc: Global,
+    above: &[AboveLine],
     reader: ContactReader<R>,
     origin: Origin,
     starts: &[u64],
@@ -76,7 +110,7 @@ pub(crate) fn convert_rows<R: Read + Drop>(
     let mut report = Report::new(alloc, io::sink());
     report.set_file(Some(&mut lines));
     let mut course = Course::new(alloc);
-    match convert_more_contacts(alloc, &mut course, reader, &mut rows, &mut report) {
+    match convert_contacts_under(alloc, &mut course, above, reader, &mut rows, &mut report) {
         Ok(()) => {
             drop(report);
             Ok(Some(Converted {

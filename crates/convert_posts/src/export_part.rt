@@ -4,27 +4,22 @@ ghost use Rattle.convert_posts.specs.Parts.{IsPart};
 
 use crate::asked::Asked;
 use crate::card_cut::front;
-use crate::card_part::read_all;
 use crate::contact_part::origin_of;
-use crate::converted::convert_pieces;
+use crate::converted::convert_exports;
 use crate::cut::{Cut, count_feeds};
 use crate::frame::{Frame, finished_part, open_part, small_part};
 use crate::part::{Dates, Kind, Part};
 use crate::row_cut::{RowKind, cut_rows, header_len};
 use base_types::{NoMemory, Text};
-use csv_cards::ExportText;
+use csv_cards::{ExportRow, ExportRows};
 use import_text::{is_card, split_piece};
 use std::alloc::Global;
-use std::io::Read;
+use std::io::ErrorKind;
 
-/// What stands for the header before the text of the cards.
-const HEADER_LINE: &[u8] = b"\n";
-
-/// For each card of a text the number of line feeds before it.
-fn starts_in(alloc: Global, text: &[u8]) -> Result<Vec<u64>, NoMemory> {
-    let mut starts = Vec::new(alloc);
-    let mut feeds: u64 = 0;
-    let mut rest = text;
+/// Adds for each card of a row the number of line feeds before it.
+fn add_starts(starts: &mut Vec<u64>, row: &ExportRow) -> Result<(), NoMemory> {
+    let mut feeds = row.line.saturating_sub(1);
+    let mut rest = row.text.as_slice();
     for _piece in 0..u64::MAX {
         if rest.is_empty() {
             break;
@@ -35,6 +30,21 @@ fn starts_in(alloc: Global, text: &[u8]) -> Result<Vec<u64>, NoMemory> {
         }
         feeds = feeds.saturating_add(count_feeds(piece));
         rest = after;
+    }
+    Ok(())
+}
+
+/// For each card in the rows of a text the number of line feeds before it. Rows that can't be read
+/// have none.
+fn starts_in(alloc: Global, text: &[u8]) -> Result<Vec<u64>, NoMemory> {
+    let mut rows = ExportRows::new(alloc, text);
+    let mut starts = Vec::new(alloc);
+    for _row in 0..u64::MAX {
+        match rows.next_row(alloc) {
+            Ok(Some(row)) => add_starts(&mut starts, &row)?,
+            Err(error) if error.kind() == ErrorKind::OutOfMemory => return Err(NoMemory),
+            _ => break,
+        }
     }
     Ok(starts)
 }
@@ -51,22 +61,21 @@ fn convert_cut(
     requires { taken ≤ length body.now }
     ensures { IfOk result (λ done. IfSome done (IsPart body.now)) }
 {
-    let cards = ExportText::new(alloc, front(body, taken));
-    let text = read_all(alloc, HEADER_LINE.chain(cards))?;
-    let text = text.as_slice();
+    let text = front(body, taken);
     let starts = starts_in(alloc, text)?;
     let frame = Frame {
         kind: Kind::Rows,
         header,
         taken,
-        origin: origin_of(asked, front(body, header)),
+        origin: origin_of(asked, count_feeds(front(body, header))),
         cards: starts.len() as u64,
         feeds: count_feeds(text),
     };
     if let Some(part) = small_part(alloc, frame, cut)? {
         return Ok(Some(part));
     }
-    match convert_pieces(alloc, text, frame.origin, starts.as_slice())? {
+    let rows = ExportRows::new(alloc, text);
+    match convert_exports(alloc, rows, frame.origin, starts.as_slice())? {
         Some(converted) => {
             let columns = Text::copy_of(alloc, "")?;
             let part = finished_part(alloc, frame, converted, columns, Dates::None)?;

@@ -47,7 +47,7 @@ fn contact_row_len(delimiter: u8, width: usize, text: &[u8], is_last: bool) -> O
             len,
             is_broken: false,
         }),
-        RowEnd::Broken(len) => Some(RowLen {
+        RowEnd::Broken(len) | RowEnd::Long(len) => Some(RowLen {
             len,
             is_broken: true,
         }),
@@ -99,8 +99,9 @@ impl RowKind {
     }
 }
 
-/// Whether the row has no cells. It isn't counted.
+/// Whether the row has no cells, perhaps after a byte order mark. It isn't counted.
 fn is_blank(row: &[u8]) -> bool {
+    let row = row.strip_prefix(b"\xEF\xBB\xBF").unwrap_or(row);
     row.iter().all(|octet| *octet == b'\r' || *octet == b'\n')
 }
 

@@ -1,10 +1,10 @@
-//! `RowList`: an outlet that keeps the cards of a part.
+//! `RowList`: a sink that keeps the cards of a part.
 ghost use Rattle.std.specs.Prelude.{◌≡◌, [], IfOk};
 ghost use Rattle.vcard_text.specs.Cards.{canonical_text};
 
 use crate::part::CardRow;
 use base_types::{Items, NoMemory, Text};
-use card_conversion::{Delivery, Outlet, OutletFault};
+use card_conversion::{CardSink, Delivery, SinkFault};
 use std::alloc::Global;
 use vcard_text::{Card, write_card};
 
@@ -69,12 +69,12 @@ impl<'a> RowList<'a> {
     }
 }
 
-impl<'a> Outlet for RowList<'a> {
+impl<'a> CardSink for RowList<'a> {
     ghost use Rattle.convert_posts.specs.Parts.{AddsRow};
 
     ghost writes = { λ card before after. AddsRow card before.rows after.rows };
 
-    fn put(&mut self, alloc: Global, number: u64, card: &Card) -> Result<Delivery, OutletFault> {
+    fn put(&mut self, alloc: Global, number: u64, card: &Card) -> Result<Delivery, SinkFault> {
         let row = CardRow {
             card: self.origin.card_at(number),
             line: self.line_of(number),
@@ -83,7 +83,7 @@ impl<'a> Outlet for RowList<'a> {
         };
         match self.rows.push(row) {
             Ok(()) => Ok(Delivery::Written),
-            Err(_) => Err(OutletFault::Memory),
+            Err(_) => Err(SinkFault::Memory),
         }
     }
 }

@@ -1,4 +1,4 @@
--- The numbers of the causes for which a row isn't a card. This project's own.
+-- The numbers of the causes for which a row isn't a card.
 use Rattle.std.specs.Prelude.{ℕ, ◌+◌}
 use Rattle.vcard_lines.specs.FaultNumbers.{card_fault_number}
 use Rattle.vcard_lines.specs.declared.fault.CardFault.{CardFault}

@@ -1,5 +1,5 @@
 -- The property lines of a row of form Columns: which column becomes which line (RFC 6350, section
--- 6). This project's own.
+-- 6).
 use Rattle.std.specs.Prelude.{ℕ, Bool, false, ◌==◌, ◌&&◌, List, [], ◌∷◌, ◌++◌, codes, None}
 use Rattle.std.specs.Prelude.{if◌then◌else◌, length}
 use Rattle.std.specs.Str.{chars, encode_utf8_all}

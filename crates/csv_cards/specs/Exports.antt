@@ -1,4 +1,4 @@
--- Which files have rows of cards. This project's own.
+-- Which files have rows of cards.
 use Rattle.std.specs.Prelude.{ℕ, Bool, true, ◌||◌, ◌&&◌, ◌==◌, nat_eq}
 use Rattle.std.specs.Prelude.{List, [], ◌∷◌, codes, drop}
 use Rattle.std.specs.List.{starts_with}

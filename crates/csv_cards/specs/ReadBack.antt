@@ -1,4 +1,4 @@
--- Maps in which each card is under its own UID. Their CSV text is read back. This project's own.
+-- Maps in which each card is under its own UID. Their CSV text is read back.
 use Rattle.std.specs.Prelude.{ℕ, ◌≡◌, List}
 use Rattle.std.specs.List.{AllByRecursion}
 use Rattle.std.specs.FinMap as finite

@@ -1,4 +1,4 @@
--- The cards that a CSV text represents, or its first faulty row and the cause. This project's own.
+-- The cards that a CSV text represents, or its first faulty row and the cause.
 use Rattle.std.specs.Prelude.{ℕ, ◌≡◌, ◌≢◌, ◌≤◌, ◌⊎◌, ◌+◌, List, [], ◌∷◌, ◌++◌, length, map}
 use Rattle.std.specs.List.{AllPairs, Contains}
 use Rattle.csv.specs.Records.{AllText}

@@ -1,5 +1,5 @@
 -- The rows of a CSV text, as the library `csv` defines its records (RFC 4180), and the header rows
--- of the two forms. This project's own.
+-- of the two forms.
 use Rattle.std.specs.Prelude.{ℕ, List, [], ◌∷◌, codes, get_or}
 use Rattle.csv.specs.Reading.{AreRecords, Reached, default_config, strip_bom}
 use Rattle.csv.specs.declared.parser.State.{State}

@@ -1,4 +1,4 @@
--- The CSV text of cards, in each form. This project's own.
+-- The CSV text of cards, in each form.
 use Rattle.std.specs.Prelude.{ℕ, List, [], ◌∷◌, map, flat_map, codes, get_or}
 use Rattle.std.specs.Option.{option_map_or}
 use Rattle.csv.specs.Writing.{default_writer, row_text}

@@ -4,7 +4,7 @@
 
 mod cause;
 mod columns;
-mod export_text;
+mod export_rows;
 mod fault;
 mod form;
 pub mod laws;
@@ -15,7 +15,7 @@ mod row;
 mod writing;
 
 pub use cause::CsvCause;
-pub use export_text::{ExportText, is_export};
+pub use export_rows::{ExportRow, ExportRows, is_export};
 pub use fault::CsvFault;
 pub use form::Form;
 pub use order::CardsInOrder;

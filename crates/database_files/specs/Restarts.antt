@@ -1,5 +1,4 @@
 -- What the files of a database hold between two runs of a program, and what the next run opens.
--- This project's own.
 use Rattle.std.specs.Prelude.{◌≡◌, ◌⊎◌}
 use Rattle.sqlite.specs.Effect.{Database}
 use Rattle.sqlite.specs.Files.{HoldsDatabase, IsFullLeft, faults_left, faults_of}

@@ -1,8 +1,7 @@
--- What is known of the host that the program runs on. This project's own.
+-- What is known of the host that the program runs on.
 use Rattle.std.specs.Prelude.{⊤, List, [], ◌∷◌}
 use Rattle.std.specs.declared.net.ip_addr.IpAddr.{IpAddr}
 use Rattle.std.specs.declared.net.ip_addr.IpAddr.TheVariants.{V4}
-use Rattle.book_model.specs.Bounds.{Bounds}
 use Rattle.cli_host.specs.Hosts.{HostCall}
 use Rattle.cli_orders.specs.declared.stop.Stop.{Stop}
 use Rattle.cli_orders.specs.declared.stop.Stop.TheVariants.{Device}
@@ -27,13 +26,3 @@ loopback_ip = V4 (record { octets = 127 ∷ 0 ∷ 0 ∷ 1 ∷ [] })
 abbrev pub stop_of_binding : BindFault → Stop
 stop_of_binding bind.Memory = out_of_memory
 stop_of_binding bind.Device = Device
-
--- the limits of the stores that the program creates and opens
-abbrev pub standard_limits : Bounds
-standard_limits = record {
-  page_max = 100;
-  cards_max = 10000;
-  changes_max = 1000000000000;
-  books_max = 100;
-  keep = 10000;
-}

@@ -1,6 +1,6 @@
 //! The host that the program runs on.
 ghost use Rattle.std.specs.Prelude.{◌≡◌, IfOk};
-ghost use Rattle.file_host.specs.FileHosts.{standard_limits};
+ghost use Rattle.book_model.specs.Bounds.{standard_limits};
 
 use crate::causes::{port_cause, rows_cause, socket_cause, store_cause};
 use crate::ports::{listen_at, listener_at};

@@ -1,5 +1,4 @@
--- Fronts: what answers some requests itself, and a handler with a front before it. This project's
--- own.
+-- Fronts: what answers some requests itself, and a handler with a front before it.
 use Rattle.std.specs.Prelude.{◌≡◌, ℕ, Bool, true, false, List, Option, Some, None}
 use Rattle.http_requests.specs.HandlerRuns.{HandlerRelation}
 use Rattle.http_requests.specs.declared.head.Head.{Head}

@@ -1,4 +1,4 @@
--- Pieces of any number of connections, fed to one handler in any interleaving. This project's own.
+-- Pieces of any number of connections, fed to one handler in any interleaving.
 use Rattle.std.specs.Prelude.{◌≡◌, ◌⊎◌, ◌==◌, ℕ, Bool, List, [], ◌∷◌, ◌++◌}
 use Rattle.std.specs.Prelude.{Option, Some, None, cond, map, ⊤}
 use Rattle.std.specs.List.{flat_map}

@@ -1,5 +1,4 @@
--- The requests that a handler handled, with the connection and the reply of each. This project's
--- own.
+-- The requests that a handler handled, with the connection and the reply of each.
 use Rattle.std.specs.Prelude.{◌≡◌, ◌==◌, ℕ, List, [], ◌∷◌, None, cond}
 use Rattle.http_requests.specs.Fields.{fault_of_head}
 use Rattle.http_requests.specs.HandlerRuns.{HandlerRelation, HandlesAdmitted, Screen}

@@ -1,4 +1,4 @@
--- The effect of any list of a hub's operations. This project's own.
+-- The effect of any list of a hub's operations.
 use Rattle.std.specs.Prelude.{◌≡◌, ◌==◌, ◌≤◌, ◌⊎◌, ℕ, List, [], ◌∷◌, ◌++◌, Option, Some, None}
 use Rattle.std.specs.Prelude.{cond, length, take, slice_get}
 use Rattle.http_requests.specs.HandlerRuns.{HandlerRelation, FaultReplies, KeepsScreens}

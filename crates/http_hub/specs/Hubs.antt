@@ -1,4 +1,4 @@
--- The open connections of a server, and the effect of each operation on them. This project's own.
+-- The open connections of a server, and the effect of each operation on them.
 use Rattle.std.specs.Prelude.{◌≡◌, ◌≤◌, ◌||◌, ◌-◌, ◌^◌, ℕ, suc, Bool, false, List, Option, Some}
 use Rattle.std.specs.Prelude.{None, length, slice_get, slice_set, replicate, count_by, is_some}
 use Rattle.std.specs.Prelude.{nat_eq}

@@ -1,4 +1,4 @@
--- How many requests a piece completes. This project's own.
+-- How many requests a piece completes.
 use Rattle.std.specs.Prelude.{◌==◌, ◌*◌, ◌+◌, ◌≤◌, ℕ, Bool, List, ◌++◌, count_by, length}
 use Rattle.base_types.specs.Octets.{line_feed}
 use Rattle.http_requests.specs.Requests.{HasNoRequest, Request, StartsWithRequests}

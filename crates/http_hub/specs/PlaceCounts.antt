@@ -1,4 +1,4 @@
--- What a hub knows of its places without going over them. This project's own.
+-- What a hub knows of its places without going over them.
 use Rattle.std.specs.Prelude.{◌≡◌, ◌≤◌, ◌<◌, ℕ, List, Option, Some, count_by, is_some, length}
 use Rattle.std.specs.Prelude.{slice_get}
 use Rattle.http_hub.specs.declared.slot.Slot.{Slot}

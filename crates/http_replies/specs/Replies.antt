@@ -1,5 +1,4 @@
--- The octets to send for each reply of the service and for each fault of a request. This project's
--- own.
+-- The octets to send for each reply of the service and for each fault of a request.
 use Rattle.std.specs.Prelude.{ℕ, Bool, true, List, codes, Option, Some, None, option_map}
 use Rattle.serde_json.specs.Data.{Data}
 use Rattle.serde_json.specs.Written.{compact_text}

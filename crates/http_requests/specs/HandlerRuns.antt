@@ -1,4 +1,4 @@
--- What a handler does with requests in turn, and what it replies. This project's own.
+-- What a handler does with requests in turn, and what it replies.
 use Rattle.std.specs.Prelude.{◌≡◌, ℕ, Bool, List, [], ◌∷◌, ◌++◌, Option, Some, None}
 use Rattle.httparse.specs.Grammar.{RequestHead}
 use Rattle.http_requests.specs.Fields.{fault_of_head, fields_of}

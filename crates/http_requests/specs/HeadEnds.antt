@@ -1,5 +1,5 @@
 -- Where a head ends: at the first empty line after the first octet that is neither CR nor LF (RFC
--- 9112, sections 2.1 and 2.2). This project's own.
+-- 9112, sections 2.1 and 2.2).
 use Rattle.std.specs.Prelude.{◌≡◌, ◌≢◌, ◌++◌, ℕ, List, [], ◌∷◌, if◌then◌else◌, nat_eq, fold}
 use Rattle.base_types.specs.Octets.{line_feed, carriage_return}
 use Rattle.http_requests.specs.declared.head_state.HeadState.{HeadState}

@@ -1,5 +1,4 @@
--- The number, the status (RFC 9110, section 15) and the text of each fault of a head. This
--- project's own.
+-- The number, the status (RFC 9110, section 15) and the text of each fault of a head.
 use Rattle.std.specs.Prelude.{ℕ, List, codes}
 use Rattle.http_requests.specs.declared.head_fault.HeadFault.{HeadFault}
 use Rattle.http_requests.specs.declared.head_fault.HeadFault.TheVariants.{BadHead, HeadTooLarge}

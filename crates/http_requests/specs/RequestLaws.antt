@@ -1,4 +1,4 @@
--- A stream has at most one list of requests, and it can be cut anywhere. This project's own.
+-- A stream has at most one list of requests, and it can be cut anywhere.
 use Rattle.std.specs.Prelude.{◌≡◌, ℕ, Bool, true, false, List, ◌++◌}
 use Rattle.http_requests.specs.Requests.{Request, StartsWithRequests, AreAllRequests}
 

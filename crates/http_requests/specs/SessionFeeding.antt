@@ -1,5 +1,5 @@
 -- What a session does with the octets of a connection, however they are cut into pieces. A
--- session's value is the octets that it holds, or `None` once it is closed. This project's own.
+-- session's value is the octets that it holds, or `None` once it is closed.
 use Rattle.std.specs.Prelude.{◌≡◌, ◌≢◌, ◌<◌, ◌≤◌, ◌⊎◌, ℕ, Bool, true, false, List, [], ◌∷◌, ◌++◌}
 use Rattle.std.specs.Prelude.{length, take, Option, Some, None, ⊤}
 use Rattle.std.specs.List.{flat_map}

@@ -1,4 +1,4 @@
--- The actions of each route by method, and the names of their queries. This project's own.
+-- The actions of each route by method, and the names of their queries.
 use Rattle.std.specs.Prelude.{ℕ, List, [], ◌∷◌, Option, Some, None, bytes_eq, codes, if◌then◌else◌}
 use Rattle.http_routes.specs.declared.action.Action.{Action}
 use Rattle.http_routes.specs.declared.action.Action.TheVariants as action

@@ -1,5 +1,4 @@
--- The command of a complete request, or its first fault in the order of the numbers. This project's
--- own.
+-- The command of a complete request, or its first fault in the order of the numbers.
 use Rattle.std.specs.Prelude.{ℕ, Bool, ◌+◌, ◌==◌, List, Option, Some, None, Result, Ok, Err, codes}
 use Rattle.std.specs.Prelude.{drop, take, if◌then◌else◌}
 use Rattle.std.specs.List.{position_or_len}

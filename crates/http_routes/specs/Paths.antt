@@ -1,5 +1,4 @@
 -- The route of a path, by its parts between slashes, which aren't decoded (RFC 3986, section 3.3).
--- This project's own.
 use Rattle.std.specs.Prelude.{ℕ, Bool, true, false, ◌&&◌, ◌==◌, List, [], ◌∷◌, Option, bytes_eq}
 use Rattle.std.specs.Prelude.{find, get_or, length, nat_lt, if◌then◌else◌}
 use Rattle.std.specs.List.{slice_split}

@@ -1,5 +1,5 @@
 -- The rows of a router that has all routes and nothing else. A row of the library `matchit` is a
--- path as the library parses it, with its value, here the route. This project's own.
+-- path as the library parses it, with its value, here the route.
 use Rattle.std.specs.Prelude.{ℕ, List, [], Option, Result, Ok, Err, fold, option_map}
 use Rattle.matchit.specs.Order.{placed}
 use Rattle.matchit.specs.Route.{Scan, parse_route}

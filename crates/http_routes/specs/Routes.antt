@@ -1,4 +1,4 @@
--- The table of routes: the path and the methods of each. This project's own.
+-- The table of routes: the path and the methods of each.
 use Rattle.std.specs.Prelude.{ℕ, List, [], ◌∷◌, ◌++◌, codes, map}
 use Rattle.http_routes.specs.Actions.{actions_of}
 use Rattle.http_routes.specs.declared.route.Route.{Route}

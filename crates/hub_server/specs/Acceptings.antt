@@ -1,4 +1,4 @@
--- Accepting the connections of a server. This project's own.
+-- Accepting the connections of a server.
 use Rattle.std.specs.Prelude.{◌≡◌, ◌<◌, ◌-◌, ℕ, Bool, true, false, length}
 use Rattle.http_hub.specs.Hubs.{open_count}
 use Rattle.hub_server.specs.EndpointRuns.{EndpointRelation, ReachesByActs}

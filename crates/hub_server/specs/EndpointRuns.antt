@@ -1,4 +1,4 @@
--- Calls at an endpoint, one after another. This project's own.
+-- Calls at an endpoint, one after another.
 use Rattle.std.specs.Prelude.{◌≡◌, ◌+◌, ℕ, Bool, List, [], ◌∷◌, ◌++◌, Option}
 use Rattle.hub_server.specs.Endpoints.{EndpointEvent}
 use Rattle.hub_server.specs.Endpoints.EndpointEvent.{WaitEvent, WaitFault}

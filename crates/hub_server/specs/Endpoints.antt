@@ -1,4 +1,4 @@
--- The calls of a server at its endpoint, each with its outcome. This project's own.
+-- The calls of a server at its endpoint, each with its outcome.
 use Rattle.std.specs.Prelude.{ℕ, Bool, List, Option, take, ◌<◌, ◌≤◌, length, ⊤}
 use Rattle.hub_server.specs.declared.outcome.Accepted.{Accepted}
 use Rattle.hub_server.specs.declared.outcome.Accepted.TheVariants as accepted
@@ -18,7 +18,7 @@ pub data EndpointEvent : Type 0 where
   AcceptEvent : ℕ → EndpointEvent
   -- no connection waits to be accepted
   AcceptNone : EndpointEvent
-  -- accepting failed for now, for want of descriptors
+  -- accepting failed for now, for lack of descriptors
   AcceptLater : EndpointEvent
   -- accepting failed
   AcceptFault : EndpointEvent

@@ -1,4 +1,4 @@
--- Closing the connections of a server that have expired. This project's own.
+-- Closing the connections of a server that have expired.
 use Rattle.std.specs.Prelude.{◌≡◌, ℕ, true}
 use Rattle.http_hub.specs.Links.{has_expired}
 use Rattle.http_hub.specs.declared.slot.Slot.{Slot}

@@ -1,4 +1,4 @@
--- What a connection of a server needs next. This project's own.
+-- What a connection of a server needs next.
 use Rattle.std.specs.Prelude.{◌≡◌, ◌-◌, ℕ, [], Option, Some, None, slice_get}
 use Rattle.http_hub.specs.Hubs.{EndsAt, HubValue}
 use Rattle.http_hub.specs.declared.slot.Slot.{Slot}

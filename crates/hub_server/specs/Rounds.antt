@@ -1,4 +1,4 @@
--- A round of a server: a wait, and the service of what it reported. This project's own.
+-- A round of a server: a wait, and the service of what it reported.
 use Rattle.std.specs.Prelude.{◌≡◌, ◌⊎◌, ℕ, length}
 use Rattle.http_requests.specs.HandlerRuns.{HandlerRelation, FaultReplies}
 use Rattle.hub_server.specs.EndpointRuns.{EndpointRelation}

@@ -1,4 +1,4 @@
--- What a server keeps of the connection at a place, beside its link. This project's own.
+-- What a server keeps of the connection at a place, beside its link.
 use Rattle.std.specs.Prelude.{◌≡◌, ◌<◌, ◌≤◌, ℕ, suc, Bool, true, false, List, [], ◌∷◌, length}
 use Rattle.std.specs.Prelude.{nat_eq, if◌then◌else◌}
 use Rattle.hub_server.specs.Endpoints.{EndpointEvent}

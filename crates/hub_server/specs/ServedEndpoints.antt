@@ -1,4 +1,4 @@
--- Serving all connections of an endpoint: how it ends. This project's own.
+-- Serving all connections of an endpoint: how it ends.
 use Rattle.std.specs.Prelude.{◌≡◌, ℕ, Option, true}
 use Rattle.http_requests.specs.HandlerRuns.{HandlerRelation, FaultReplies}
 use Rattle.hub_server.specs.Endpoints.EndpointEvent.{AcceptFault, WaitFault}

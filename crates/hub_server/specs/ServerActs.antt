@@ -1,4 +1,4 @@
--- What a server does at its endpoint without its handler. This project's own.
+-- What a server does at its endpoint without its handler.
 use Rattle.std.specs.Prelude.{◌≡◌, ◌<◌, ◌≤◌, ◌↔◌, ℕ, Bool, true, List, [], ◌∷◌, Option}
 use Rattle.std.specs.Prelude.{Some, None, IsTrue, length, if◌then◌else◌}
 use Rattle.hub_server.specs.Endpoints.{EndpointEvent}

@@ -1,4 +1,4 @@
--- What a run of a server means for each of its connections. This project's own.
+-- What a run of a server means for each of its connections.
 use Rattle.std.specs.Prelude.{◌≡◌, ◌==◌, ℕ, List, [], ◌∷◌, ◌++◌, cond, take}
 use Rattle.http_requests.specs.HandlerRuns.{HandlerRelation, FaultReplies, KeepsScreens}
 use Rattle.http_hub.specs.FedPieces.{octets_in, pieces_of}

@@ -1,4 +1,4 @@
--- Runs of a server: what it does at its endpoint and with its handler. This project's own.
+-- Runs of a server: what it does at its endpoint and with its handler.
 use Rattle.std.specs.Prelude.{◌≡◌, ◌+◌, ℕ, List, [], ◌∷◌, ◌++◌, drop, length}
 use Rattle.http_requests.specs.HandlerRuns.{HandlerRelation, FaultReplies}
 use Rattle.http_hub.specs.BoundedHubs.{ReceivesWithin}

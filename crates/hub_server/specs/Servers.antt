@@ -1,4 +1,4 @@
--- A server with many connections: its state, and when it is to act. This project's own.
+-- A server with many connections: its state, and when it is to act.
 use Rattle.std.specs.Prelude.{◌≡◌, ◌+◌, ◌<◌, ◌&&◌, ◌||◌, ℕ, Bool, true, false, List, Some}
 use Rattle.std.specs.Prelude.{not, nat_le, nat_lt, replicate, slice_get, slice_set}
 use Rattle.hub_server.specs.Seats.{IsTurnOver, SeatValue, new_seat}

@@ -20,7 +20,7 @@ pub enum Accepted {
     Connection,
     /// No connection waits.
     NoneNow,
-    /// No connection can be accepted for now, for want of descriptors or memory.
+    /// No connection can be accepted for now, for lack of descriptors or memory.
     Later,
     /// The listener failed.
     Failed,

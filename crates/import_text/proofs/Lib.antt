@@ -6,6 +6,7 @@ pub mod PieceLemmas
 pub mod SplitLemmas
 pub mod UnitLemmas
 pub mod WordLemmas
+pub mod WideLemmas
 pub mod FillLemmas
 mod CutLemmas
 mod UnreadLemmas

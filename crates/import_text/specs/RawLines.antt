@@ -1,6 +1,6 @@
 -- The logical lines of a card that another program exported, as octets. They are joined from
 -- physical lines as RFC 2425, section 5.8.1, vCard 2.1 and quoted-printable (RFC 2045, section 6.7)
--- say, and as old telephones fold base64, without white space. This project's own.
+-- say, and as old telephones fold base64, without white space.
 use Rattle.std.specs.Prelude.{ℕ, ◌+◌, ◌-◌, Bool, false, not, ◌&&◌, ◌||◌, ◌==◌, nat_le, List}
 use Rattle.std.specs.Prelude.{[], ◌∷◌, ◌++◌, map, drop, take, length, codes, slice_index}
 use Rattle.std.specs.Prelude.{if◌then◌else◌, take_while}
@@ -14,10 +14,15 @@ use Rattle.import_text.specs.declared.lines.Folding.TheVariants.{KeepsSpace, Dro
 
 -- ---- physical lines
 
--- the octets are cut at each line feed, and one carriage return before it is dropped
+-- a physical line without the carriage return at its end, or without two of them, as programs write
+-- that make CRLF of each line feed of a text that has CRLF
+abbrev pub without_returns : List ℕ → List ℕ
+without_returns line = strip_carriage_return (strip_carriage_return line)
+
+-- the octets are cut at each line feed, and up to two carriage returns before it are dropped
 abbrev pub physical_lines : List ℕ → List (List ℕ)
 physical_lines octets =
-    map strip_carriage_return (slice_split (λ octet. octet == line_feed) octets)
+    map without_returns (slice_split (λ octet. octet == line_feed) octets)
 
 -- ---- what a line's head says of its encoding
 

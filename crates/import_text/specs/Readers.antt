@@ -1,4 +1,4 @@
--- What a reader of text has left. This project's own.
+-- What a reader of text has left.
 use Rattle.std.specs.Prelude.{ℕ, List, Option}
 use Rattle.import_text.specs.internal.Unread.{source_left}
 use Rattle.import_text.specs.declared.reader.TextReader.{TextReader}

@@ -6,7 +6,7 @@ ghost use Rattle.std.specs.Str.Lines.{strip_carriage_return};
 ghost use Rattle.base_types.specs.Octets.{line_feed};
 ghost use Rattle.import_text.specs.RawLines.{continues, continues_base64, has_soft_break};
 ghost use Rattle.import_text.specs.RawLines.{is_joined, joined, unfolded, nonempty, raw_line};
-ghost use Rattle.import_text.specs.RawLines.{lines_from, raw_lines};
+ghost use Rattle.import_text.specs.RawLines.{lines_from, raw_lines, without_returns};
 ghost use Rattle.import_text.specs.internal.Heads.{head_of};
 
 use crate::line_head::{Head, WORD_START_OCTETS_MAX, has_colon, searched};
@@ -32,6 +32,13 @@ fn strip_carriage_return(octets: &[u8]) -> &[u8]
         Some((b'\r', front)) => front,
         _ => octets,
     }
+}
+
+/// A physical line without the carriage return at its end, or without two of them.
+fn without_returns(octets: &[u8]) -> &[u8]
+    ensures { result.now ≡ without_returns octets.now }
+{
+    strip_carriage_return(strip_carriage_return(octets))
 }
 
 /// The octets between line feeds.
@@ -213,7 +220,7 @@ pub fn read_raw_lines(
     let mut lines = Vec::new(alloc);
     let mut line = LineSoFar::new(0, Vec::new(alloc));
     for (place, piece) in pieces.iter().enumerate() {
-        let piece = strip_carriage_return(*piece);
+        let piece = without_returns(*piece);
         read_piece(&mut lines, &mut line, place, piece, folding)?;
     }
     push_nonempty(&mut lines, line)?;

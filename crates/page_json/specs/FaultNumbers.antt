@@ -1,5 +1,4 @@
 -- The numbers and texts of the faults of a page's text, and the fault that a card's fault becomes.
--- This project's own.
 use Rattle.std.specs.Prelude.{ℕ, List, codes}
 use Rattle.vcard_lines.specs.declared.fault.CardFault.{CardFault}
 use Rattle.vcard_lines.specs.declared.fault.CardFault.TheVariants as card

@@ -1,5 +1,5 @@
 -- The first fault of a text that isn't a page's: it isn't JSON; then its shape; then the first
--- member that describes no entry; then the token. This project's own.
+-- member that describes no entry; then the token.
 use Rattle.std.specs.Prelude.{ℕ, ◌≡◌, ◌≢◌, ◌⊎◌, List, ◌∷◌, ◌++◌}
 use Rattle.serde_json.specs.Data.{Data}
 use Rattle.vcard_lines.specs.declared.line.Line.{Line}

@@ -1,4 +1,4 @@
--- The page of a JSON text. This project's own.
+-- The page of a JSON text.
 use Rattle.std.specs.Prelude.{ℕ, ◌≡◌, List, Some}
 use Rattle.std.specs.Str.{IsUtf8}
 use Rattle.serde_json.specs.Data.{Data}

@@ -1,5 +1,4 @@
--- A page whose cards and token are still unparsed texts, and the page that these describe. This
--- project's own.
+-- A page whose cards and token are still unparsed texts, and the page that these describe.
 use Rattle.std.specs.Prelude.{ℕ, ◌≡◌, ◌<◌, ◌≤◌, List, [], ◌∷◌, Bool}
 use Rattle.vcard_text.specs.Cards.{uid_of}
 use Rattle.vcard_text.specs.Spelling.{Spells}

@@ -1,4 +1,4 @@
--- Laws of pages and their JSON texts. This project's own.
+-- Laws of pages and their JSON texts.
 use Rattle.std.specs.Prelude.{ℕ, ◌≡◌, List, Option, Ok}
 use Rattle.serde_json.specs.Data.{Data}
 use Rattle.book_model.specs.declared.page.Page.{Page}

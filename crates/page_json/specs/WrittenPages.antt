@@ -1,5 +1,4 @@
--- The JSON text of a page, and the well-formed pages: those whose text is read back. This project's
--- own.
+-- The JSON text of a page, and the well-formed pages: those whose text is read back.
 use Rattle.std.specs.Prelude.{ℕ, ◌≡◌, List, map}
 use Rattle.std.specs.List.{AllByRecursion}
 use Rattle.serde_json.specs.Written.{compact_text}

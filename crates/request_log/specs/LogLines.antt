@@ -1,4 +1,4 @@
--- The lines that a server prints about requests. This project's own.
+-- The lines that a server prints about requests.
 use Rattle.std.specs.Prelude.{ℕ, ◌≡◌, ◌+◌, ◌/◌, ◌%◌, ◌==◌, ◌&&◌, Bool, true, not, nat_le, nat_lt}
 use Rattle.std.specs.Prelude.{List, [], ◌∷◌, ◌++◌, codes, decimal, drop, flat_map, length, take}
 use Rattle.std.specs.Prelude.{if◌then◌else◌, eqb, Option, Some, None}

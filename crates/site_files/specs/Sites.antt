@@ -1,4 +1,4 @@
--- The files of a site, and the file that the target of a request names. This project's own.
+-- The files of a site, and the file that the target of a request names.
 use Rattle.std.specs.Prelude.{ℕ, Bool, ◌||◌, ◌==◌, List, ◌++◌, Option, None, codes, bytes_eq}
 use Rattle.std.specs.Prelude.{length, take, nat_eq, if◌then◌else◌}
 use Rattle.std.specs.List.{ends_with, find, position_or_len, starts_with, sum_by}

@@ -1,5 +1,4 @@
--- What it means that accepting a connection failed, by the error numbers of Linux (accept(2)). This
--- project's own.
+-- What it means that accepting a connection failed, by the error numbers of Linux (accept(2)).
 use Rattle.std.specs.Prelude.{ℕ, ℤ, pos, int_lt, unsigned_abs, List, [], ◌∷◌, ◌==◌, Option}
 use Rattle.std.specs.Prelude.{Some, None, if◌then◌else◌}
 use Rattle.socket_endpoint.specs.declared.accept_causes.AcceptCause.{AcceptCause}

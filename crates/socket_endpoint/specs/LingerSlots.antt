@@ -1,4 +1,4 @@
--- The slots of the closed connections that linger. This project's own.
+-- The slots of the closed connections that linger.
 use Rattle.std.specs.Prelude.{◌≡◌, ◌≤◌, ℕ, suc, Bool, false, min, List, map, Option, Some, None}
 use Rattle.std.specs.Prelude.{slice_get, if◌then◌else◌}
 use Rattle.std.specs.List.{fold}

@@ -1,4 +1,4 @@
--- When a closed connection that lingers is given up. This project's own.
+-- When a closed connection that lingers is given up.
 use Rattle.std.specs.Prelude.{ℕ, ◌+◌, ◌-◌, min, Bool, nat_le, nat_eq, ◌||◌}
 use Rattle.std.specs.Prelude.{if◌then◌else◌}
 use Rattle.socket_endpoint.specs.PollTimes.{most_time}

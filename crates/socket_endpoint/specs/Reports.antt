@@ -1,4 +1,4 @@
--- What the events of a poll report. This project's own.
+-- What the events of a poll report.
 use Rattle.std.specs.Prelude.{Bool, true, false, List, map, set}
 use Rattle.std.specs.List.{fold}
 use Rattle.mio.specs.Event.{event_token}

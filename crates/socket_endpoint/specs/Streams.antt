@@ -1,4 +1,4 @@
--- What is read from a reader and written to a writer. This project's own.
+-- What is read from a reader and written to a writer.
 use Rattle.std.specs.Prelude.{◌≡◌, ℕ, List, length, take, Option}
 use Rattle.std.specs.Io.KnownBytes.{Appends, Consumes, IsAtEnd, Keeps}
 use Rattle.hub_server.specs.declared.outcome.Received.{Received}
@@ -14,15 +14,15 @@ pub record ReadsCount (count : ℕ) (before after : Option (List ℕ)) : Type 0 
 
 -- the octets that were read are those at the front of the buffer; with any other answer, nothing
 -- was read, and with `End` nothing more is there
-abbrev pub Reads : List ℕ → Option (List ℕ) → Option (List ℕ) → Received → Type 0
-Reads buffer before after (received.Octets count) = Consumes before after (take count buffer)
-Reads buffer before after received.End = Keeps before after × IsAtEnd after
-Reads buffer before after received.NoneNow = Keeps before after
-Reads buffer before after received.Failed = Keeps before after
+abbrev pub ReadsIntoBuffer : List ℕ → Option (List ℕ) → Option (List ℕ) → Received → Type 0
+ReadsIntoBuffer buffer before after (received.Octets count) = Consumes before after (take count buffer)
+ReadsIntoBuffer buffer before after received.End = Keeps before after × IsAtEnd after
+ReadsIntoBuffer buffer before after received.NoneNow = Keeps before after
+ReadsIntoBuffer buffer before after received.Failed = Keeps before after
 
 -- the octets that were accepted are the first of those that were offered; with any other answer,
 -- nothing was written
-abbrev pub Writes : List ℕ → Option (List ℕ) → Option (List ℕ) → Sent → Type 0
-Writes offered before after (sent.Octets count) = Appends before after (take count offered)
-Writes offered before after sent.NoneNow = Keeps before after
-Writes offered before after sent.Failed = Keeps before after
+abbrev pub WritesOffer : List ℕ → Option (List ℕ) → Option (List ℕ) → Sent → Type 0
+WritesOffer offered before after (sent.Octets count) = Appends before after (take count offered)
+WritesOffer offered before after sent.NoneNow = Keeps before after
+WritesOffer offered before after sent.Failed = Keeps before after

@@ -1,4 +1,4 @@
--- What the token of an event stands for. This project's own.
+-- What the token of an event stands for.
 use Rattle.std.specs.Prelude.{ℕ, ◌/◌, ◌%◌, ◌-◌, ◌==◌, if◌then◌else◌}
 use Rattle.socket_endpoint.specs.declared.subject.Subject.{Subject}
 use Rattle.socket_endpoint.specs.declared.subject.Subject.TheVariants.{Listener, Place, Lingerer}

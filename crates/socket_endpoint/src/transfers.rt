@@ -3,7 +3,7 @@ ghost use Rattle.std.specs.Prelude.{◌≡◌, ◌<◌, ◌↔◌, IsTrue, lengt
 ghost use Rattle.std.specs.IoError.{error_kind};
 ghost use Rattle.std.specs.declared.io.ErrorKind.{ErrorKind as TheKind};
 ghost use Rattle.hub_server.specs.Endpoints.{FitsBuffer, IsWithinOffer};
-ghost use Rattle.socket_endpoint.specs.Streams.{Reads, Writes};
+ghost use Rattle.socket_endpoint.specs.Streams.{ReadsIntoBuffer, WritesOffer};
 
 use hub_server::{Received, Sent};
 use std::io;
@@ -31,7 +31,8 @@ pub(crate) fn would_wait(error: &io::Error) -> bool
 pub(crate) fn read_from<R: Read>(reader: &mut R, buffer: &mut [u8]) -> Received
     requires { 0 < length buffer.old }
     ensures fits { FitsBuffer buffer.new result }
-    ensures read { Reads buffer.new (R.remaining reader.old) (R.remaining reader.new) result }
+    ensures read { ReadsIntoBuffer buffer.new (R.remaining reader.old) (R.remaining reader.new)
+        result }
 {
     for _try in 0..TRIES_MAX {
         match reader.read(buffer) {
@@ -56,7 +57,8 @@ pub(crate) fn read_from<R: Read>(reader: &mut R, buffer: &mut [u8]) -> Received
 pub(crate) fn write_to<W: Write>(writer: &mut W, octets: &[u8]) -> Sent
     requires { 0 < length octets.now }
     ensures within { IsWithinOffer octets.now result }
-    ensures written { Writes octets.now (W.contents writer.old) (W.contents writer.new) result }
+    ensures written { WritesOffer octets.now (W.contents writer.old) (W.contents writer.new)
+        result }
 {
     for _try in 0..TRIES_MAX {
         match writer.write(octets) {

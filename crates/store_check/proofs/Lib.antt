@@ -9,7 +9,6 @@ pub mod NameLemmas
 pub mod StoredLemmas
 pub mod PermutedLemmas
 pub mod ListedLemmas
-pub mod GreatestLemmas
 pub mod TallyLemmas
 pub mod FaultLemmas
 pub mod ScanLemmas

@@ -1,4 +1,4 @@
--- The tests of stored tables, row by row. This project's own.
+-- The tests of stored tables, row by row.
 use Rattle.std.specs.Prelude.{◌≡◌, ◌↔◌, ◌+◌, ◌<◌, ◌≤◌, ◌&&◌, ℕ, ℤ, Bool, true, false, List, None}
 use Rattle.std.specs.Prelude.{IfSome, is_some, filter, find, length}
 use Rattle.std.specs.List.{AllByRecursion}

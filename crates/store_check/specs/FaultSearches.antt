@@ -1,4 +1,4 @@
--- The result of searching the tables for a row that is not good. This project's own.
+-- The result of searching the tables for a row that is not good.
 use Rattle.std.specs.Prelude.{◌≡◌, ⊤, List, map, Option, Some, None, Result, Ok, Err, Vec}
 use Rattle.std.specs.declared.alloc.Global.{Global}
 use Rattle.sqlite.specs.Effect.{Database}
@@ -72,17 +72,17 @@ FaultyAreNotStored = (limits : Bounds) (books members imports keeps : List Row) 
 -- ---- the parts of the search
 
 -- the rows of books, imports and keeps pass their tests, or one of them has the fault
-abbrev pub TestsListed : Bounds → List Row → List Row → List Row → Option FaultyRow → Type 0
-TestsListed limits books imports keeps None = PassBookTests limits books imports keeps
-TestsListed limits books imports keeps (Some f) =
+abbrev pub ChecksListed : Bounds → List Row → List Row → List Row → Option FaultyRow → Type 0
+ChecksListed limits books imports keeps None = PassBookTests limits books imports keeps
+ChecksListed limits books imports keeps (Some f) =
     (members : List Row) → IsFaultyRow limits books members imports keeps f
 
 -- the books agree with the members that were counted, or one of them has the fault
-abbrev pub TestsBooks : Bounds → List Row → List Row → List BookTally
+abbrev pub ChecksBooks : Bounds → List Row → List Row → List BookTally
     → Result (Vec BookTally Global) FaultyRow → Type 0
-TestsBooks limits books keeps tallies (Ok same) = (same.items ≡ tallies)
+ChecksBooks limits books keeps tallies (Ok same) = (same.items ≡ tallies)
     × ((ms : List MemberRow) → AreCounted ms (map decode_book books) tallies →
     AreCheckedBooks limits ms (map decode_keep keeps) (map decode_book books))
-TestsBooks limits books keeps tallies (Err f) = (members : List Row) →
+ChecksBooks limits books keeps tallies (Err f) = (members : List Row) →
     AreCounted (map load_member members) (map decode_book books) tallies →
     (imports : List Row) → IsFaultyRow limits books members imports keeps f

@@ -1,4 +1,4 @@
--- The rows that statements over whole tables return, against the database. This project's own.
+-- The rows that statements over whole tables return, against the database.
 use Rattle.std.specs.Prelude.{◌↔◌, List, map}
 use Rattle.std.specs.List.Sorted.{IsPermutation}
 use Rattle.sqlite.specs.Effect.{Database}

@@ -1,4 +1,4 @@
--- The members of the table, read and tested one at a time. This project's own.
+-- The members of the table, read and tested one at a time.
 use Rattle.std.specs.Prelude.{◌≡◌, ℤ, Bool, true, List, [], Option, Some, None, Result}
 use Rattle.std.specs.Prelude.{IfErr, IfOk, IfSome, Vec, int_lt, map}
 use Rattle.std.specs.declared.alloc.Global.{Global}

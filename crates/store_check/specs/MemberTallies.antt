@@ -1,5 +1,4 @@
--- What is counted of the members of each book, while they are read one at a time. This project's
--- own.
+-- What is counted of the members of each book, while they are read one at a time.
 use Rattle.std.specs.Prelude.{◌≡◌, ◌+◌, ◌++◌, ◌↔◌, ℕ, ℤ, Bool, List, [], ◌∷◌, IsTrue, filter}
 use Rattle.std.specs.Prelude.{◌<◌, if◌then◌else◌, Option, Some, None}
 use Rattle.std.specs.Prelude.{false, true, find, length, map, slice_get}

@@ -1,4 +1,4 @@
--- Definitions over connections, for contracts, as in `store_tables`. This project's own.
+-- Definitions over connections, for contracts, as in `store_tables`.
 use Rattle.std.specs.Prelude.{◌≡◌, List, Option, Result, Vec, IsTrue, map}
 use Rattle.std.specs.declared.alloc.Global.{Global}
 use Rattle.sqlite.specs.Held.{Held, state}
@@ -28,9 +28,9 @@ module _ {S : Type 0} (store : Ghosts S) (conn : Held S) where
   ObeySchema = IsTrue (state store conn).is_open → (state store conn).now.schema ≡ book_schema →
       ObeyTables (state store conn).now.trees
 
-  abbrev pub TestsMembers : Bounds → List Row → List Row
+  abbrev pub ChecksMembers : Bounds → List Row → List Row
       → Result (Vec BookTally Global) FaultyRow → Type 0
-  TestsMembers limits books keeps found = HaveDistinctIds (map decode_book books) →
+  ChecksMembers limits books keeps found = HaveDistinctIds (map decode_book books) →
       scans.TestedMembers ((state store conn).now.trees 4) limits books keeps found
 
   abbrev pub IsOpenResult : Bounds → Result (Unit {0}) OpenFault → Type 0

@@ -1,8 +1,8 @@
--- The result of opening stored tables, by their contents. This project's own.
+-- The result of opening stored tables, by their contents.
 use Rattle.std.specs.Prelude.{⊤, List, Result, Ok, Err}
 use Rattle.sqlite.specs.Effect.{Database}
 use Rattle.sqlite.specs.Order.{Row}
-use Rattle.book_model.specs.Bounds.{Bounds, bounds_of}
+use Rattle.book_model.specs.Bounds.{Bounds, standard_limits}
 use Rattle.store_rows.specs.SoundTables.{HoldsWellFormed}
 use Rattle.store_schema.specs.StoredSchema.{IsCurrentSchema, ClassifiesSchema}
 use Rattle.store_schema.specs.declared.open_fault.OpenFault.{OpenFault}
@@ -36,7 +36,7 @@ IsOpenResult limits db (Err Damaged) = IsCurrentSchema db × ¬ HoldsWellFormed 
 IsOpenResult limits db (Err NotEmpty) = ⊥
 IsOpenResult limits db (Err Memory) = ⊤
 
--- the limits that rows are tested against: the greatest on cards, changes and books that a store
--- may have
+-- the limits that rows are tested against: the standard ones, which are the greatest on cards,
+-- changes and books that a store may have
 abbrev pub max_limits : Bounds
-max_limits = bounds_of 100 10000 1000000000000 100
+max_limits = standard_limits

@@ -1,4 +1,4 @@
--- The rows of whole tables, as the statements return them, by column. This project's own.
+-- The rows of whole tables, as the statements return them, by column.
 use Rattle.std.specs.Prelude.{◌≡◌, ◌≤◌, ℕ, ℤ, pos, List, find, length, map}
 use Rattle.sqlite.specs.declared.types.Value.TheVariants.{Int, Text}
 use Rattle.sqlite.specs.Values.{or_null}

@@ -1,5 +1,4 @@
--- Which rows are faulty, and why. Each fault means that a test of `RowChecks` fails. This project's
--- own.
+-- Which rows are faulty, and why. Each fault means that a test of `RowChecks` fails.
 use Rattle.std.specs.Prelude.{◌≡◌, ◌+◌, ◌<◌, ◌≤◌, ℕ, ℤ, false, List, [], Option, Some, None}
 use Rattle.std.specs.Prelude.{IfSome}
 use Rattle.std.specs.Prelude.{filter, find, length, map}

@@ -1,5 +1,4 @@
--- The tests of all rows, of which those of the members can be made one row at a time. This
--- project's own.
+-- The tests of all rows, of which those of the members can be made one row at a time.
 use Rattle.std.specs.Prelude.{◌↔◌, ◌≤◌, List, length, map}
 use Rattle.std.specs.List.{AllByRecursion}
 use Rattle.sqlite.specs.Order.{Row}

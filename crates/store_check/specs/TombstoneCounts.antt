@@ -1,4 +1,4 @@
--- How many tombstones each book has. This project's own.
+-- How many tombstones each book has.
 use Rattle.std.specs.Prelude.{◌≡◌, ℕ, List, Vec, filter, length, map, string_bytes}
 use Rattle.std.specs.Prelude.{Result, Ok, Err, Some}
 use Rattle.std.specs.declared.alloc.Global.{Global}

@@ -1,8 +1,8 @@
 //! Tests whether the tables of a connection are a store's and hold well-formed books.
-ghost use Rattle.store_check.specs.FaultSearches.{TestsBooks, TestsListed};
+ghost use Rattle.store_check.specs.FaultSearches.{ChecksBooks, ChecksListed};
 ghost use Rattle.store_check.specs.OnConnections.{AreBookRows, IsCountedResult, IsFaultSearch};
 ghost use Rattle.store_check.specs.OnConnections.{IsOpenResult, IsTestResult, ObeySchema};
-ghost use Rattle.store_check.specs.OnConnections.{TestsMembers};
+ghost use Rattle.store_check.specs.OnConnections.{ChecksMembers};
 ghost use Rattle.store_check.specs.RowFaults.{IsLabelled};
 ghost use Rattle.store_schema.specs.OpenFaults.{IsErrorFault};
 ghost use Rattle.store_schema.specs.OnConnections.{ChangesNothing, IsCurrentSchema};
@@ -21,7 +21,7 @@ use crate::tallies::{BookTally, start_tallies};
 use book_model::Limits;
 use sqlite::{Alter, Connection, Error, Row};
 use std::alloc::Global;
-use store_schema::{OpenFault, open_fault_of, test_schema};
+use store_schema::{OpenFault, check_schema, open_fault_of};
 use store_tables::books::all_books;
 use store_tables::imports::all_imports;
 use store_tables::keeps::all_keeps;
@@ -73,13 +73,13 @@ fn label(alloc: Global, books: &[Row], row: &Row, fault: RowFault) -> Result<Fau
 }
 
 /// Tests whether each book agrees with its members. Returns the tallies, or the first faulty book.
-fn test_books(
+fn check_books(
     alloc: Global,
     limits: Limits,
     listed: &BookRows,
     tallies: Vec<BookTally>,
 ) -> Result<Result<Vec<BookTally>, FaultyRow>, OpenFault>
-    ensures tests { IfOk result (TestsBooks limits listed.now.books.items
+    ensures tests { IfOk result (ChecksBooks limits listed.now.books.items
         listed.now.keeps.items tallies.items) }
     ensures fault { IfErr result IsErrorFault }
 {
@@ -93,14 +93,14 @@ fn test_books(
 
 /// Tests the members one at a time, and then whether each book agrees with its members. Returns the
 /// tally of each book if all are good, or the first faulty row.
-fn test_members<S: Alter>(
+fn check_members<S: Alter>(
     alloc: Global,
     conn: &mut Connection<S>,
     limits: Limits,
     listed: &BookRows,
 ) -> Result<Result<Vec<BookTally>, FaultyRow>, OpenFault>
     ensures tests { GivenTables S.Store conn.old conn.new (IfOk result
-        (TestsMembers S.Store conn.old limits listed.now.books.items listed.now.keeps.items)) }
+        (ChecksMembers S.Store conn.old limits listed.now.books.items listed.now.keeps.items)) }
     ensures fault { IfErr result IsErrorFault }
     ensures reads_only { OnlyReads S.Store conn.old conn.new }
 {
@@ -109,7 +109,7 @@ fn test_members<S: Alter>(
         return Err(OpenFault::Memory);
     };
     match scan_members(alloc, conn, books, tallies.as_mut_slice()) {
-        Ok(None) => test_books(alloc, limits, listed, tallies),
+        Ok(None) => check_books(alloc, limits, listed, tallies),
         Ok(Some(faulty)) => Ok(Err(faulty)),
         Err(error) => Err(open_fault_of(error)),
     }
@@ -117,12 +117,12 @@ fn test_members<S: Alter>(
 
 /// Tests the rows of books, imports and keeps, as far as no member need be read. Returns the first
 /// faulty row.
-fn test_listed(
+fn check_listed(
     alloc: Global,
     limits: Limits,
     listed: &BookRows,
 ) -> Result<Option<FaultyRow>, OpenFault>
-    ensures tests { IfOk result (TestsListed limits listed.now.books.items
+    ensures tests { IfOk result (ChecksListed limits listed.now.books.items
         listed.now.imports.items listed.now.keeps.items) }
     ensures fault { IfErr result IsErrorFault }
 {
@@ -142,7 +142,7 @@ fn test_listed(
 
 /// Tests the listed rows, and then the members. Returns how many tombstones each book has, or the
 /// first faulty row.
-fn test_all_rows<S: Alter>(
+fn check_all_rows<S: Alter>(
     alloc: Global,
     conn: &mut Connection<S>,
     limits: Limits,
@@ -155,10 +155,10 @@ fn test_all_rows<S: Alter>(
     ensures reads_only { OnlyReads S.Store conn.old conn.new }
 {
     assert_rows_obey(conn);
-    if let Some(faulty) = test_listed(alloc, limits, listed)? {
+    if let Some(faulty) = check_listed(alloc, limits, listed)? {
         return Ok(Err(faulty));
     }
-    match test_members(alloc, conn, limits, listed)? {
+    match check_members(alloc, conn, limits, listed)? {
         Ok(tallies) => Ok(Ok(list_counts(alloc, listed.books.as_slice(), tallies.as_slice())?)),
         Err(faulty) => Ok(Err(faulty)),
     }
@@ -175,13 +175,13 @@ fn check_rows<S: Alter>(
     ensures reads_only { OnlyReads S.Store conn.old conn.new }
 {
     match list_book_rows(conn) {
-        Ok(listed) => test_all_rows(alloc, conn, limits, &listed),
+        Ok(listed) => check_all_rows(alloc, conn, limits, &listed),
         Err(error) => Err(open_fault_of(error)),
     }
 }
 
 /// Tests the schema, and then all rows.
-fn test_rows<S: Alter>(
+fn check_schema_and_rows<S: Alter>(
     alloc: Global,
     conn: &mut Connection<S>,
     limits: Limits,
@@ -189,7 +189,7 @@ fn test_rows<S: Alter>(
     ensures answers { HasCleanDisk S.Store conn.new → IsTestResult S.Store conn.old limits result }
     ensures changes_nothing { ChangesNothing S.Store conn.old conn.new }
 {
-    test_schema(conn)?;
+    check_schema(conn)?;
     check_rows(alloc, conn, limits)
 }
 
@@ -210,13 +210,13 @@ pub fn find_faulty_row<S: Alter>(
     // Nothing is changed or committed, also on an error.
     ensures changes_nothing { ChangesNothing S.Store conn.old conn.new }
 {
-    match test_rows(alloc, conn, limits)? {
+    match check_schema_and_rows(alloc, conn, limits)? {
         Ok(_) => Ok(None),
         Err(faulty) => Ok(Some(faulty)),
     }
 }
 
-/// Tests the tables as `test_tables` does, and returns how many tombstones each book has, in any
+/// Tests the tables as `check_tables` does, and returns how many tombstones each book has, in any
 /// order of the books. The number is counted as the members are read, so it costs no query.
 pub fn count_tombstones<S: Alter>(
     alloc: Global,
@@ -229,7 +229,7 @@ pub fn count_tombstones<S: Alter>(
     // Nothing is changed or committed, also on an error.
     ensures changes_nothing { ChangesNothing S.Store conn.old conn.new }
 {
-    match test_rows(alloc, conn, limits)? {
+    match check_schema_and_rows(alloc, conn, limits)? {
         Ok(counts) => Ok(counts),
         Err(_) => Err(OpenFault::Damaged),
     }
@@ -241,7 +241,7 @@ pub fn count_tombstones<S: Alter>(
 /// Fails with `NotOurs` or `OtherSchema` if the schema test does, before any book is read; with
 /// `Damaged` if the rows do not represent well-formed books; with `Memory` if memory runs out; and
 /// with `Store` for any other error of the database.
-pub fn test_tables<S: Alter>(
+pub fn check_tables<S: Alter>(
     alloc: Global,
     conn: &mut Connection<S>,
     limits: Limits,

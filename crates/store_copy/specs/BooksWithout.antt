@@ -1,4 +1,4 @@
--- The books of a file of which some are left out. This project's own.
+-- The books of a file of which some are left out.
 use Rattle.std.specs.Prelude.{ℕ, ◌≡◌, ◌-◌, ◌<◌, Bool, ◌&&◌, true, List, [], Some, None, bytes_eq}
 use Rattle.std.specs.Prelude.{nat_lt, count_by, is_some, if◌then◌else◌}
 use Rattle.std.specs.List.{AllByRecursion, list_any}

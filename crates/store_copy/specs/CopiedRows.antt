@@ -1,4 +1,4 @@
--- The rows of a store, and a copy of them. This project's own.
+-- The rows of a store, and a copy of them.
 use Rattle.sqlite.specs.Effect.{Database}
 use Rattle.store_check.specs.ListedRows.{AreListedRows}
 use Rattle.store_copy.specs.declared.reading.StoredRows.{StoredRows}

@@ -1,4 +1,4 @@
--- Definitions over connections, for contracts, as in `store_tables`. This project's own.
+-- Definitions over connections, for contracts, as in `store_tables`.
 use Rattle.std.specs.Prelude.{ℤ, ◌≡◌, List}
 use Rattle.sqlite.specs.Held.{Held, state}
 use Rattle.sqlite.specs.State.{Survives}

@@ -1,4 +1,4 @@
--- The rows of a store of which some books are left out. This project's own.
+-- The rows of a store of which some books are left out.
 use Rattle.std.specs.Prelude.{◌≡◌, ◌-◌, ◌<◌, ℕ, ℤ, pos, Bool, not, false, List, [], ◌∷◌, map, filter}
 use Rattle.std.specs.Prelude.{true, ⊤}
 use Rattle.std.specs.Prelude.{nat_lt, nat_eq, count_by}

@@ -1,4 +1,4 @@
--- The result of a read call over tables with sound rows. This project's own.
+-- The result of a read call over tables with sound rows.
 use Rattle.std.specs.Prelude.{◌≡◌, ⊤, ℕ, List, Result, Ok, Err}
 use Rattle.sqlite.specs.State.{State, HasCleanDisk}
 use Rattle.book_model.specs.declared.denied.Denied.{Denied}

@@ -1,4 +1,4 @@
--- Rows that a call can change without a fault of the store. This project's own.
+-- Rows that a call can change without a fault of the store.
 use Rattle.std.specs.Prelude.{◌≡◌, ◌<◌, ◌≤◌, ◌^◌, ℕ, true, List, Some, IsTrue, Result, length}
 use Rattle.std.specs.FinMap as finite
 use Rattle.std.specs.List.{AllByRecursion, list_any}

@@ -1,4 +1,4 @@
--- The conversion of errors to faults. This project's own.
+-- The conversion of errors to faults.
 use Rattle.std.specs.Prelude.{◌≡◌}
 use Rattle.sqlite.specs.declared.error.Error.{Error}
 use Rattle.sqlite.specs.declared.error.Error.TheVariants.{SqliteFailure}

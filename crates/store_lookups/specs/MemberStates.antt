@@ -1,4 +1,4 @@
--- What a book has under a UID. This project's own.
+-- What a book has under a UID.
 use Rattle.std.specs.Prelude.{◌≡◌, ℕ, pos, Bool, true, false, if◌then◌else◌, List, Option, Some}
 use Rattle.std.specs.Prelude.{None}
 use Rattle.std.specs.Option.{option_map_or}

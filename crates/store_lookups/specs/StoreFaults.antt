@@ -1,4 +1,4 @@
--- The cause of a fault of the store, and rows that cause none. This project's own.
+-- The cause of a fault of the store, and rows that cause none.
 use Rattle.std.specs.Prelude.{◌≡◌, ◌<◌, ◌≤◌, ◌^◌, IfErr, IsUtf8, Result, length}
 use Rattle.std.specs.List.{AllByRecursion}
 use Rattle.sqlite.specs.Order.{Row}

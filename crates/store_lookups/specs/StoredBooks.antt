@@ -1,4 +1,4 @@
--- The books in a database, and the invariants of a store over it. This project's own.
+-- The books in a database, and the invariants of a store over it.
 use Rattle.std.specs.Prelude.{◌≡◌, IsTrue}
 use Rattle.sqlite.specs.State.{State, HasCleanDisk}
 use Rattle.book_model.specs.Books.{Books}

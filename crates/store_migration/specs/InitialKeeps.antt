@@ -1,4 +1,4 @@
--- The keep that a migration gives each book of the first schema. This project's own.
+-- The keep that a migration gives each book of the first schema.
 use Rattle.std.specs.Prelude.{ℕ, pos, max, List, [], ◌∷◌, map, filter, length}
 use Rattle.sqlite.specs.declared.types.Value.TheVariants.{Int}
 use Rattle.sqlite.specs.Order.{Row}

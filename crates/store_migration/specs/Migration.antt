@@ -1,4 +1,4 @@
--- The contract of the migration from the first schema to the second. This project's own.
+-- The contract of the migration from the first schema to the second.
 use Rattle.std.specs.Prelude.{◌≡◌, ⊤, ℕ, List, length, Option, Err}
 use Rattle.sqlite.specs.Effect.{Database}
 use Rattle.sqlite.specs.declared.error.Error.{Error}

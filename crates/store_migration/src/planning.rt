@@ -23,7 +23,7 @@ use sqlite::{Alter, Connection, Error, Row};
 use std::alloc::Global;
 use store_check::cells::has_number;
 use store_check::tables::are_well_stored;
-use store_schema::{OpenFault, open_fault_of, test_first_schema};
+use store_schema::{OpenFault, check_first_schema, open_fault_of};
 use vcard_text::NoMemory;
 
 /// The rows of the three tables that hold books in the first schema.
@@ -144,6 +144,6 @@ pub(crate) fn plan_migration<S: Alter>(
         → OnOk result (IsUnchanged S.Store conn.old conn.new) }
     ensures changes_nothing { ChangesNothing S.Store conn.old conn.new }
 {
-    test_first_schema(conn)?;
+    check_first_schema(conn)?;
     plan_keeps(alloc, conn, limits)
 }

@@ -1,2 +1,1 @@
-pub mod KeepQueries
 pub mod internal

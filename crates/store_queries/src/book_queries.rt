@@ -9,6 +9,7 @@ ghost use Rattle.book_model.specs.BookQueries.{
   book_line_with,
   book_tally,
   get_step,
+  keep_step,
   tally_step,
 };
 ghost use Rattle.book_model.specs.Counts.{AreCountsOf};
@@ -17,7 +18,6 @@ ghost use Rattle.store_rows.specs.TableBooks.{books_of, line_row, row_book};
 ghost use Rattle.store_lookups.specs.CallResults.{FollowsStep, IsExactly};
 ghost use Rattle.store_lookups.specs.Faults.{IsDeniedFault};
 ghost use Rattle.store_lookups.specs.StoreFaults.{FailsOnlyForMemory};
-ghost use Rattle.store_queries.specs.KeepQueries.{keep_step};
 ghost use Rattle.store_queries.specs.internal.QuerySteps.{import_tally_step, missing_card_step};
 ghost use Rattle.store_lookups.specs.OnConnections.{
   ChangeFaultsFromOutside,

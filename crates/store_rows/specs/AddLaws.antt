@@ -1,4 +1,4 @@
--- Laws of inserted rows: a new book with its keep, and the result of an import. This project's own.
+-- Laws of inserted rows: a new book with its keep, and the result of an import.
 use Rattle.std.specs.Prelude.{◌≡◌, ℕ, ℤ, pos, List, [], filter}
 use Rattle.std.specs.FinMap as finite
 use Rattle.sqlite.specs.Effect.{Database}

@@ -1,5 +1,4 @@
--- Laws of the writes within one book: rows of `member`, and the book's new numbers. This project's
--- own.
+-- Laws of the writes within one book: rows of `member`, and the book's new numbers.
 use Rattle.std.specs.Prelude.{◌≡◌, ◌+◌, ℕ, ℤ, pos, false, List, Option}
 use Rattle.std.specs.Option.{option_map}
 use Rattle.std.specs.Ordering.{int_eq}

@@ -1,5 +1,4 @@
--- Laws of removed members: how many are remembered, and the effect of forgetting some. This
--- project's own.
+-- Laws of removed members: how many are remembered, and the effect of forgetting some.
 use Rattle.std.specs.Prelude.{◌≡◌, ◌≤◌, ◌+◌, ℕ, pos, min, nat_le, if◌then◌else◌, List, [], ◌∷◌}
 use Rattle.std.specs.Prelude.{filter, length, Some, None, Ok, Err}
 use Rattle.std.specs.Option.{option_map_or}

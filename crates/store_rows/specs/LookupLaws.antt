@@ -1,4 +1,4 @@
--- Laws of look-ups: a look-up by key in a table is a look-up in the books. This project's own.
+-- Laws of look-ups: a look-up by key in a table is a look-up in the books.
 use Rattle.std.specs.Prelude.{◌≡◌, ℕ, List, [], filter, Option, Some, None, Ok, Err}
 use Rattle.std.specs.FinMap as finite
 use Rattle.sqlite.specs.declared.error.Error.TheVariants.{QueryReturnedNoRows}

@@ -1,4 +1,4 @@
--- Laws of whole tables, as they are read when a store is opened or created. This project's own.
+-- Laws of whole tables, as they are read when a store is opened or created.
 use Rattle.std.specs.Prelude.{◌≡◌, [], ◌∷◌, map}
 use Rattle.std.specs.List.Sorted.{IsPermutation}
 use Rattle.sqlite.specs.Effect.{Database}

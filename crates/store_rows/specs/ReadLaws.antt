@@ -1,4 +1,4 @@
--- Laws of sorted queries: due members, the cards of a book, and all books. This project's own.
+-- Laws of sorted queries: due members, the cards of a book, and all books.
 use Rattle.std.specs.Prelude.{◌≡◌, ◌<◌, ◌≤◌, ◌+◌, ⊤, ℕ, pos, List, [], ◌∷◌, filter, length, take}
 use Rattle.std.specs.Prelude.{fold}
 use Rattle.std.specs.FinMap as finite

@@ -1,4 +1,4 @@
--- The values in a result row of a query. This project's own.
+-- The values in a result row of a query.
 use Rattle.std.specs.Prelude.{◌≡◌, ◌<◌, ◌+◌, ⊤, ℕ, pos, List, [], ◌∷◌, Option, Some, None, Ok}
 use Rattle.sqlite.specs.declared.types.Value.TheVariants.{Null, Int, Text}
 use Rattle.sqlite.specs.Order.{Row, column}

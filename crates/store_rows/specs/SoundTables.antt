@@ -1,4 +1,4 @@
--- Sound rows, and rows of well-formed books. This project's own.
+-- Sound rows, and rows of well-formed books.
 use Rattle.std.specs.Prelude.{◌≡◌, ℤ, true, List, IfSome}
 use Rattle.std.specs.List.{AllByRecursion, list_any}
 use Rattle.sqlite.specs.Effect.{Database}

@@ -1,4 +1,4 @@
--- The books of the model that the rows of the tables represent. This project's own.
+-- The books of the model that the rows of the tables represent.
 use Rattle.std.specs.Prelude.{ℕ, ℤ, pos, List, map, filter, find}
 use Rattle.std.specs.Option.{option_map, option_map_or}
 use Rattle.std.specs.Ordering.{int_eq}

@@ -1,4 +1,4 @@
--- Laws of sound tables. This project's own.
+-- Laws of sound tables.
 use Rattle.std.specs.Prelude.{◌≡◌}
 use Rattle.std.specs.FinMap as finite
 use Rattle.sqlite.specs.Effect.{Database}

@@ -1,4 +1,4 @@
--- The rows of all tables, as values. This project's own.
+-- The rows of all tables, as values.
 use Rattle.std.specs.Prelude.{◌≡◌, ℕ, ℤ, List, [], ◌∷◌, map, Option}
 use Rattle.sqlite.specs.Effect.{Database}
 use Rattle.sqlite.specs.Order.{Row, column}

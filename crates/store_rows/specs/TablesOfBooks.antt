@@ -1,5 +1,5 @@
 -- The tables of a store, computed from its books. Only the order of the rows, and the ids of members
--- and of imports, don't follow from the books. This project's own.
+-- and of imports, don't follow from the books.
 use Rattle.std.specs.Prelude.{◌≡◌, ℕ, pos, false, List, [], ◌∷◌, drop, flat_map, map}
 use Rattle.std.specs.FinMap as finite
 use Rattle.std.specs.List.{AllByRecursion}

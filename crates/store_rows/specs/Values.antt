@@ -1,4 +1,4 @@
--- The numbers, texts and cards of column values. This project's own.
+-- The numbers, texts and cards of column values.
 use Rattle.std.specs.Prelude.{◌≡◌, ℕ, ℤ, pos, negsuc, List, [], Option, Some, None, Result, Ok, Err}
 use Rattle.sqlite.specs.declared.types.Value.{Value}
 use Rattle.sqlite.specs.declared.types.Value.TheVariants.{Null, Int, Real, Text, Blob}

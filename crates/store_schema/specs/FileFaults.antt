@@ -1,4 +1,4 @@
--- Why a store in files is refused, by what the files held. This project's own.
+-- Why a store in files is refused, by what the files held.
 use Rattle.std.specs.Prelude.{◌⊎◌, ⊤, Option, Some, None, Result, Ok, Err}
 use Rattle.sqlite.specs.declared.error.Error.{Error}
 use Rattle.sqlite.specs.declared.error.Error.TheVariants.{SqliteFailure}

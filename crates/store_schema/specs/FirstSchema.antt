@@ -1,4 +1,4 @@
--- The test of schema 1, which has no table `keeping`. This project's own.
+-- The test of schema 1, which has no table `keeping`.
 use Rattle.std.specs.Prelude.{◌≡◌, ⊤, ℤ, pos, Result, Ok, Err}
 use Rattle.sqlite.specs.Effect.{Database}
 use Rattle.store_tables.specs.SchemaCreation.{first_schema}

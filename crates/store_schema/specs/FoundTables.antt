@@ -1,5 +1,4 @@
 -- What a store that was opened over files has found, where no connection could be opened over it.
--- This project's own.
 use Rattle.std.specs.Prelude.{◌⊎◌, ⊤, Result, Ok, Err}
 use Rattle.sqlite.specs.Effect.{Database}
 use Rattle.sqlite.specs.Schema.{Schema}

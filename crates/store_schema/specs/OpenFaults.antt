@@ -1,4 +1,4 @@
--- The reasons why a store cannot be opened or created. This project's own.
+-- The reasons why a store cannot be opened or created.
 use Rattle.std.specs.Prelude.{◌≡◌, ◌⊎◌, ⊤, ℕ}
 use Rattle.sqlite.specs.declared.error.Error.{Error}
 use Rattle.sqlite.specs.declared.error.Error.TheVariants.{SqliteFailure}

@@ -1,4 +1,4 @@
--- The test of schema 2, and the effect of a test. This project's own.
+-- The test of schema 2, and the effect of a test.
 use Rattle.std.specs.Prelude.{◌≡◌, ◌⊎◌, ⊤, ℤ, [], ◌∷◌, map, false, IsTrue, Result, Ok, Err}
 use Rattle.sqlite.specs.Effect.{Database}
 use Rattle.sqlite.specs.Schema.{Schema}

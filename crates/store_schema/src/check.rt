@@ -22,7 +22,7 @@ pub(crate) const FIRST_SCHEMA_NUMBER: i64 = 1;
 /// schema number, or if the number is 2 and `keeping` is missing. Returns `OtherSchema` if the
 /// number is not 2. Any call may instead return `Memory` when out of memory, or `Store` on another
 /// error of the database.
-pub fn test_schema<S: Alter>(conn: &mut Connection<S>) -> Result<(), OpenFault>
+pub fn check_schema<S: Alter>(conn: &mut Connection<S>) -> Result<(), OpenFault>
     ensures answers { HasCleanDisk S.Store conn.new → ClassifiesSchema S.Store conn.old result }
     ensures unchanged { HasCleanDisk S.Store conn.new
         → OnOk result (IsUnchanged S.Store conn.old conn.new) }
@@ -46,7 +46,7 @@ pub fn test_schema<S: Alter>(conn: &mut Connection<S>) -> Result<(), OpenFault>
 /// schema number, or if the number is 1 and `keeping` is declared. Returns `OtherSchema` if the
 /// number is not 1. Any call may instead return `Memory` when out of memory, or `Store` on another
 /// error of the database.
-pub fn test_first_schema<S: Alter>(conn: &mut Connection<S>) -> Result<(), OpenFault>
+pub fn check_first_schema<S: Alter>(conn: &mut Connection<S>) -> Result<(), OpenFault>
     ensures answers { HasCleanDisk S.Store conn.new
         → ClassifiesFirstSchema S.Store conn.old result }
     ensures unchanged { HasCleanDisk S.Store conn.new

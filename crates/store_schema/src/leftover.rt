@@ -120,8 +120,8 @@ pub fn load_schema<S: Alter>(alloc: Global, store: &mut S) -> Result<Schema, Ope
     }
 }
 
-/// `test_schema` for a store that lists the schema.
-fn test_listed_schema<S: Alter>(
+/// `check_schema` for a store that lists the schema.
+fn check_listed_schema<S: Alter>(
     alloc: Global,
     store: &mut S,
     schema: &Schema,
@@ -141,8 +141,8 @@ fn test_listed_schema<S: Alter>(
     }
 }
 
-/// `test_first_schema` for a store that lists the schema.
-fn test_listed_first_schema<S: Alter>(
+/// `check_first_schema` for a store that lists the schema.
+fn check_listed_first_schema<S: Alter>(
     alloc: Global,
     store: &mut S,
     schema: &Schema,
@@ -162,28 +162,28 @@ fn test_listed_first_schema<S: Alter>(
     }
 }
 
-/// `test_schema` for a store over which no connection can be opened.
-fn test_found_schema<S: Alter>(alloc: Global, store: &mut S) -> Result<(), OpenFault>
+/// `check_schema` for a store over which no connection can be opened.
+fn check_found_schema<S: Alter>(alloc: Global, store: &mut S) -> Result<(), OpenFault>
     ensures answers { IsClean (S.Store.view store.new)
         → ClassifiesFound ClassifiesSchema (S.Store.recovers store.old) result }
     ensures quiet { IsQuiet S.Store.view S.Store.faults S.Store.recovers S.Store.is_shielded
         store.old store.new }
 {
     match load_schema(alloc, store) {
-        Ok(schema) => test_listed_schema(alloc, store, &schema),
+        Ok(schema) => check_listed_schema(alloc, store, &schema),
         Err(fault) => Err(fault),
     }
 }
 
-/// `test_first_schema` for a store over which no connection can be opened.
-fn test_found_first_schema<S: Alter>(alloc: Global, store: &mut S) -> Result<(), OpenFault>
+/// `check_first_schema` for a store over which no connection can be opened.
+fn check_found_first_schema<S: Alter>(alloc: Global, store: &mut S) -> Result<(), OpenFault>
     ensures answers { IsClean (S.Store.view store.new)
         → ClassifiesFound ClassifiesFirstSchema (S.Store.recovers store.old) result }
     ensures quiet { IsQuiet S.Store.view S.Store.faults S.Store.recovers S.Store.is_shielded
         store.old store.new }
 {
     match load_schema(alloc, store) {
-        Ok(schema) => test_listed_first_schema(alloc, store, &schema),
+        Ok(schema) => check_listed_first_schema(alloc, store, &schema),
         Err(fault) => Err(fault),
     }
 }
@@ -198,7 +198,7 @@ pub type FileRefusal<S> = (OpenFault, Option<Leftover<FileFrom<S>>>);
 /// and read.
 ///
 /// If no store was opened over the files, the fault is `NotOurs`. Otherwise it is the fault of
-/// `test_schema` for the tables in them, also `NotOurs` if they list no schema, and `Damaged` if
+/// `check_schema` for the tables in them, also `NotOurs` if they list no schema, and `Damaged` if
 /// the tables pass: then rows break the declarations. Any call may instead return `Memory` when out
 /// of memory, or `Store` on another error of the database.
 pub fn fault_of_leftover<S: Start>(alloc: Global, left: &mut Leftover<FileFrom<S>>) -> OpenFault
@@ -207,14 +207,14 @@ pub fn fault_of_leftover<S: Start>(alloc: Global, left: &mut Leftover<FileFrom<S
 {
     match left {
         Leftover::Files(_) | Leftover::Unopened(_) => OpenFault::NotOurs,
-        Leftover::Store(store) => match test_found_schema(alloc, store) {
+        Leftover::Store(store) => match check_found_schema(alloc, store) {
             Ok(()) => OpenFault::Damaged,
             Err(fault) => fault,
         },
     }
 }
 
-/// `fault_of_leftover` for files that were to hold tables of schema 1, by `test_first_schema`.
+/// `fault_of_leftover` for files that were to hold tables of schema 1, by `check_first_schema`.
 pub fn fault_of_first_leftover<S: Start>(
     alloc: Global,
     left: &mut Leftover<FileFrom<S>>,
@@ -224,7 +224,7 @@ pub fn fault_of_first_leftover<S: Start>(
 {
     match left {
         Leftover::Files(_) | Leftover::Unopened(_) => OpenFault::NotOurs,
-        Leftover::Store(store) => match test_found_first_schema(alloc, store) {
+        Leftover::Store(store) => match check_found_first_schema(alloc, store) {
             Ok(()) => OpenFault::Damaged,
             Err(fault) => fault,
         },

@@ -1,4 +1,4 @@
--- When the declared tables accept a write, and how an accepted write fails. This project's own.
+-- When the declared tables accept a write, and how an accepted write fails.
 use Rattle.std.specs.Prelude.{◌≡◌, ◌≢◌, ◌≤◌, ◌^◌, ℕ, Bool, true, false, ◌&&◌, List, length}
 use Rattle.std.specs.Prelude.{◌+ℤ◌, ◌<ℤ◌, ◌≤ℤ◌, ℤ, pos, IfErr, IfSome, IsTrue, Option, Result}
 use Rattle.std.specs.List.{AllByRecursion, list_any}

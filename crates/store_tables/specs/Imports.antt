@@ -1,5 +1,4 @@
--- The rows of the table `import_key`, one for each import that a book has stored under a key. This
--- project's own.
+-- The rows of the table `import_key`, one for each import that a book has stored under a key.
 use Rattle.std.specs.Prelude.{◌≡◌, ℕ, ℤ, Bool, false, ◌&&◌, List, [], ◌∷◌, map, bytes_eq}
 use Rattle.std.specs.Ordering.{int_eq}
 use Rattle.std.specs.List.Sorted.{IsPermutation}

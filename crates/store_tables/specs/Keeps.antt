@@ -1,5 +1,5 @@
 -- The rows of the table `keeping`, one for each book: its keep, which is how many removed members
--- it remembers at most. This project's own.
+-- it remembers at most.
 use Rattle.std.specs.Prelude.{◌≡◌, ℤ, Bool, false, List, [], ◌∷◌, map}
 use Rattle.std.specs.Ordering.{int_eq}
 use Rattle.std.specs.List.Sorted.{IsPermutation}

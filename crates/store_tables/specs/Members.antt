@@ -1,5 +1,5 @@
 -- The rows of the table `member`, one for each live member of a book and one for each removed
--- member that it remembers (RFC 6578, section 3.5). This project's own.
+-- member that it remembers (RFC 6578, section 3.5).
 use Rattle.std.specs.Prelude.{◌≡◌, ℕ, ℤ, Bool, not, false, ◌&&◌, ◌||◌, if◌then◌else◌, List, [], ◌∷◌}
 use Rattle.std.specs.Prelude.{map, filter, Option, is_some, bytes_eq, int_lt, int_le}
 use Rattle.std.specs.declared.cmp.Ordering.{Ordering}

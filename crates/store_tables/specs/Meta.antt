@@ -1,4 +1,4 @@
--- The row of the table `meta`: the schema number, under the name `schema`. This project's own.
+-- The row of the table `meta`: the schema number, under the name `schema`.
 use Rattle.std.specs.Prelude.{◌≡◌, ℤ, pos, List, [], ◌∷◌, map, codes}
 use Rattle.std.specs.List.Sorted.{IsPermutation}
 use Rattle.sqlite.specs.declared.types.Value.TheVariants.{Int, Text}

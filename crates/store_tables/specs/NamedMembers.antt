@@ -1,4 +1,4 @@
--- The members with a UID of the books with a name. This project's own.
+-- The members with a UID of the books with a name.
 use Rattle.std.specs.Prelude.{◌≡◌, ℕ, List, filter, Result, Ok, Err}
 use Rattle.sqlite.specs.declared.error.Error.{Error}
 use Rattle.sqlite.specs.Order.{Row}

@@ -1,7 +1,6 @@
 -- Definitions over connections, for contracts. Their parameters are the store's ghosts and a
 -- connection, or the connection before and after a call. Most apply the definition of the same name
 -- over states or databases to the state of the connection; the others combine such definitions.
--- This project's own.
 use Rattle.std.specs.Prelude.{◌≡◌, ℕ, ℤ, List, map, Option, Result, IfOk, OnErr, OnOk, IsTrue, ⊤}
 use Rattle.std.specs.Prelude.{Vec}
 use Rattle.std.specs.declared.alloc.Global.{Global}

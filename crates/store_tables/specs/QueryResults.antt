@@ -1,4 +1,4 @@
--- What a query returns, for rows of any table. This project's own.
+-- What a query returns, for rows of any table.
 use Rattle.std.specs.Prelude.{ℕ, ℤ, pos, min, ◌≡◌, Bool, false, List, [], ◌∷◌, map, filter, take}
 use Rattle.std.specs.Prelude.{Result, Ok, Err}
 use Rattle.std.specs.declared.cmp.Ordering.{Ordering}

@@ -1,4 +1,4 @@
--- The creation of the tables, one after another. This project's own.
+-- The creation of the tables, one after another.
 use Rattle.std.specs.Prelude.{◌≡◌, ℕ, List, [], ◌∷◌, take, IsTrue}
 use Rattle.std.specs.List.{AllByRecursion}
 use Rattle.sqlite.specs.Effect.{Database}

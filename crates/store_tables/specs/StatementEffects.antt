@@ -1,5 +1,4 @@
--- The effect of a statement on a connection, by the states of the `sqlite` crate. This project's
--- own.
+-- The effect of a statement on a connection, by the states of the `sqlite` crate.
 use Rattle.std.specs.Prelude.{◌≡◌, ◌≢◌, ◌⊎◌, ℕ, List, false, IsTrue}
 use Rattle.std.specs.List.{AllByRecursion}
 use Rattle.sqlite.specs.Order.{Row}

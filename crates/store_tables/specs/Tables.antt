@@ -1,5 +1,5 @@
 -- The five declared tables and the indexes of their keys, as `sqlite_schema` represents them. The
--- rows of a table are in the tree with the number `tree`. This project's own.
+-- rows of a table are in the tree with the number `tree`.
 use Rattle.std.specs.Prelude.{ℕ, true, false, List, [], ◌∷◌, Some, None, codes}
 use Rattle.sqlite.specs.Collation.TheVariants.{Binary}
 use Rattle.sqlite.specs.Kind.TheVariants.{Integer, Text}

@@ -1,4 +1,4 @@
--- Changes of one book that the declared tables accept. This project's own.
+-- Changes of one book that the declared tables accept.
 use Rattle.std.specs.Prelude.{ℕ, ℤ, pos, List, Option}
 use Rattle.sqlite.specs.Effect.{Database}
 use Rattle.store_tables.specs.Acceptance.{AcceptsMember, HasFreeIds, IsShort}

@@ -1,4 +1,4 @@
--- The tables before and after a change, and the contract of a changing call. This project's own.
+-- The tables before and after a change, and the contract of a changing call.
 use Rattle.std.specs.Prelude.{◌≡◌, false, ℕ, ℤ, pos, List, IsTrue, Result, Ok, Err}
 use Rattle.std.specs.Ordering.{int_eq}
 use Rattle.sqlite.specs.Effect.{Database}

@@ -1,4 +1,4 @@
--- The invariant of a book in memory. This project's own.
+-- The invariant of a book in memory.
 use Rattle.std.specs.Prelude.{ℕ, ◌≡◌, ◌≤◌, List, map, filter, Option}
 use Rattle.std.specs.Option.{option_and_then}
 use Rattle.std.specs.List.{AllByRecursion}

@@ -1,4 +1,4 @@
--- Equality of devices, as `==` decides it. This project's own.
+-- Equality of devices, as `==` decides it.
 use Rattle.std.specs.Prelude.{Bool, bytes_eq}
 use Rattle.std.specs.Cmp.{IsEquivalence, on_equiv, and_equiv}
 use Rattle.std.specs.Cmp.Lexicographic.{pointwise, lists_equiv, options_equiv, nat_list_eq_equiv}

@@ -1,4 +1,4 @@
--- How a book in memory applies an import, and rolls it back. This project's own.
+-- How a book in memory applies an import, and rolls it back.
 use Rattle.std.specs.Prelude.{ℕ, ◌+◌, ◌-◌, ◌<◌, ◌≤◌, ◌^◌, List, [], ◌∷◌, Option, Some, None, min}
 use Rattle.std.specs.Option.{option_map_or}
 use Rattle.std.specs.FinMap as finite

@@ -1,4 +1,4 @@
--- What contracts know of a store of books, whatever it keeps them in. This project's own.
+-- What contracts know of a store of books, whatever it keeps them in.
 use Rattle.std.specs.Prelude.{◌≡◌, Result}
 use Rattle.book_model.specs.Bounds.{Bounds, IsInRange}
 use Rattle.book_model.specs.Books.{Books}

@@ -1,4 +1,4 @@
--- The uniqueness of token texts. This project's own.
+-- The uniqueness of token texts.
 use Rattle.std.specs.Prelude.{ℕ, ◌≡◌, List}
 use Rattle.book_model.specs.declared.token.Token.{Token}
 use Rattle.sync_core.specs.TokenTexts.{IsTokenText}

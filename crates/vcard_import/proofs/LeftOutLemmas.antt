@@ -6,7 +6,7 @@ use Rattle.std.proofs.lemmas.Bool.{false≢true}
 use Rattle.std.proofs.lemmas.List.Sums.{sum_by-cons}
 use Rattle.vcard_lines.specs.declared.line.Line.{Line}
 use Rattle.vcard_property.specs.declared.change_kind.ChangeKind.{ChangeKind}
-use Rattle.vcard_property.specs.declared.change_kind.ChangeKind.TheVariants.{Rewritten, Renamed, KeptAside, Unreadable, Added, Joined, LeftOut, Labelled, Shortened}
+use Rattle.vcard_property.specs.declared.change_kind.ChangeKind.TheVariants.{Rewritten, Renamed, KeptAside, Unreadable, Added, Joined, LeftOut, Labelled, Shortened, Cleaned}
 use Rattle.vcard_import.specs.Conversions.{addition}
 use Rattle.vcard_import.specs.Labels.{HaveAddresses, fits, is_joined, says_joined}
 use Rattle.vcard_import.specs.LeftOut.{has_left_out, says_left_out}
@@ -24,6 +24,7 @@ both_false s t x y = rw (x, y) refl
 pub kind_stays : (kind : ChangeKind) (line : Line) → fits kind line ≡ true → says_left_out kind ≡ false
 kind_stays Rewritten line e = refl
 kind_stays Shortened line e = refl
+kind_stays Cleaned line e = refl
 kind_stays Renamed line e = refl
 kind_stays KeptAside line e = refl
 kind_stays Unreadable line e = refl
@@ -35,6 +36,7 @@ kind_stays Labelled line e = refl
 pub kind_is_unjoined : (kind : ChangeKind) (line : Line) → fits kind line ≡ true → says_joined kind ≡ false
 kind_is_unjoined Rewritten line e = refl
 kind_is_unjoined Shortened line e = refl
+kind_is_unjoined Cleaned line e = refl
 kind_is_unjoined Renamed line e = refl
 kind_is_unjoined KeptAside line e = refl
 kind_is_unjoined Unreadable line e = refl

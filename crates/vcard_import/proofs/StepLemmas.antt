@@ -14,7 +14,7 @@ use Rattle.vcard_property.specs.Lines.{IsUidLine}
 use Rattle.vcard_import.specs.Delimiters.{is_delimiter}
 use Rattle.vcard_import.specs.declared.card_lines.CardLines.{CardLines}
 use Rattle.vcard_import.specs.declared.rules.Reading.{Reading}
-use Rattle.vcard_import.specs.Conversions.{Become}
+use Rattle.vcard_import.specs.Conversions.{BecomeCard}
 use Rattle.vcard_import.specs.internal.Steps.{ArePassed, Extends, Makes, breaks_rule, found_uid, has_joined}
 use Rattle.vcard_import.specs.Labels.{is_joined}
 use Rattle.vcard_import.specs.LeftOut.{has_left_out, is_left_out, may_go}
@@ -71,9 +71,9 @@ none_found p (first ∷ lines) e =
 
 -- ---- one more logical line
 
-made_more : (before : List RawLine) (raw : RawLine) (start end : CardLines) (line : Line) → Become (before ++ raw ∷ []) (start.lines ++ line ∷ []) end.changes → end.lines ≡ start.lines ++ line ∷ [] → end.seen.uid ≡ (start.seen.uid || line_is_named (codes "UID") line) → end.seen.kind ≡ (start.seen.kind || line_is_named (codes "KIND") line) → IsProperLine line → card_line_fault start.lines line ≡ None → Makes before start → Makes (before ++ raw ∷ []) end
+made_more : (before : List RawLine) (raw : RawLine) (start end : CardLines) (line : Line) → BecomeCard (before ++ raw ∷ []) (start.lines ++ line ∷ []) end.changes → end.lines ≡ start.lines ++ line ∷ [] → end.seen.uid ≡ (start.seen.uid || line_is_named (codes "UID") line) → end.seen.kind ≡ (start.seen.kind || line_is_named (codes "KIND") line) → IsProperLine line → card_line_fault start.lines line ≡ None → Makes before start → Makes (before ++ raw ∷ []) end
 made_more before raw start end line become is u k p e m = record {
-  become = subst (λ l. Become (before ++ raw ∷ []) l end.changes) (sym is) become;
+  become = subst (λ l. BecomeCard (before ++ raw ∷ []) l end.changes) (sym is) become;
   proper = subst (AllByRecursion IsProperLine) (sym is) (all_more start.lines line m.proper p);
   passed = subst ArePassed (sym is) (passed_more start.lines line m.passed e);
   seen = record {
@@ -85,7 +85,7 @@ made_more before raw start end line become is u k p e m = record {
 both_false : (a b : Bool) → a ≡ false → b ≡ false → (a || b) ≡ false
 both_false a b x y = rw (x, y) refl
 
-pub pushed : (reading : Reading) (raw : RawLine) (start end : CardLines) (line : Line) → end.lines ≡ start.lines ++ line ∷ [] → end.seen.uid ≡ (start.seen.uid || line_is_named (codes "UID") line) → end.seen.kind ≡ (start.seen.kind || line_is_named (codes "KIND") line) → ((before : List RawLine) → Become before start.lines start.changes → Become (before ++ raw ∷ []) (start.lines ++ line ∷ []) end.changes) → IsProperLine line → breaks_rule start.seen reading line ≡ false → (has_left_out start.changes ≡ false → has_left_out end.changes ≡ false) → (has_joined start.changes ≡ false → has_joined end.changes ≡ false) → Extends reading (raw ∷ []) start end
+pub pushed : (reading : Reading) (raw : RawLine) (start end : CardLines) (line : Line) → end.lines ≡ start.lines ++ line ∷ [] → end.seen.uid ≡ (start.seen.uid || line_is_named (codes "UID") line) → end.seen.kind ≡ (start.seen.kind || line_is_named (codes "KIND") line) → ((before : List RawLine) → BecomeCard before start.lines start.changes → BecomeCard (before ++ raw ∷ []) (start.lines ++ line ∷ []) end.changes) → IsProperLine line → breaks_rule start.seen reading line ≡ false → (has_left_out start.changes ≡ false → has_left_out end.changes ≡ false) → (has_joined start.changes ≡ false → has_joined end.changes ≡ false) → Extends reading (raw ∷ []) start end
 pushed reading raw start end line is u k become p h stays unjoined = record {
   makes = λ before m. made_more before raw start end line (become before m.become) is u k p (line_is_free start.lines line p (body_is_free start.lines start.seen reading line m.seen h)) m;
   uid = λ t. ap found_uid is ∙ find_skips (line_is_named (codes "UID")) start.lines line (is_no_uid start.seen reading line t h);
@@ -107,8 +107,8 @@ skipped reading raw start d = record {
 pub left : (reading : Reading) (raw : RawLine) (start end : CardLines) (change : Change) → change.place ≡ raw.place → may_go change.kind raw ≡ true → (reading.leaves_out ≡ false → is_left_out change ≡ false) → (reading.joins ≡ false → is_joined change ≡ false) → end.lines ≡ start.lines → end.seen ≡ start.seen → end.changes ≡ start.changes ++ change ∷ [] → Extends reading (raw ∷ []) start end
 left reading raw start end change place may stays unjoined lines seen changes = record {
   makes = λ before m. record {
-    become = subst (λ c. Become (before ++ raw ∷ []) end.lines c) (sym changes)
-        (subst (λ l. Become (before ++ raw ∷ []) l (start.changes ++ change ∷ [])) (sym lines) (gone before raw start.lines start.changes change place may m.become));
+    become = subst (λ c. BecomeCard (before ++ raw ∷ []) end.lines c) (sym changes)
+        (subst (λ l. BecomeCard (before ++ raw ∷ []) l (start.changes ++ change ∷ [])) (sym lines) (gone before raw start.lines start.changes change place may m.become));
     proper = subst (AllByRecursion IsProperLine) (sym lines) m.proper;
     passed = subst ArePassed (sym lines) m.passed;
     seen = record {

@@ -1,5 +1,5 @@
 -- Which card the logical lines of another program's card become, and which changes are reported.
--- What a changed line becomes is not defined. This project's own.
+-- What a changed line becomes is not defined.
 use Rattle.std.specs.Prelude.{ℕ, ◌≡◌, Bool, true, false, List, [], ◌∷◌, ◌++◌, map, codes, Some, ◌⊎◌}
 use Rattle.std.specs.Prelude.{if◌then◌else◌}
 use Rattle.std.specs.List.{list_any}
@@ -68,13 +68,13 @@ pub record IsGone (raw : RawLine) (Rest : List Change → Type 0) (changes : Lis
 -- Each logical line becomes one line of the card, in order; only one that begins or ends a card or
 -- gives its version may be missing, and one that the changes call joined to another or left out.
 -- The changes are those of the logical lines that don't spell the line that they became, in order.
-abbrev pub Become : List RawLine → List Line → List Change → Type 0
-Become [] card changes = (card ≡ []) × (changes ≡ [])
-Become (raw ∷ raws) card changes =
-    ((is_delimiter raw.octets ≡ true) × Become raws card changes)
-    ⊎ (IsKept raw.octets (λ others. Become raws others changes) card
-    ⊎ (IsChanged raw (λ others more. Become raws others more) card changes
-    ⊎ IsGone raw (λ more. Become raws card more) changes))
+abbrev pub BecomeCard : List RawLine → List Line → List Change → Type 0
+BecomeCard [] card changes = (card ≡ []) × (changes ≡ [])
+BecomeCard (raw ∷ raws) card changes =
+    ((is_delimiter raw.octets ≡ true) × BecomeCard raws card changes)
+    ⊎ (IsKept raw.octets (λ others. BecomeCard raws others changes) card
+    ⊎ (IsChanged raw (λ others more. BecomeCard raws others more) card changes
+    ⊎ IsGone raw (λ more. BecomeCard raws card more) changes))
 
 -- ---- the lines that are added
 
@@ -107,7 +107,7 @@ card_raw_lines octets = raw_lines (folding_of octets) (without_end (without_bom 
 pub record IsConverted (octets : List ℕ) (card : List Line) (changes : List Change) : Type 0 where
   pub lines : List Line
   pub reported : List Change
-  pub become : Become (card_raw_lines octets) lines reported
+  pub become : BecomeCard (card_raw_lines octets) lines reported
   pub labels : HaveAddresses reported
   pub name : List ℕ
   pub card_is : card ≡ lines ++ missing_lines octets name lines

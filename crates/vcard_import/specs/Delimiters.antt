@@ -1,5 +1,5 @@
 -- The logical lines that begin or end a card or give its version (RFC 6350, sections 6.1.1, 6.1.2
--- and 6.7.9). They are no properties of the card. This project's own.
+-- and 6.7.9). They are no properties of the card.
 use Rattle.std.specs.Prelude.{ℕ, Bool, ◌||◌, List, codes}
 use Rattle.import_text.specs.Pieces.{is_word_line}
 use Rattle.import_text.specs.RawLines.{begins_with_word}

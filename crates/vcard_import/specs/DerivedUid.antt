@@ -1,5 +1,4 @@
--- The UID of a card that has none (RFC 9562, section 5.5; RFC 6350, section 6.7.6). This project's
--- own.
+-- The UID of a card that has none (RFC 9562, section 5.5; RFC 6350, section 6.7.6).
 use Rattle.std.specs.Prelude.{ℕ, List, ◌++◌, take}
 use Rattle.sha1.specs.Sha1.{sha1}
 use Rattle.uuid.specs.Parts.{with_version, with_variant}

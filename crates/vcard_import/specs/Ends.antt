@@ -1,5 +1,5 @@
 -- Where the lines of a card stop: before its END:VCARD (RFC 6350, section 6.1.2). A line of
--- quoted-printable before it that ends with an equals sign doesn't go on in it. This project's own.
+-- quoted-printable before it that ends with an equals sign doesn't go on in it.
 use Rattle.std.specs.Prelude.{ℕ, Bool, ◌+◌, ◌==◌, ◌&&◌, List, [], ◌∷◌, take, codes, if◌then◌else◌}
 use Rattle.base_types.specs.Octets.{line_feed}
 use Rattle.import_text.specs.Pieces.{is_word_line}

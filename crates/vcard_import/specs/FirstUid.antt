@@ -1,4 +1,4 @@
--- The UID that a card of another program has (RFC 6350, section 6.7.6). This project's own.
+-- The UID that a card of another program has (RFC 6350, section 6.7.6).
 use Rattle.std.specs.Prelude.{Bool, false, ◌&&◌, ◌||◌, List, [], ◌∷◌, Option, Some, None}
 use Rattle.std.specs.Prelude.{if◌then◌else◌}
 use Rattle.import_text.specs.declared.raw_line.RawLine.{RawLine}

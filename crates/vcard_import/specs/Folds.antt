@@ -1,7 +1,7 @@
 -- How the lines of a card are folded. vCard 2.1, section 2.1.3, folds a line where its value has
 -- white space, and the value keeps it. vCard 3.0 and 4.0 cut a line anywhere and put a space before
 -- the rest (RFC 2425, section 5.8.1; RFC 6350, section 3.2). Qt and telephones do so in vCard 2.1
--- too. The sign is the width: such a card cuts no line that isn't full. This project's own.
+-- too. The sign is the width: such a card cuts no line that isn't full.
 use Rattle.std.specs.Prelude.{ℕ, ◌+◌, ◌==◌, ◌&&◌, ◌||◌, Bool, true, false, nat_lt, List, [], ◌∷◌}
 use Rattle.std.specs.Prelude.{Option, Some, None, if◌then◌else◌}
 use Rattle.base_types.specs.Octets.{carriage_return, line_feed, space, tab}

@@ -1,5 +1,5 @@
 -- Labels of addresses. In vCard 4.0 a label is a parameter of its address (RFC 6350, section
--- 6.3.1). This project's own.
+-- 6.3.1).
 use Rattle.std.specs.Prelude.{Bool, true, false, ◌&&◌, ◌||◌, ◌≤◌, List, count_by}
 use Rattle.vcard_lines.specs.declared.line.Line.{Line}
 use Rattle.vcard_property.specs.Kinds.{fits_kind}
@@ -9,11 +9,13 @@ use Rattle.vcard_property.specs.declared.change_kind.ChangeKind.TheVariants.{Rew
 use Rattle.vcard_property.specs.declared.change_kind.ChangeKind.TheVariants.{KeptAside, Unreadable}
 use Rattle.vcard_property.specs.declared.change_kind.ChangeKind.TheVariants.{Added, Joined, LeftOut}
 use Rattle.vcard_property.specs.declared.change_kind.ChangeKind.TheVariants.{Labelled, Shortened}
+use Rattle.vcard_property.specs.declared.change_kind.ChangeKind.TheVariants.{Cleaned}
 use Rattle.vcard_import.specs.declared.change.Change.{Change}
 
 abbrev pub says_joined : ChangeKind → Bool
 says_joined Rewritten = false
 says_joined Shortened = false
+says_joined Cleaned = false
 says_joined Renamed = false
 says_joined KeptAside = false
 says_joined Unreadable = false
@@ -29,6 +31,7 @@ is_joined change = says_joined change.kind
 abbrev pub says_labelled : ChangeKind → Bool
 says_labelled Rewritten = false
 says_labelled Shortened = false
+says_labelled Cleaned = false
 says_labelled Renamed = false
 says_labelled KeptAside = false
 says_labelled Unreadable = false

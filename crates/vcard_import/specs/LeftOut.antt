@@ -1,6 +1,6 @@
 -- The logical lines that may have no line of their own: labels, which vCard 4.0 has as a parameter
 -- of their address (RFC 6350, section 6.3.1), and photos and the like (sections 6.2.4, 6.6.3 and
--- 6.7.5) of a card that would be too long with them. This project's own.
+-- 6.7.5) of a card that would be too long with them.
 use Rattle.std.specs.Prelude.{Bool, true, false, ◌||◌, List, codes}
 use Rattle.std.specs.List.{list_any}
 use Rattle.import_text.specs.RawLines.{is_encoded_as}
@@ -10,6 +10,7 @@ use Rattle.vcard_property.specs.declared.change_kind.ChangeKind.TheVariants.{Rew
 use Rattle.vcard_property.specs.declared.change_kind.ChangeKind.TheVariants.{KeptAside, Unreadable}
 use Rattle.vcard_property.specs.declared.change_kind.ChangeKind.TheVariants.{Added, Joined, LeftOut}
 use Rattle.vcard_property.specs.declared.change_kind.ChangeKind.TheVariants.{Labelled, Shortened}
+use Rattle.vcard_property.specs.declared.change_kind.ChangeKind.TheVariants.{Cleaned}
 use Rattle.vcard_import.specs.declared.change.Change.{Change}
 
 -- the head of the logical line has the name of a property with pictures or sounds
@@ -21,6 +22,7 @@ is_media raw = is_encoded_as (codes "PHOTO") raw.octets || is_encoded_as (codes 
 abbrev pub may_go : ChangeKind → RawLine → Bool
 may_go Rewritten raw = false
 may_go Shortened raw = false
+may_go Cleaned raw = false
 may_go Renamed raw = false
 may_go KeptAside raw = false
 may_go Unreadable raw = false
@@ -32,6 +34,7 @@ may_go Labelled raw = false
 abbrev pub says_left_out : ChangeKind → Bool
 says_left_out Rewritten = false
 says_left_out Shortened = false
+says_left_out Cleaned = false
 says_left_out Renamed = false
 says_left_out KeptAside = false
 says_left_out Unreadable = false

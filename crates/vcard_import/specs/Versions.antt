@@ -1,5 +1,4 @@
 -- Which version of vCard a card says it has (RFC 2426, section 3.6.9; RFC 6350, section 6.7.9).
--- This project's own.
 use Rattle.std.specs.Prelude.{ℕ, ◌==◌, List, codes, find, slice_index_or, Option}
 use Rattle.std.specs.Prelude.{Some, None, if◌then◌else◌}
 use Rattle.std.specs.List.{slice_split}

@@ -1,4 +1,4 @@
--- Cards that are one piece of a file, whatever comes after them. This project's own.
+-- Cards that are one piece of a file, whatever comes after them.
 use Rattle.std.specs.Prelude.{ℕ, ◌≡◌, Bool, true, not, ◌||◌, List, [], ◌∷◌, ◌++◌, codes}
 use Rattle.std.specs.List.{list_all}
 use Rattle.base_types.specs.Octets.{line_feed}

@@ -21,7 +21,7 @@ use crate::rules::{Reading, Seen, breaks_rule, has_stray_members};
 use import_text::{RawLine, is_word_line, read_text};
 use std::alloc::Global;
 use vcard_property::{
-    ChangeKind, Version, are_line, aside_line, convert_line, text_line, with_label,
+    ChangeKind, Version, are_line, convert_line, extension_line, text_line, with_label,
 };
 use vcard_text::{Items, Line, NoMemory};
 
@@ -74,7 +74,7 @@ fn line_after(
     if !breaks_rule(seen, &line, reading) {
         return Ok((line, kind));
     }
-    Ok((aside_line(alloc, line)?, ChangeKind::KeptAside))
+    Ok((extension_line(alloc, line)?, ChangeKind::KeptAside))
 }
 
 /// The line for a logical line of a card within the card, which is the value of an AGENT.

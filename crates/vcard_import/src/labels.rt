@@ -104,7 +104,7 @@ fn join_labels(
 }
 
 /// What the labels of a card make of each of its logical lines. A label belongs to the next address
-/// of the same types that has none. Empty if there are no labels, or in vCard 4.0, which has none.
+/// of the same types that has none, unless it has more than its types and its text. Empty if there are no labels, or in vCard 4.0, which has none.
 pub(crate) fn labels_of(
     alloc: Global,
     raws: &[RawLine],

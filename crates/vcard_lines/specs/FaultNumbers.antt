@@ -1,4 +1,4 @@
--- The numbers and the texts of card faults. This project's own.
+-- The numbers and the texts of card faults.
 use Rattle.std.specs.Prelude.{ℕ, List, codes}
 use Rattle.vcard_lines.specs.declared.fault.CardFault.{CardFault}
 use Rattle.vcard_lines.specs.declared.fault.CardFault.TheVariants.{TooLong, NotUtf8, BadChar}

@@ -1,5 +1,5 @@
 -- Combinators for reading from left to right, up to the first fault. Only one public contract, that
--- of `read_line`, cites any of them: `ResultIs`. This project's own.
+-- of `read_line`, cites any of them: `ResultIs`.
 use Rattle.std.specs.Prelude.{◌≡◌, ℕ, zero, suc, List, [], ◌∷◌, Option, Some, None, Result, Ok, Err}
 use Rattle.std.specs.Prelude.{◌==◌, if◌then◌else◌}
 use Rattle.vcard_lines.specs.declared.fault.CardFault.{CardFault}

@@ -16,7 +16,7 @@ use Rattle.base_types.specs.Octets.{is_lower}
 use Rattle.vcard_lines.proofs.FrontLemmas.{name_is_ascii, of_class, all_of_class}
 use Rattle.vcard_lines.proofs.LegalPartLemmas.{legal_from_test, legal_to_test}
 use Rattle.vcard_text.specs.Cards.{IsProperLine}
-use Rattle.vcard_property.specs.Lines.{plain_line, aside_line}
+use Rattle.vcard_property.specs.Lines.{plain_line, extension_line}
 use Rattle.vcard_property.specs.internal.ProperTests.{has_upper_name, has_proper_parts}
 
 -- ---- upper case
@@ -152,14 +152,14 @@ tests_are_exact line permitted parts e f utf8 = (
   λ proper. rw (e, f) (proper_passes line proper),
 )
 
-aside_is_name : (name : List ℕ) → IsName name → IsName (codes "X-" ++ name)
-aside_is_name name n = record { nonempty = omega arith; of_class = of-append is_name_octet (codes "X-") name (refl, (refl, tt)) n.of_class }
+extension_is_name : (name : List ℕ) → IsName name → IsName (codes "X-" ++ name)
+extension_is_name name n = record { nonempty = omega arith; of_class = of-append is_name_octet (codes "X-") name (refl, (refl, tt)) n.of_class }
 
-pub aside_is_proper : (line : Line) → IsProperLine line → IsProperLine (aside_line line)
-aside_is_proper line p =
+pub extension_is_proper : (line : Line) → IsProperLine line → IsProperLine (extension_line line)
+extension_is_proper line p =
     let group = group_text line.group in
     let rest = params_text line.params ++ 58 ∷ line.value in
-    let name : IsName (codes "X-" ++ line.name) = aside_is_name line.name p.name in
+    let name : IsName (codes "X-" ++ line.name) = extension_is_name line.name p.name in
     record {
       upper = ap (λ n. codes "X-" ++ n) p.upper;
       name = name;

@@ -1,10 +1,11 @@
--- What the kind of a change says of the line that was made. This project's own.
+-- What the kind of a change says of the line that was made.
 use Rattle.std.specs.Prelude.{ℕ, Bool, true, false, List, take, bytes_eq, codes}
 use Rattle.vcard_property.specs.declared.change_kind.ChangeKind.{ChangeKind}
 use Rattle.vcard_property.specs.declared.change_kind.ChangeKind.TheVariants.{Rewritten, Renamed}
 use Rattle.vcard_property.specs.declared.change_kind.ChangeKind.TheVariants.{KeptAside, Unreadable}
 use Rattle.vcard_property.specs.declared.change_kind.ChangeKind.TheVariants.{Added, Joined, LeftOut}
 use Rattle.vcard_property.specs.declared.change_kind.ChangeKind.TheVariants.{Labelled, Shortened}
+use Rattle.vcard_property.specs.declared.change_kind.ChangeKind.TheVariants.{Cleaned}
 
 -- the name begins with X-
 abbrev pub is_aside_name : List ℕ → Bool
@@ -16,6 +17,7 @@ is_aside_name name = bytes_eq (take 2 name) (codes "X-")
 abbrev pub fits_kind : ChangeKind → List ℕ → Bool
 fits_kind Rewritten name = true
 fits_kind Shortened name = true
+fits_kind Cleaned name = true
 fits_kind Renamed name = true
 fits_kind KeptAside name = is_aside_name name
 fits_kind Unreadable name = bytes_eq name (codes "X-UNREADABLE")

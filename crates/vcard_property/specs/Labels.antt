@@ -1,5 +1,5 @@
 -- Labels of addresses. In vCard 4.0 a label is a parameter of its address (RFC 6350, section
--- 6.3.1). This project's own.
+-- 6.3.1).
 use Rattle.std.specs.Prelude.{Bool, ◌&&◌, codes}
 use Rattle.std.specs.List.{list_any}
 use Rattle.std.specs.Str.{str_eq_ignore_ascii_case}

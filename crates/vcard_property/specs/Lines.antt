@@ -1,4 +1,4 @@
--- Lines that are made for others. This project's own.
+-- Lines that are made for others.
 use Rattle.std.specs.Prelude.{ℕ, ◌≡◌, true, List, [], ◌++◌, None, codes}
 use Rattle.vcard_lines.specs.declared.line.Line.{Line}
 use Rattle.vcard_text.specs.Cards.{IsProperLine, line_is_named, is_uid}
@@ -8,8 +8,8 @@ abbrev pub plain_line : List ℕ → List ℕ → Line
 plain_line name value = record { group = None; name = name; params = []; value = value }
 
 -- the line with X- before its name, otherwise unchanged
-abbrev pub aside_line : Line → Line
-aside_line line = record {
+abbrev pub extension_line : Line → Line
+extension_line line = record {
   group = line.group;
   name = codes "X-" ++ line.name;
   params = line.params;

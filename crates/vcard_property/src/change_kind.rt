@@ -10,6 +10,8 @@ pub enum ChangeKind {
     Rewritten,
     /// The same, but a part of the value is lost: vCard 4.0 has no fraction of a second.
     Shortened,
+    /// The same, but control characters of the value became spaces, or were dropped.
+    Cleaned,
     /// vCard 4.0 has the property under another name.
     Renamed,
     /// vCard 4.0 has no such property, or the card may not have it here: it is kept under a name
@@ -32,6 +34,7 @@ impl fmt::Display for ChangeKind {
         f.write_str(match self {
             ChangeKind::Rewritten => "rewritten",
             ChangeKind::Shortened => "rewritten without the fraction of a second",
+            ChangeKind::Cleaned => "rewritten without control characters",
             ChangeKind::Renamed => "renamed",
             ChangeKind::KeptAside => "kept aside",
             ChangeKind::Unreadable => "unreadable",

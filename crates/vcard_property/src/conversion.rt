@@ -1,5 +1,5 @@
 //! Converts one logical line.
-ghost use Rattle.std.specs.Prelude.{◌≡◌, true, IfOk, IfSome};
+ghost use Rattle.std.specs.Prelude.{◌≡◌, ℕ, List, true, IfOk, IfSome};
 ghost use Rattle.vcard_lines.specs.declared.line.Line.{Line};
 ghost use Rattle.vcard_text.specs.Cards.{IsProperLine};
 ghost use Rattle.vcard_property.specs.Kinds.{fits_kind};
@@ -10,7 +10,7 @@ use crate::dates::has_fraction;
 use crate::decoding::decode;
 use crate::kept_texts::text_line;
 use crate::proper_line::proper_line;
-use crate::property::read_property;
+use crate::property::{Encoding, Property, read_property};
 use crate::property_line::{is_date_name, line_of};
 use crate::same_line::read_same_line;
 use crate::version::Version;
@@ -18,15 +18,43 @@ use import_text::read_text;
 use std::alloc::Global;
 use vcard_text::{Line, NoMemory};
 
-/// What became of a line of one name that now has the other. Its value may have lost the fraction
-/// of a second.
-fn kind_of(old: &str, new: &str, is_shortened: bool) -> ChangeKind
+/// What the value of a line lost.
+#[derive(Clone, Copy)]
+enum Loss {
+    Nothing,
+    /// Control characters.
+    Controls,
+    /// The fraction of a second.
+    Fraction,
+}
+
+/// What became of a line that keeps its name.
+fn kind_with(loss: Loss) -> ChangeKind
+    ensures { (name : List ℕ) → fits_kind result name ≡ true }
+{
+    match loss {
+        Loss::Nothing => ChangeKind::Rewritten,
+        Loss::Controls => ChangeKind::Cleaned,
+        Loss::Fraction => ChangeKind::Shortened,
+    }
+}
+
+/// Whether the property is a text with a control character that no value of vCard 4.0 may have. A
+/// line feed is escaped.
+fn has_control(property: &Property) -> bool {
+    let text = property.value.as_str();
+    matches!(property.encoding, Encoding::Plain)
+        && text
+            .chars()
+            .any(|c| c.is_control() && c != '\t' && c != '\n')
+}
+
+/// What became of a line of one name that now has the other. Its value may have lost something.
+fn kind_of(old: &str, new: &str, loss: Loss) -> ChangeKind
     ensures { fits_kind result new.now ≡ true }
 {
-    if old == new && is_shortened {
-        ChangeKind::Shortened
-    } else if old == new {
-        ChangeKind::Rewritten
+    if old == new {
+        kind_with(loss)
     } else if new.starts_with("X-") {
         ChangeKind::KeptAside
     } else {
@@ -51,12 +79,19 @@ fn property_line(
     decode(alloc, &mut property, octets)?;
     let name = property.name.try_copy()?;
     let had_fraction = is_date_name(name.as_str()) && has_fraction(property.value.as_str());
+    let had_control = has_control(&property);
     let line = line_of(alloc, property, version)?;
     let Some(line) = proper_line(alloc, line)? else {
         return Ok(None);
     };
-    let is_shortened = had_fraction && !has_fraction(line.value.as_str());
-    let kind = kind_of(name.as_str(), line.name.as_str(), is_shortened);
+    let loss = if had_fraction && !has_fraction(line.value.as_str()) {
+        Loss::Fraction
+    } else if had_control {
+        Loss::Controls
+    } else {
+        Loss::Nothing
+    };
+    let kind = kind_of(name.as_str(), line.name.as_str(), loss);
     Ok(Some((line, kind)))
 }
 

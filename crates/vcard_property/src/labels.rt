@@ -7,7 +7,7 @@ ghost use Rattle.vcard_property.specs.Labels.{has_label, is_label, is_labelled};
 use crate::decoding::decode;
 use crate::proper_line::is_proper_line;
 use crate::property::{Property, read_property};
-use crate::property_line::{label_param, label_text};
+use crate::property_line::{is_text_param, label_param, label_text};
 use crate::same_line::is_named;
 use crate::version::Version;
 use import_text::{is_encoded_as, read_text};
@@ -55,7 +55,18 @@ fn is_label(param: &Param) -> bool
     param.name.as_str().eq_ignore_ascii_case("LABEL")
 }
 
-/// The address or the label that a property is. `None` if it is neither, or has its label.
+/// Whether a label has what its address can't take with it: a group, or parameters but TYPE.
+fn stands_alone(label: &Property) -> bool {
+    label.group.is_some()
+        || label
+            .params
+            .as_slice()
+            .iter()
+            .any(|param| !is_text_param(param))
+}
+
+/// The address or the label that a property is. `None` if it is neither, has its label, or is a
+/// label that stands alone.
 fn address_line(
     alloc: Global,
     property: &Property,
@@ -63,6 +74,9 @@ fn address_line(
 ) -> Result<Option<AddressLine>, NoMemory> {
     let types = types_of(property);
     if property.name.as_str() == "LABEL" {
+        if stands_alone(property) {
+            return Ok(None);
+        }
         let text = label_text(alloc, property, version)?;
         return Ok(Some(AddressLine::Label(types, Text::new(text))));
     }
@@ -73,7 +87,8 @@ fn address_line(
 }
 
 /// The address or the label that a line of a card of that version gives. `None` if it gives
-/// neither, or both. The only `Err` is out of memory.
+/// neither, or both, or a label with a group or with parameters but TYPE, which no address takes.
+/// The only `Err` is out of memory.
 pub fn read_address(
     alloc: Global,
     line: &[u8],

@@ -27,6 +27,6 @@ pub use conversion::convert_line;
 pub use decoding::unknown_charset;
 pub use kept_texts::{text_line, text_value};
 pub use labels::{AddressLine, AddressTypes, read_address, with_label};
-pub use proper_line::{aside_line, is_proper_line, plain_line, with_upper_name};
+pub use proper_line::{extension_line, is_proper_line, plain_line, with_upper_name};
 pub use same_line::{are_line, has_encoding, read_uid_line};
 pub use version::Version;

@@ -45,7 +45,7 @@ pub(crate) fn upper_name(alloc: Global, name: &str) -> Result<Option<Text>, NoMe
 }
 
 /// The name with X- before it.
-pub(crate) fn aside_name(alloc: Global, name: &str) -> Result<Text, NoMemory>
+pub(crate) fn extension_name(alloc: Global, name: &str) -> Result<Text, NoMemory>
     ensures { IfOk result (λ aside. aside ≡ codes "X-" ++ name.now) }
 {
     let mut aside = String::from_str(alloc, "X-")?;

@@ -5,10 +5,10 @@ ghost use Rattle.std.specs.Str.{str_to_ascii_uppercase};
 ghost use Rattle.vcard_lines.specs.Grammar.{AllInClass, IsName, is_permitted};
 ghost use Rattle.vcard_text.specs.Cards.{IsProperLine};
 ghost use Rattle.vcard_text.specs.Making.{upper_line};
-ghost use Rattle.vcard_property.specs.Lines.{plain_line, aside_line};
+ghost use Rattle.vcard_property.specs.Lines.{plain_line, extension_line};
 ghost use Rattle.vcard_property.specs.internal.ProperTests.{has_proper_parts, has_upper_name};
 
-use crate::names::aside_name;
+use crate::names::extension_name;
 use std::alloc::Global;
 use vcard_lines::{has_legal_parts, is_permitted_text, write_line};
 use vcard_text::{Items, Line, NoMemory, Text};
@@ -95,8 +95,8 @@ pub fn plain_line(alloc: Global, name: &str, value: String) -> Result<Line, NoMe
 
 /// The line with X- before its name, for one that the card can't have. The only `Err` is out of
 /// memory.
-pub fn aside_line(alloc: Global, line: Line) -> Result<Line, NoMemory>
-    ensures line { IfOk result (λ aside. aside ≡ aside_line line) }
+pub fn extension_line(alloc: Global, line: Line) -> Result<Line, NoMemory>
+    ensures line { IfOk result (λ aside. aside ≡ extension_line line) }
     ensures proper { IsProperLine line → IfOk result IsProperLine }
 {
     let Line {
@@ -105,7 +105,7 @@ pub fn aside_line(alloc: Global, line: Line) -> Result<Line, NoMemory>
         params,
         value,
     } = line;
-    let name = aside_name(alloc, name.as_str())?;
+    let name = extension_name(alloc, name.as_str())?;
     Ok(Line {
         group,
         name,

@@ -5,7 +5,7 @@ use crate::dates::basic_date;
 use crate::escapes::{ValueForm, with_escapes};
 use crate::geo::geo_value;
 use crate::line_parts::{make_param, make_value, with_carets};
-use crate::names::{aside_name, is_one_of};
+use crate::names::{extension_name, is_one_of};
 use crate::omitted_year::omit_year;
 use crate::params::all_params;
 use crate::property::{Encoding, Property};
@@ -47,7 +47,7 @@ fn escapes_commas(name: &str, version: Version) -> bool {
 }
 
 /// Whether the parameter says that the value is a text.
-fn is_text_param(param: &Param) -> bool {
+pub(crate) fn is_text_param(param: &Param) -> bool {
     param.name.as_str() == "VALUE"
         && param
             .values
@@ -108,9 +108,9 @@ fn name_of(alloc: Global, name: &str, value: &str, is_uri: bool) -> Result<Text,
         "X-ADDRESSBOOKSERVER-KIND" => Text::copy_of(alloc, "KIND"),
         "X-ADDRESSBOOKSERVER-MEMBER" => Text::copy_of(alloc, "MEMBER"),
         "AGENT" if is_uri => Text::copy_of(alloc, "RELATED"),
-        "EMAIL" if is_exchange_address(value) => aside_name(alloc, name),
+        "EMAIL" if is_exchange_address(value) => extension_name(alloc, name),
         "AGENT" | "CLASS" | "MAILER" | "NAME" | "PROFILE" | "SORT-STRING" => {
-            aside_name(alloc, name)
+            extension_name(alloc, name)
         }
         _ => Text::copy_of(alloc, name),
     }

@@ -1,4 +1,4 @@
--- The size limits of this profile, which the constants of the code must equal. This project's own.
+-- The size limits of this profile, which the constants of the code must equal.
 use Rattle.std.specs.Prelude.{ℕ}
 
 -- the most octets of an input text, and of a canonical text

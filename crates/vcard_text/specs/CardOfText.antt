@@ -1,6 +1,6 @@
 -- Computes the card of a text, or its first fault. By the law `card_is_computed` the card is the
 -- one that the text spells, and by the law `first_fault_of_text_is_computed` the fault is the one
--- that FirstFaults.antt defines. This project's own.
+-- that FirstFaults.antt defines.
 use Rattle.std.specs.Prelude.{ℕ, nat_le, List, length, Option, Some, None, Result, Ok, Err}
 use Rattle.std.specs.Prelude.{if◌then◌else◌}
 use Rattle.std.specs.Str.{is_utf8}

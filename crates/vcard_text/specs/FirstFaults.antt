@@ -1,5 +1,5 @@
 -- The first fault of a text that spells no card: the least-numbered fault of its first faulty line,
--- or else of the whole text. This project's own.
+-- or else of the whole text.
 use Rattle.std.specs.Prelude.{ℕ, ◌≡◌, ◌<◌, ◌≤◌, Bool, true, false, ◌||◌, ◌&&◌, not, List, [], ◌∷◌}
 use Rattle.std.specs.Prelude.{◌++◌, length, codes}
 use Rattle.std.specs.List.{list_any}

@@ -1,4 +1,4 @@
--- Codes of rows and books, which distinguish the values of models. This project's own.
+-- Codes of rows and books, which distinguish the values of models.
 use Rattle.std.specs.Prelude.{ℕ, Bool, List, Option, refl}
 use Rattle.std.specs.FinMap as finite
 use Rattle.std.specs.Coded.{Coded, code_by, coded×, coded_ℕ, coded_bool, coded_list, coded_option}

@@ -1,5 +1,4 @@
--- What the service's private functions do to the rows of a store; no public clause cites it. This
--- project's own.
+-- What the service's private functions do to the rows of a store; no public clause cites it.
 use Rattle.std.specs.Prelude.{ℕ, ◌≡◌, ◌⊎◌, List, Result, Ok, Err}
 use Rattle.book_model.specs.declared.answers.BookLine.{BookLine}
 use Rattle.book_model.specs.declared.denied.Denied.{Denied}

@@ -1,4 +1,4 @@
--- The results of the service's private parsers; no public clause cites them. This project's own.
+-- The results of the service's private parsers; no public clause cites them.
 use Rattle.std.specs.Prelude.{ℕ, List, Result, Ok, Err}
 use Rattle.book_model.specs.declared.denied.Denied.{Denied}
 use Rattle.book_model.specs.declared.denied.Denied.TheVariants.{Refused, Fault}

@@ -1,4 +1,4 @@
--- The state of a conversion between two rows. This project's own.
+-- The state of a conversion between two rows.
 use Rattle.std.specs.Prelude.{ℕ, ◌≡◌, ◌++◌, [], true, false, List}
 use Rattle.std.specs.Prelude.{Option, Some, None, Result, Ok, Err}
 use Rattle.std.specs.FinMap as finite
@@ -12,7 +12,7 @@ use Rattle.vcard_text.specs.Cards.{IsCard, uid_of}
 use Rattle.vcard_import.specs.declared.conversion.Conversion.{Conversion}
 use Rattle.card_conversion.specs.Deliveries.{HasUids, WritesInTurn}
 use Rattle.card_conversion.specs.declared.ledger.Summary.{Summary}
-use Rattle.contact_csv.specs.Contacts.{Becomes, IsReady, columns_of, rows_of}
+use Rattle.contact_csv.specs.Contacts.{BecomesContact, IsReady, columns_of, rows_of}
 use Rattle.contact_columns.specs.declared.columns.Column.{Column}
 use Rattle.contact_csv.specs.declared.rows.ContactReader.{ContactReader}
 use Rattle.card_conversion.specs.declared.contacts.fate.RowFate.{RowFate}
@@ -29,7 +29,7 @@ ReadsRow remaining before after None =
     (fields : List (List ℕ)) × ReadRecord remaining (rows_of before) (rows_of after) false fields
 ReadsRow remaining before after (Some row) =
     (fields : List (List ℕ)) × ReadRecord remaining (rows_of before) (rows_of after) true fields
-    × Becomes (columns_of before) fields row
+    × BecomesContact (columns_of before) fields row
 
 -- the fate of what was read, after cards with these UIDs
 abbrev pub IsFateOf : List (List ℕ) → Result Conversion RowFault → RowFate → Type 0

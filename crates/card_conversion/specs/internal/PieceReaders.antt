@@ -1,4 +1,4 @@
--- What a reader of pieces has left. This project's own.
+-- What a reader of pieces has left.
 use Rattle.std.specs.Prelude.{ℕ, List, drop, Option, IsTrue}
 use Rattle.std.specs.Io.KnownBytes.{IsAtEnd, prepend_known}
 use Rattle.card_conversion.specs.declared.piece_reader.PieceReader.{PieceReader}

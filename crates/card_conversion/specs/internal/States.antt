@@ -1,4 +1,4 @@
--- The state of a conversion between two pieces. This project's own.
+-- The state of a conversion between two pieces.
 use Rattle.std.specs.Prelude.{ℕ, ◌≡◌, ◌++◌, [], ◌∷◌, Bool, true, false, List, Option}
 use Rattle.std.specs.FinMap as finite
 use Rattle.std.specs.List.{Contains}
@@ -7,8 +7,8 @@ use Rattle.base_types.specs.TextMaps.{text_cmp}
 use Rattle.vcard_lines.specs.declared.line.Line.{Line}
 use Rattle.vcard_text.specs.Cards.{uid_of}
 use Rattle.card_conversion.specs.Moved.{own_uid}
-use Rattle.card_conversion.specs.declared.outlet.Delivery.{Delivery}
-use Rattle.card_conversion.specs.declared.outlet.Delivery.TheVariants as outlet
+use Rattle.card_conversion.specs.declared.card_sink.Delivery.{Delivery}
+use Rattle.card_conversion.specs.declared.card_sink.Delivery.TheVariants as sink
 use Rattle.card_conversion.specs.declared.fate.Fate.{Fate}
 use Rattle.card_conversion.specs.Fates.{Entry, HaveFates, IsFate, cards_of, cards_of_fate}
 use Rattle.card_conversion.specs.Fates.{octets_of, uids_of, uids_of_fate}
@@ -23,13 +23,13 @@ abbrev pub IsAdmitted : List (List ℕ) → List ℕ → finite.FinMap text_cmp 
 IsAdmitted known uid after true = (Contains known uid → ⊥) × HasUids after (known ++ uid ∷ [])
 IsAdmitted known uid after false = Contains known uid × HasUids after known
 
--- The card was written or the outlet declined it. The map has its UID, and if it was written also
+-- The card was written or the sink declined it. The map has its UID, and if it was written also
 -- the one of its own.
 abbrev pub DeliversNew : {A : Type 0} → (List Line → A → A → Type 0) → List (List ℕ) → List Line
     → finite.FinMap text_cmp (Unit {0}) → A → A → Delivery → Type 0
-DeliversNew writes uids card map before after outlet.Written =
+DeliversNew writes uids card map before after sink.Written =
     HasUids map (uids ++ uid_of card ∷ own_uid card ∷ []) × writes card before after
-DeliversNew writes uids card map before after (outlet.Refused words) =
+DeliversNew writes uids card map before after (sink.Refused words) =
     HasUids map (uids ++ uid_of card ∷ []) × (after ≡ before)
 
 -- The piece has the fate after pieces whose cards have these UIDs. The map has the UIDs after it.
@@ -40,9 +40,9 @@ TakesAfter writes octets uids map before after fate =
     × WritesInTurn writes (cards_of_fate fate) before after
 
 -- The piece has the fate after pieces whose cards have the UIDs of the map.
-abbrev pub Takes : {A : Type 0} → (List Line → A → A → Type 0) → List ℕ
+abbrev pub TakesPiece : {A : Type 0} → (List Line → A → A → Type 0) → List ℕ
     → finite.FinMap text_cmp (Unit {0}) → finite.FinMap text_cmp (Unit {0}) → A → A → Fate → Type 0
-Takes writes octets map_before map_after before after fate =
+TakesPiece writes octets map_before map_after before after fate =
     (uids : List (List ℕ)) → HasUids map_before uids
     → TakesAfter writes octets uids map_after before after fate
 

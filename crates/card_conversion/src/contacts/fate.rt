@@ -13,7 +13,7 @@ pub(crate) enum RowFate {
     Repeated(Conversion),
     /// Its card has the UID of a card of an earlier file, which is another card.
     Taken(Conversion),
-    /// The outlet can't take its card, for a reason in words.
+    /// The sink can't take its card, for a reason in words.
     Declined(Conversion, Text),
     /// Its card was written.
     Written(Conversion),

@@ -15,12 +15,13 @@ use vcard_import::{Change, ChangeKind, Conversion};
 use vcard_text::Line;
 
 /// Where a row is: its number without the header, its first line in the file, and the line after
-/// it, all from 1.
+/// it, all from 1; and whether it is a broken one that may have a cell of too many lines.
 #[derive(Clone, Copy)]
 pub(crate) struct RowPlace {
     pub(crate) row: u64,
     pub(crate) line: u64,
     pub(crate) end: u64,
+    pub(crate) may_be_long: bool,
 }
 
 /// The most characters of a name in a report.
@@ -78,7 +79,8 @@ fn change_words(alloc: Global, aside: &mut &[Line], change: &Change) -> Result<S
 
 /// The line for a row, with these words.
 fn row_line(alloc: Global, place: RowPlace, words: &str) -> Result<String, NoMemory> {
-    let RowPlace { row, line, end: _ } = place;
+    let row = place.row;
+    let line = place.line;
     Ok(format!(in alloc; "row {row}, line {line}: {words}")?)
 }
 
@@ -188,11 +190,22 @@ fn list_refused<E: Write, T: Write>(
 /// Why a row of another number of cells isn't carried.
 const OTHER_WIDTH: &str = "the row has more or fewer cells than the header";
 
+/// Why a row isn't carried whose cells are the names of the columns.
+const HEADER_AGAIN: &str = "it is the header again";
+
 /// Why a row isn't carried whose card would be another one under the UID of an earlier card.
 const TAKEN: &str = "an earlier file has another card under the same UID";
 
 /// Why a row with a quote that isn't closed isn't carried.
 const UNCLOSED: &str = "a quote isn't closed in its row";
+
+/// Why a row with a quote that isn't closed within 200 lines isn't carried.
+const LONG: &str = "a cell has more than 200 lines, or a quote isn't closed";
+
+/// Why a broken row isn't carried.
+fn broken_words(place: RowPlace) -> &'static str {
+    if place.may_be_long { LONG } else { UNCLOSED }
+}
 
 /// Tells of the lines of a broken row, and of the rows after it that aren't carried either, if
 /// there are some that weren't told.
@@ -204,10 +217,11 @@ pub(crate) fn report_broken<E: Write, T: Write>(
     let Some((place, lines)) = broken.take() else {
         return Ok(());
     };
+    let why = broken_words(place);
     let words = if lines > 1 {
-        format!(in alloc; "not carried: {UNCLOSED}, and {lines} lines are lost with it")?
+        format!(in alloc; "not carried: {why}, and {lines} lines are lost with it")?
     } else {
-        format!(in alloc; "not carried: {UNCLOSED}")?
+        format!(in alloc; "not carried: {why}")?
     };
     let line = row_line(alloc, place, words.as_str())?;
     report.tell(alloc, Weight::NotCarried, line.as_str())
@@ -226,7 +240,7 @@ fn report_fault<E: Write, T: Write>(
         RowFault::Empty => Ok(()),
         RowFault::Broken => {
             broken.begin(place);
-            list_refused(alloc, place, UNCLOSED, report)
+            list_refused(alloc, place, broken_words(place), report)
         }
         RowFault::Nul(at) => {
             let name = column_name(alloc, columns, *at)?;
@@ -238,6 +252,7 @@ fn report_fault<E: Write, T: Write>(
             list_refused(alloc, place, OTHER_WIDTH, report)
         }
         RowFault::Width => report_refused(alloc, place, OTHER_WIDTH, report),
+        RowFault::Header => report_refused(alloc, place, HEADER_AGAIN, report),
         RowFault::Card(fault) => {
             let why = format!(in alloc; "{fault}")?;
             report_refused(alloc, place, why.as_str(), report)

@@ -6,7 +6,7 @@ ghost use Rattle.card_conversion.specs.internal.ContactStates.{ReadsRow, TakesRo
 
 use crate::contacts::fate::RowFate;
 use crate::moved::own_uid;
-use crate::{ConversionFault, Outcome, Outlet, deliver};
+use crate::{CardSink, ConversionFault, Outcome, deliver};
 use base_types::{NoMemory, TextMap};
 use contact_csv::{ContactFault, ContactReader, RowFault};
 use std::alloc::Global;
@@ -43,18 +43,18 @@ fn is_same(
 }
 
 /// Writes a card, unless an earlier one has its UID.
-fn deliver_row<O: Outlet>(
+fn deliver_row<O: CardSink>(
     alloc: Global,
     uids: &mut TextMap<()>,
     row_cards: &mut TextMap<()>,
     number: u64,
     conversion: Conversion,
-    outlet: &mut O,
+    sink: &mut O,
 ) -> Result<RowFate, ConversionFault>
     ensures { IfOk result (λ fate. IsCard conversion.card → TakesRow O.writes (Ok conversion)
-        uids.old uids.new outlet.old outlet.new fate) }
+        uids.old uids.new sink.old sink.new fate) }
 {
-    match deliver(alloc, uids, number, &conversion.card, outlet)? {
+    match deliver(alloc, uids, number, &conversion.card, sink)? {
         Outcome::Repeated => {
             if is_same(alloc, uids, row_cards, &conversion.card)? {
                 Ok(RowFate::Repeated(conversion))
@@ -70,22 +70,22 @@ fn deliver_row<O: Outlet>(
     }
 }
 
-/// Writes the card of a row to the outlet. `number` counts the rows, from 1.
-pub(crate) fn take_row<O: Outlet>(
+/// Writes the card of a row to the sink. `number` counts the rows, from 1.
+pub(crate) fn take_row<O: CardSink>(
     alloc: Global,
     uids: &mut TextMap<()>,
     row_cards: &mut TextMap<()>,
     number: u64,
     row: Result<Conversion, RowFault>,
-    outlet: &mut O,
+    sink: &mut O,
 ) -> Result<RowFate, ConversionFault>
-    ensures { IfOk result (TakesRow O.writes row uids.old uids.new outlet.old outlet.new) }
+    ensures { IfOk result (TakesRow O.writes row uids.old uids.new sink.old sink.new) }
 {
     match row {
         Ok(conversion) => {
             // Its clause says that the lines keep the rules of a card.
             let _lines = conversion.card.lines();
-            deliver_row(alloc, uids, row_cards, number, conversion, outlet)
+            deliver_row(alloc, uids, row_cards, number, conversion, sink)
         }
         Err(fault) => Ok(RowFate::Refused(fault)),
     }

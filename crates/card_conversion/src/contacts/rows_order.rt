@@ -5,7 +5,7 @@ ghost use Rattle.card_conversion.specs.ContactAccounts.{ContactsToRows};
 
 use crate::contacts::run::convert_contacts;
 use crate::laws::written_rows_are_read;
-use crate::{ConversionFault, RowsOutlet, Summary};
+use crate::{ConversionFault, RowsSink, Summary};
 use contact_csv::ContactReader;
 use std::alloc::Global;
 use std::io::{Read, Write};
@@ -14,17 +14,17 @@ use std::io::{Read, Write};
 pub fn convert_contacts_to_rows<R: Read + Drop, W: Write, E: Write>(
     alloc: Global,
     reader: ContactReader<R>,
-    outlet: &mut RowsOutlet<W>,
+    sink: &mut RowsSink<W>,
     errors: &mut E,
 ) -> Result<Summary, ConversionFault>
     // The rows that the reader has left have their fates. The header and the rows of the cards
     // among them were written. `read_rows` reads them as these cards, of which no two have one UID.
     ensures { IsReady reader → IfOk result (λ summary. ContactsToRows R.remaining reader
-        (W.contents outlet.old.writer) (W.contents outlet.new.writer) summary) }
+        (W.contents sink.old.writer) (W.contents sink.new.writer) summary) }
 {
     // A law: the header and the rows of cards with different UIDs are read back as these cards.
     written_rows_are_read();
 
-    outlet.start(alloc)?;
-    convert_contacts(alloc, reader, outlet, errors)
+    sink.start(alloc)?;
+    convert_contacts(alloc, reader, sink, errors)
 }

@@ -10,26 +10,26 @@ use crate::contacts::rows::{next_row, take_row};
 use crate::contacts::tally::count_row;
 use crate::course::Course;
 use crate::reporting::Report;
-use crate::{ConversionFault, Outlet, Summary};
+use crate::{CardSink, ConversionFault, Summary};
 use contact_csv::ContactReader;
 use std::alloc::Global;
 use std::io::{Read, Write};
 
-/// Converts all contacts of one more file, and writes their cards to the outlet, in order. Reports
+/// Converts all contacts of one more file, and writes their cards to the sink, in order. Reports
 /// each cell that its card holds in another form, and each row that can't be carried.
 ///
 /// A row whose card has the UID of an earlier card is passed. An `Err` is as that of
 /// `convert_contacts`.
-pub fn convert_more_contacts<R: Read + Drop, O: Outlet, E: Write, T: Write>(
+pub fn convert_more_contacts<R: Read + Drop, O: CardSink, E: Write, T: Write>(
     alloc: Global,
     course: &mut Course,
     reader: ContactReader<R>,
-    outlet: &mut O,
+    sink: &mut O,
     report: &mut Report<E, T>,
 ) -> Result<(), ConversionFault>
     ensures { OnOk result (IsReady reader → (uids : List (List ℕ)) → Knows course.old uids
-        → ConvertsRows O.writes R.remaining reader uids course.old course.new outlet.old
-        outlet.new) }
+        → ConvertsRows O.writes R.remaining reader uids course.old course.new sink.old
+        sink.new) }
 {
     let mut contacts = reader;
     let mut broken = BrokenLines::new();
@@ -45,12 +45,13 @@ pub fn convert_more_contacts<R: Read + Drop, O: Outlet, E: Write, T: Write>(
             &mut course.row_cards,
             number,
             row,
-            outlet,
+            sink,
         )?;
         let place = RowPlace {
             row: row_number,
             line: contacts.line(),
             end: contacts.end_line(),
+            may_be_long: contacts.may_be_long(),
         };
         let columns = contacts.columns().columns.as_slice();
         report_row(alloc, place, columns, &fate, &mut broken, report)?;
@@ -60,25 +61,25 @@ pub fn convert_more_contacts<R: Read + Drop, O: Outlet, E: Write, T: Write>(
 }
 
 /// Converts all contacts of a file that Google or Outlook exported, and writes their cards to the
-/// outlet, in order. Reports each row with a cell that no property holds, each row that can't be
+/// sink, in order. Reports each row with a cell that no property holds, each row that can't be
 /// carried, and at last how often each change of form came, what to look at first, and the numbers
 /// of cards.
 ///
-/// An `Err` is `Input` if the file can't be read to its end, `Output` if the outlet takes no more
+/// An `Err` is `Input` if the file can't be read to its end, `Output` if the sink takes no more
 /// cards, `Report` if the report can't be written, or `Memory`. Cards that were written before it
 /// remain.
-pub fn convert_contacts<R: Read + Drop, O: Outlet, E: Write>(
+pub fn convert_contacts<R: Read + Drop, O: CardSink, E: Write>(
     alloc: Global,
     reader: ContactReader<R>,
-    outlet: &mut O,
+    sink: &mut O,
     errors: &mut E,
 ) -> Result<Summary, ConversionFault>
     ensures { IsReady reader → IfOk result (λ summary.
-        ConvertsContacts O.writes R.remaining reader outlet.old outlet.new summary) }
+        ConvertsContacts O.writes R.remaining reader sink.old sink.new summary) }
 {
     let mut course = Course::new(alloc);
     let mut report: Report<&mut E, Vec<u8>> = Report::new(alloc, errors);
-    convert_more_contacts(alloc, &mut course, reader, outlet, &mut report)?;
+    convert_more_contacts(alloc, &mut course, reader, sink, &mut report)?;
     let summary = course.summary();
     report.finish(alloc, summary, None)?;
     Ok(summary)

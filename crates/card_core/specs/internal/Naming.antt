@@ -1,4 +1,4 @@
--- The card that a member value names, with its UID. This project's own.
+-- The card that a member value names, with its UID.
 use Rattle.std.specs.Prelude.{ℕ, ◌≡◌, List, Some}
 use Rattle.std.specs.FinMap as finite
 use Rattle.vcard_lines.specs.declared.line.Line.{Line}

@@ -1,4 +1,4 @@
--- Sets of texts, as lists of octet lists. This project's own.
+-- Sets of texts, as lists of octet lists.
 use Rattle.std.specs.Prelude.{ℕ, ◌≡◌, ◌↔◌, ◌⊎◌, List}
 use Rattle.std.specs.List.{Contains}
 

@@ -1,4 +1,4 @@
--- The state of the walk from a group: its steps, its invariant and its end. This project's own.
+-- The state of the walk from a group: its steps, its invariant and its end.
 use Rattle.std.specs.Prelude.{ℕ, ◌≡◌, ◌≢◌, ◌+◌, ◌↔◌, ◌⊎◌, not, List, [], ◌∷◌, ◌++◌, length, map}
 use Rattle.std.specs.Prelude.{filter, Some, None}
 use Rattle.std.specs.List.{Contains, list_any}

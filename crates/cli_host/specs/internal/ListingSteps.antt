@@ -1,4 +1,4 @@
--- Why the line of a book can't be written, book by book. This project's own.
+-- Why the line of a book can't be written, book by book.
 use Rattle.std.specs.Prelude.{◌≡◌, List, Err}
 use Rattle.std.specs.List.{Contains}
 use Rattle.book_model.specs.BookQueries.{tally_step}

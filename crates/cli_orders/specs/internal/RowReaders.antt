@@ -1,4 +1,4 @@
--- The state of a reader of rows. This project's own.
+-- The state of a reader of rows.
 use Rattle.std.specs.Prelude.{ℕ, ◌≡◌, ◌<◌, true, List, ◌++◌, length, Some}
 use Rattle.std.specs.Borrow.{Bor}
 use Rattle.csv.specs.Reading.{Reached, Ready, default_config, is_flexible, reader_config}

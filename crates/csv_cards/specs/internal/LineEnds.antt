@@ -1,5 +1,4 @@
--- The state of the loop that drops carriage returns before line feeds, from left to right. This
--- project's own.
+-- The state of the loop that drops carriage returns before line feeds, from left to right.
 use Rattle.std.specs.Prelude.{ℕ, Bool, true, false, ◌&&◌, ◌==◌, not, List, [], ◌∷◌, ◌++◌}
 use Rattle.std.specs.Prelude.{if◌then◌else◌}
 use Rattle.std.specs.Char.{encode_utf8}

@@ -1,4 +1,4 @@
--- The state of the loop that reads rows. This project's own.
+-- The state of the loop that reads rows.
 use Rattle.std.specs.Prelude.{ℕ, ◌≡◌, ◌↔◌, true, ◌+◌, length, List, [], ◌∷◌, ◌++◌, map, Some}
 use Rattle.std.specs.FinMap as finite
 use Rattle.std.specs.Option.{IsSome}

@@ -1,5 +1,5 @@
 -- The causes for which a row with the right number of UTF-8 fields isn't a card, regardless of the
--- rows before it. Only private functions need them. This project's own.
+-- rows before it. Only private functions need them.
 use Rattle.std.specs.Prelude.{◌≡◌, ◌≢◌, ◌⊎◌, []}
 use Rattle.vcard_lines.specs.declared.fault.CardFault.{CardFault}
 use Rattle.csv_cards.specs.declared.cause.CsvCause.{CsvCause}

@@ -1,4 +1,4 @@
--- The state of the loop that writes rows. This project's own.
+-- The state of the loop that writes rows.
 use Rattle.std.specs.Prelude.{ℕ, ◌≡◌, List, Some, false}
 use Rattle.std.specs.Io.KnownBytes.{Appends}
 use Rattle.std.specs.declared.alloc.Global.{Global}

@@ -1,5 +1,5 @@
 -- The texts of the Rust types that the code parses before it reads cards and the token. Only
--- private functions cite it. This project's own.
+-- private functions cite it.
 use Rattle.std.specs.Prelude.{map}
 use Rattle.page_json.specs.declared.member.Member.{Member}
 use Rattle.page_json.specs.declared.member.Member.TheVariants.{Changed, Removed}

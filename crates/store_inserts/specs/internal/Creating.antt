@@ -1,4 +1,4 @@
--- The plan of creating a book, computed from the tables before a write. This project's own.
+-- The plan of creating a book, computed from the tables before a write.
 use Rattle.std.specs.Prelude.{◌≡◌, ℕ, ℤ, Bool, true, false, List, Result, Ok, Err}
 use Rattle.std.specs.List.{AllByRecursion}
 use Rattle.std.specs.FinMap as finite

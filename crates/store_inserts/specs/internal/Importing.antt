@@ -1,5 +1,5 @@
 -- An import over tables: its plan, computed card by card before anything is written, and its
--- writes. This project's own.
+-- writes.
 use Rattle.std.specs.Prelude.{◌≡◌, IsTrue, ◌+◌, ◌<◌, ◌^◌, ⊤, true, ℕ, pos, List, [], ◌∷◌, ◌++◌, map}
 use Rattle.std.specs.Prelude.{fold, length, count_by, Option, None, Result, Ok, Err}
 use Rattle.std.specs.FinMap as finite

@@ -1,4 +1,4 @@
--- Definitions over connections, for private contracts, as in `store_tables`. This project's own.
+-- Definitions over connections, for private contracts, as in `store_tables`.
 use Rattle.std.specs.Prelude.{◌≡◌, ◌+◌, ℕ, ℤ, pos, List, Result, OnOk, IsTrue}
 use Rattle.std.specs.FinMap as finite
 use Rattle.sqlite.specs.Held.{Held, state}

@@ -1,4 +1,4 @@
--- The rows of tables of the first schema, and the state after reading them. This project's own.
+-- The rows of tables of the first schema, and the state after reading them.
 use Rattle.std.specs.Prelude.{◌≡◌, ℤ, false, List, [], ◌∷◌, map, IsTrue}
 use Rattle.std.specs.List.Sorted.{IsPermutation}
 use Rattle.sqlite.specs.declared.types.Value.TheVariants.{Int}

@@ -1,4 +1,4 @@
--- The plan of a migration, before anything is written. This project's own.
+-- The plan of a migration, before anything is written.
 use Rattle.std.specs.Prelude.{◌≡◌, ℤ, List, map, length, Vec, Result, Ok, Err}
 use Rattle.std.specs.declared.alloc.Global.{Global}
 use Rattle.std.specs.List.Sorted.{IsPermutation}

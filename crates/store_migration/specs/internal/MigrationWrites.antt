@@ -1,4 +1,4 @@
--- The tables after writing the second schema. This project's own.
+-- The tables after writing the second schema.
 use Rattle.std.specs.Prelude.{◌≡◌, ℤ, List, IsTrue, Result, Ok, Err}
 use Rattle.sqlite.specs.declared.error.Error.{Error}
 use Rattle.sqlite.specs.Effect.{Database}

@@ -1,4 +1,4 @@
--- Definitions over connections, for private contracts, as in `store_tables`. This project's own.
+-- Definitions over connections, for private contracts, as in `store_tables`.
 use Rattle.std.specs.Prelude.{ℤ, List, Result, OnOk}
 use Rattle.sqlite.specs.declared.error.Error.{Error}
 use Rattle.sqlite.specs.Effect.{Database}

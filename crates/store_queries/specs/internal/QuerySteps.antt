@@ -1,4 +1,4 @@
--- The steps of the queries of one book. This project's own.
+-- The steps of the queries of one book.
 use Rattle.std.specs.Prelude.{ℕ, List, Option, Result, Ok, Err}
 use Rattle.std.specs.FinMap as finite
 use Rattle.book_model.specs.declared.answers.ImportTally.{ImportTally}

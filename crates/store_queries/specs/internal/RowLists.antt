@@ -1,4 +1,4 @@
--- The values in lists of rows. This project's own.
+-- The values in lists of rows.
 use Rattle.std.specs.Prelude.{◌≡◌, ℕ, List, map, fold}
 use Rattle.std.specs.FinMap as finite
 use Rattle.sqlite.specs.Order.{Row}

@@ -1,4 +1,4 @@
--- The plan of a move, computed from the tables, and the books after it. This project's own.
+-- The plan of a move, computed from the tables, and the books after it.
 use Rattle.std.specs.Prelude.{◌≡◌, ◌≤◌, false, not, ℕ, pos, List, Option, Result, Ok, Err}
 use Rattle.std.specs.FinMap as finite
 use Rattle.std.specs.Ordering.{int_eq}

@@ -1,4 +1,4 @@
--- Definitions over connections, for private contracts, as in `store_tables`. This project's own.
+-- Definitions over connections, for private contracts, as in `store_tables`.
 use Rattle.std.specs.Prelude.{ℕ, List, Option, Result, IsTrue}
 use Rattle.sqlite.specs.Held.{Held, state}
 use Rattle.vcard_lines.specs.declared.line.Line.{Line}

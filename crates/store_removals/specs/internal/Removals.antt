@@ -1,4 +1,4 @@
--- The plan of a removal, computed from the tables before anything is written. This project's own.
+-- The plan of a removal, computed from the tables before anything is written.
 use Rattle.std.specs.Prelude.{◌≡◌, ◌≤◌, ◌+◌, ℕ, nat_le, if◌then◌else◌, List, Option, Some, None}
 use Rattle.std.specs.Prelude.{Result, Ok, Err}
 use Rattle.book_model.specs.declared.change.Change.TheVariants.{TakesAway}

@@ -1,4 +1,4 @@
--- The tables before, between and after the writes of a resync. This project's own.
+-- The tables before, between and after the writes of a resync.
 use Rattle.std.specs.Prelude.{◌≡◌, ◌≢◌, ◌<◌, ◌≤◌, ℕ, pos, false, List, map, Some}
 use Rattle.std.specs.List.{slice_get}
 use Rattle.std.specs.Ordering.{int_eq}

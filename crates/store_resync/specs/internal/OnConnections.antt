@@ -1,4 +1,4 @@
--- Definitions over connections, for private contracts, as in `store_tables`. This project's own.
+-- Definitions over connections, for private contracts, as in `store_tables`.
 use Rattle.std.specs.Prelude.{ℕ, List, Result, OnOk, IsTrue}
 use Rattle.sqlite.specs.Held.{Held, state}
 use Rattle.store_tables.specs.OnConnections.{Ghosts, HasCleanDisk, HoldsInTx, KeepsCommit, Survives}

@@ -1,4 +1,4 @@
--- What a resync is planned to do to each book. This project's own.
+-- What a resync is planned to do to each book.
 use Rattle.std.specs.Prelude.{◌≡◌, ◌<◌, ◌≤◌, ◌^◌, ⊤, ℕ, List, map, Option, Some, None, IfSome}
 use Rattle.std.specs.List.{AllByRecursion}
 use Rattle.std.specs.FinMap as finite

@@ -1,5 +1,4 @@
--- The two stages of a resync, for one book: what is written, and the book before and after. This
--- project's own.
+-- The two stages of a resync, for one book: what is written, and the book before and after.
 use Rattle.std.specs.Prelude.{ℕ, Option, Some, None}
 use Rattle.std.specs.FinMap as finite
 use Rattle.base_types.specs.TextMaps.{text_cmp}

@@ -1,4 +1,4 @@
--- The rows of the table `meta`, read by a cursor of the store. This project's own.
+-- The rows of the table `meta`, read by a cursor of the store.
 use Rattle.std.specs.Prelude.{◌≡◌, ℕ, ℤ, List, [], ◌∷◌, Option, Some, None, MatchOption}
 use Rattle.sqlite.specs.Order.{Row}
 use Rattle.sqlite_trees.specs.View.{View}

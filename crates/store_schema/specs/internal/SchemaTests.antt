@@ -1,4 +1,4 @@
--- The tests of a declared table or index against its form. This project's own.
+-- The tests of a declared table or index against its form.
 use Rattle.std.specs.Prelude.{◌≡◌, ◌==◌, ◌&&◌, ℕ, Bool, true, false, not, List, [], ◌∷◌, map}
 use Rattle.std.specs.Prelude.{Option, Some, None, bytes_eq, codes}
 use Rattle.sqlite.specs.Table.{Table}

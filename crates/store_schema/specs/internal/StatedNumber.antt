@@ -1,4 +1,4 @@
--- The schema number in the rows of the table `meta`. This project's own.
+-- The schema number in the rows of the table `meta`.
 use Rattle.std.specs.Prelude.{◌≡◌, ℤ, List, [], ◌∷◌, codes, Bool, true, false, Option, Some, None}
 use Rattle.std.specs.Prelude.{Result, Ok, Err}
 use Rattle.sqlite.specs.declared.types.Value.TheVariants.{Int, Text}

@@ -1,4 +1,4 @@
--- The outcome of a put, computed from the tables before anything is written. This project's own.
+-- The outcome of a put, computed from the tables before anything is written.
 use Rattle.std.specs.Prelude.{◌≡◌, ℕ, Bool, List, Option, Result, Ok, Err}
 use Rattle.vcard_lines.specs.declared.line.Line.{Line}
 use Rattle.vcard_text.specs.Cards.{uid_of}

@@ -8,7 +8,7 @@ use Rattle.vcard_text.specs.Cards.{IsProperLine, has_line_named, line_is_named, 
 use Rattle.vcard_text.specs.FirstFaults.{is_group}
 use Rattle.vcard_text.specs.Making.{upper_lines}
 use Rattle.vcard_text.specs.MakingSteps.{check_lines_after}
-use Rattle.vcard_import.specs.Conversions.{Become}
+use Rattle.vcard_import.specs.Conversions.{BecomeCard}
 use Rattle.vcard_import.specs.Labels.{is_joined}
 use Rattle.vcard_import.specs.LeftOut.{has_left_out}
 use Rattle.vcard_import.specs.declared.change.Change.{Change}
@@ -48,7 +48,7 @@ pub record IsSeen (seen : Seen) (lines : List Line) : Type 0 where
 
 -- the logical lines become the lines of `made`, which have no fault, with its changes
 pub record Makes (raws : List RawLine) (made : CardLines) : Type 0 where
-  pub become : Become raws made.lines made.changes
+  pub become : BecomeCard raws made.lines made.changes
   pub proper : AllByRecursion IsProperLine made.lines
   pub passed : ArePassed made.lines
   pub seen : IsSeen made.seen made.lines

@@ -10,20 +10,20 @@ loop-file-init g c =
     let first = c.in_ok-convert_content.ensures [] c.new-course.ensures.uids in (
       first.0 ∷ [],
       refl,
-      one_more g.O.Outlet.writes [] first.0 c.new-course.result c.convert_content.new.course c.args.outlet.now c.args.outlet.now c.convert_content.new.outlet
-          (begun g.O.Outlet.writes c.new-course.result c.args.outlet.now c.new-course.ensures.uids c.new-course.ensures.counts) first.1,
+      one_more g.O.CardSink.writes [] first.0 c.new-course.result c.convert_content.new.course c.args.sink.now c.args.sink.now c.convert_content.new.sink
+          (begun g.O.CardSink.writes c.new-course.result c.args.sink.now c.new-course.ensures.uids c.new-course.ensures.counts) first.1,
     )
 
 pub loop-file-preserved : goal.loop-file-preserved
 loop-file-preserved g c =
     let sofar = c.loop-file.invariant in
     let more = c.in_ok-convert_next.ensures (uids_of_all sofar.0) sofar.2.known in
-    (sofar.0 ++ more.0 ∷ [], length-append sofar.0 (more.0 ∷ []) ∙ rw sofar.1 (omega arith), one_more g.O.Outlet.writes sofar.0 more.0 c.loop-file.course c.convert_next.new.course c.args.outlet.now c.loop-file.outlet c.convert_next.new.outlet sofar.2 more.1)
+    (sofar.0 ++ more.0 ∷ [], length-append sofar.0 (more.0 ∷ []) ∙ rw sofar.1 (omega arith), one_more g.O.CardSink.writes sofar.0 more.0 c.loop-file.course c.convert_next.new.course c.args.sink.now c.loop-file.sink c.convert_next.new.sink sofar.2 more.1)
 
 pub returns : goal.returns
 returns g c =
     let sofar = c.loop-file.invariant in
     let whole : c.loop-file.file-index ≡ length c.args.wanted.more.now = search rules in
     let many : length sofar.0 ≡ length c.args.wanted.more.now + 1 = sofar.1 ∙ ap (λ (n : ℕ). n + 1) whole in
-    subst (Converts g.O.Outlet.writes (length c.args.wanted.more.now + 1) c.args.outlet.now c.loop-file.outlet) (sym c.summary.ensures)
-    (all_done g.O.Outlet.writes sofar.0 (length c.args.wanted.more.now + 1) c.loop-file.course c.args.outlet.now c.loop-file.outlet many sofar.2)
+    subst (Converts g.O.CardSink.writes (length c.args.wanted.more.now + 1) c.args.sink.now c.loop-file.sink) (sym c.summary.ensures)
+    (all_done g.O.CardSink.writes sofar.0 (length c.args.wanted.more.now + 1) c.loop-file.course c.args.sink.now c.loop-file.sink many sofar.2)

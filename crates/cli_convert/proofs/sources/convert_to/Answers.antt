@@ -4,11 +4,11 @@ use Rattle.card_conversion.specs.Courses.{of_pieces, of_rows}
 use Rattle.cli_convert.proofs.sources.convert_to.Goals as goal
 
 pub returns-in-Export : goal.returns-in-Export
-returns-in-Export g c = on_ok_weaker c.convert_more_file.result (λ converts uids known. let it = converts uids known in (of_pieces it.entries, it.part)) c.convert_more_file.ensures
+returns-in-Export g c = on_ok_weaker c.convert_more_exports.result (λ converts uids known. let it = converts uids known in (of_pieces it.0, it.1)) c.convert_more_exports.ensures
 
 pub returns-in_ok-contacts-in-Contacts : goal.returns-in_ok-contacts-in-Contacts
-returns-in_ok-contacts-in-Contacts g c = on_ok_weaker c.convert_more_contacts.result
-    (λ converts uids known. let it = converts c.in_ok-contacts-in-Contacts.ensures uids known in (of_rows (columns_of c.in_ok-contacts-in-Contacts.contacts) it.entries, it.part)) c.convert_more_contacts.ensures
+returns-in_ok-contacts-in-Contacts g c = on_ok_weaker c.convert_contacts_under.result
+    (λ converts uids known. let it = converts c.in_ok-contacts-in-Contacts.ensures uids known in (of_rows (columns_of c.in_ok-contacts-in-Contacts.contacts) it.0, it.1)) c.convert_contacts_under.ensures
 
 pub returns-in-Cards : goal.returns-in-Cards
-returns-in-Cards g c = on_ok_weaker c.convert_more_file-in-Cards.result (λ converts uids known. let it = converts uids known in (of_pieces it.entries, it.part)) c.convert_more_file-in-Cards.ensures
+returns-in-Cards g c = on_ok_weaker c.convert_more_file.result (λ converts uids known. let it = converts uids known in (of_pieces it.entries, it.part)) c.convert_more_file.ensures

@@ -17,11 +17,11 @@ pub returns-clause-done : goal.returns-clause-done
 returns-clause-done g c =
     let made : g.M.Host.calls (Creates c.args.file (Ok c.in_ok-_books._books)) c.args.host.now c.create.new.self = search (rules) in
     store_made g.M.Host.calls c.write_out.result c.args.host.now c.create.new.self c.args.file c.in_ok-_books._books (g.W.Write.contents c.args.writer.now) (g.W.Write.contents c.write_out.new.writer) made
-    (subst (λ octets. OnOk c.write_out.result (Appends (g.W.Write.contents c.args.writer.now) (g.W.Write.contents c.write_out.new.writer) octets)) (c.as_bytes.ensures.value ∙ c.made_text.ensures) c.write_out.ensures.written)
+    (subst (λ octets. OnOk c.write_out.result (Appends (g.W.Write.contents c.args.writer.now) (g.W.Write.contents c.write_out.new.writer) octets)) (c.as_bytes.ensures.value ∙ c.created_line.ensures) c.write_out.ensures.written)
 
 pub returns-clause-stopped : goal.returns-clause-stopped
 returns-clause-stopped g c =
     let made : g.M.Host.calls (Creates c.args.file (Ok c.in_ok-_books._books)) c.args.host.now c.create.new.self = search (rules) in
     store_made_unprinted g.M.Host.calls c.write_out.result c.args.host.now c.create.new.self c.args.file c.in_ok-_books._books (g.W.Write.contents c.args.writer.now) (g.W.Write.contents c.write_out.new.writer) made
-    (subst (λ octets. WritesPrefix octets (g.W.Write.contents c.args.writer.now) (g.W.Write.contents c.write_out.new.writer)) (c.as_bytes.ensures.value ∙ c.made_text.ensures) c.write_out.ensures.prefix)
+    (subst (λ octets. WritesPrefix octets (g.W.Write.contents c.args.writer.now) (g.W.Write.contents c.write_out.new.writer)) (c.as_bytes.ensures.value ∙ c.created_line.ensures) c.write_out.ensures.prefix)
     c.write_out.ensures.stop

@@ -11,13 +11,13 @@ use Rattle.book_model.specs.Pages.{IsReport, report_step}
 use Rattle.book_model.specs.Putting.{put_step}
 use Rattle.book_laws.specs.Refinement.{AreHistoriesOf}
 use Rattle.cli_orders.specs.TryResults.{first_page}
-use Rattle.cli_orders.proofs.FirstPathLemmas.{AreStandard, Did, with_book, with_card, book_made, card_put, page_given}
+use Rattle.cli_orders.proofs.FirstPathLemmas.{AreStandard, Did, are_standard, with_book, with_card, book_made, card_put, page_given}
 use Rattle.cli_orders.proofs.try_result.put_and_report.Goals as goal
 use Rattle.cli_orders.proofs.try_result.put_and_report.Goals.{After-create_book, In_ok-create_book, After-put, After-report}
 
 -- the store's limits are the standard ones
 standard : (c : After-create_book) → AreStandard c.new-store.result.limits
-standard c = subst AreStandard (sym c.new-store.ensures.limits) (record { page = c.standard.ensures.page; cards = c.standard.ensures.cards; changes = c.standard.ensures.changes; books = c.standard.ensures.books; keep = c.standard.ensures.keep })
+standard c = subst AreStandard (sym (c.new-store.ensures.limits ∙ c.standard.ensures)) are_standard
 
 -- after the first call the rows are those of the one book
 with_book_made : (c : In_ok-create_book) → AreHistoriesOf c.create_book.new.self.books with_book

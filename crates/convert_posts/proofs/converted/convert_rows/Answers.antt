@@ -2,11 +2,13 @@ use Rattle.std.proofs.Common.{[], subst, sym}
 use Rattle.card_conversion.specs.declared.ledger.Summary.{Summary}
 use Rattle.convert_posts.specs.Parts.{IsOfContacts}
 use Rattle.convert_posts.specs.declared.row_list.RowList.{RowList}
+use Rattle.contact_csv.specs.Contacts.{columns_of}
 use Rattle.convert_posts.proofs.RowLemmas.{rows_done}
 use Rattle.convert_posts.proofs.converted.convert_rows.Goals as goal
 
 pub returns-in-Ok : goal.returns-in-Ok
 returns-in-Ok g c ready =
-    subst (λ (s : Summary). IsOfContacts s c.convert_more_contacts.new.outlet.rows) (sym c.summary.ensures)
-    (rows_done (λ (list : RowList). list.rows) g.R.Read.remaining c.args.reader c.new-course.result c.convert_more_contacts.new.course c.new-rows.result c.convert_more_contacts.new.outlet
-    c.written_cards_differ.ensures.rules c.written_cards_differ.ensures.distinct c.new-course.ensures.counts c.new-rows.ensures (c.in-Ok.ensures ready [] c.new-course.ensures.uids))
+    let it = c.in-Ok.ensures ready [] c.new-course.ensures.uids in
+    subst (λ (s : Summary). IsOfContacts s c.convert_contacts_under.new.sink.rows) (sym c.summary.ensures)
+    (rows_done (λ (list : RowList). list.rows) (columns_of c.args.reader) it.0 c.new-course.result c.convert_contacts_under.new.course c.new-rows.result c.convert_contacts_under.new.sink
+    c.written_cards_differ.ensures.rules c.written_cards_differ.ensures.distinct c.new-course.ensures.counts c.new-rows.ensures it.1)

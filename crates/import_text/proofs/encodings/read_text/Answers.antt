@@ -16,4 +16,4 @@ pub returns-in-Err : goal.returns-in-Err
 unfolding text_of
 returns-in-Err c =
     let not_utf8 : is_utf8 c.args.octets.now ≡ false = false_from_ne_true _ (λ e. c.in-Err.ensures.cases.0 (IsUtf8-from_is_utf8 c.args.octets.now e)) in
-    rw not_utf8 c.read_windows1252.ensures
+    rw not_utf8 c.read_damaged.ensures

@@ -1,7 +1,6 @@
 use Rattle.std.proofs.Common.{◌≡◌, ◌+◌, ◌∷◌, [], ◌++◌, map, drop, sym, ap, ◌∙◌}
-use Rattle.std.specs.Str.Lines.{strip_carriage_return}
 use Rattle.std.proofs.lemmas.List.{drop_all}
-use Rattle.import_text.specs.RawLines.{lines_from, raw_line}
+use Rattle.import_text.specs.RawLines.{lines_from, raw_line, without_returns}
 use Rattle.import_text.specs.internal.Heads.{head_of}
 use Rattle.import_text.proofs.RawLineLemmas.{ends, texts, one_taken}
 use Rattle.import_text.proofs.lines.read_raw_lines.Goals as goal
@@ -14,7 +13,7 @@ loop-place-init c =
           ∙ ap (λ l. lines_from c.args.folding (raw_line c.new-line.result.place l) 0 (texts c.deref-piece-items.result.now)) items
           ∙ ap (λ p. lines_from c.args.folding (raw_line p []) 0 (texts c.deref-piece-items.result.now)) c.new-line.ensures.place
           ∙ ap (λ ps. lines_from c.args.folding (raw_line 0 []) 0 (texts ps)) c.deref-piece-items.ensures.value
-          ∙ ap (λ ps. lines_from c.args.folding (raw_line 0 []) 0 (map strip_carriage_return ps)) c.in_ok-pieces.ensures,
+          ∙ ap (λ ps. lines_from c.args.folding (raw_line 0 []) 0 (map without_returns ps)) c.in_ok-pieces.ensures,
     )
 
 pub read_piece-requires : goal.read_piece-requires
@@ -22,7 +21,7 @@ read_piece-requires c = c.loop-place.invariant.0
 
 pub loop-place-preserved : goal.loop-place-preserved
 loop-place-preserved c =
-    let item = c.strip_carriage_return-piece.ensures in
+    let item = c.without_returns-piece.ensures in
     let pieces = c.deref-piece-items.result.now in
     let line = raw_line c.loop-place.line.place c.loop-place.line.octets.items in (
       c.in_ok-read_piece.ensures.head,

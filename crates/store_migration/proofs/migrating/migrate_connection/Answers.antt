@@ -2,7 +2,6 @@ use Rattle.std.proofs.Common.{subst, ◌∙◌}
 use Rattle.sqlite.specs.Held.{state}
 use Rattle.sqlite.specs.State.{HasCleanDisk}
 use Rattle.store_check.specs.OpenResults.{max_limits}
-use Rattle.store_check.proofs.GreatestLemmas.{are_max_limits}
 use Rattle.store_tables.proofs.SchemaCreationLemmas.{clean_before}
 use Rattle.store_migration.specs.internal.MigrationPlans.{IsMigrationPlan}
 use Rattle.store_migration.proofs.MigrateLemmas.{first_with, is_migrated, survives_migration}
@@ -14,7 +13,7 @@ returns-in-Ok-clause-migrated g c clean =
     let mid = state g.S.Store c.plan_migration.new.conn in
     let new = state g.S.Store c.commit_keeps.new.conn in
     let keeps = c.in_ok-keeps.keeps.items in
-    let limits = are_max_limits c.standard.result c.standard.ensures.page c.standard.ensures.cards c.standard.ensures.changes c.standard.ensures.books c.standard.ensures.keep in
+    let limits = c.standard.ensures in
     let plan_migration = λ (clean : HasCleanDisk mid). subst (λ l. IsMigrationPlan l old.now keeps) limits (c.in_ok-keeps.ensures.planned clean) in
     let early : HasCleanDisk new → HasCleanDisk mid = clean_before _ mid new c.commit_keeps.ensures.survives in
     let first = first_with max_limits old mid new keeps c.in_ok-keeps.ensures.unchanged plan_migration (early clean) in
@@ -27,7 +26,7 @@ returns-in-Ok-clause-well_formed g c clean =
     let mid = state g.S.Store c.plan_migration.new.conn in
     let new = state g.S.Store c.commit_keeps.new.conn in
     let keeps = c.in_ok-keeps.keeps.items in
-    let limits = are_max_limits c.standard.result c.standard.ensures.page c.standard.ensures.cards c.standard.ensures.changes c.standard.ensures.books c.standard.ensures.keep in
+    let limits = c.standard.ensures in
     let plan_migration = λ (clean : HasCleanDisk mid). subst (λ l. IsMigrationPlan l old.now keeps) limits (c.in_ok-keeps.ensures.planned clean) in
     let early : HasCleanDisk new → HasCleanDisk mid = clean_before _ mid new c.commit_keeps.ensures.survives in
     let first = first_with max_limits old mid new keeps c.in_ok-keeps.ensures.unchanged plan_migration (early clean) in
@@ -40,7 +39,7 @@ returns-in-Ok-clause-committed g c clean =
     let mid = state g.S.Store c.plan_migration.new.conn in
     let new = state g.S.Store c.commit_keeps.new.conn in
     let keeps = c.in_ok-keeps.keeps.items in
-    let limits = are_max_limits c.standard.result c.standard.ensures.page c.standard.ensures.cards c.standard.ensures.changes c.standard.ensures.books c.standard.ensures.keep in
+    let limits = c.standard.ensures in
     let plan_migration = λ (clean : HasCleanDisk mid). subst (λ l. IsMigrationPlan l old.now keeps) limits (c.in_ok-keeps.ensures.planned clean) in
     let early : HasCleanDisk new → HasCleanDisk mid = clean_before _ mid new c.commit_keeps.ensures.survives in
     let first = first_with max_limits old mid new keeps c.in_ok-keeps.ensures.unchanged plan_migration (early clean) in
@@ -53,7 +52,7 @@ returns-in-Ok-clause-crash g c =
     let mid = state g.S.Store c.plan_migration.new.conn in
     let new = state g.S.Store c.commit_keeps.new.conn in
     let keeps = c.in_ok-keeps.keeps.items in
-    let limits = are_max_limits c.standard.result c.standard.ensures.page c.standard.ensures.cards c.standard.ensures.changes c.standard.ensures.books c.standard.ensures.keep in
+    let limits = c.standard.ensures in
     let plan_migration = λ (clean : HasCleanDisk mid). subst (λ l. IsMigrationPlan l old.now keeps) limits (c.in_ok-keeps.ensures.planned clean) in
     let early : HasCleanDisk new → HasCleanDisk mid = clean_before _ mid new c.commit_keeps.ensures.survives in
     survives_migration max_limits old mid new keeps c.in_ok-keeps.ensures.unchanged plan_migration early c.plan_migration.ensures.changes_nothing.survives c.commit_keeps.ensures.survives
@@ -65,7 +64,7 @@ returns-clause-crash g c =
     let mid = state g.S.Store c.plan_migration.new.conn in
     let new = state g.S.Store c.commit_keeps.new.conn in
     let keeps = c.in_ok-keeps.keeps.items in
-    let limits = are_max_limits c.standard.result c.standard.ensures.page c.standard.ensures.cards c.standard.ensures.changes c.standard.ensures.books c.standard.ensures.keep in
+    let limits = c.standard.ensures in
     let plan_migration = λ (clean : HasCleanDisk mid). subst (λ l. IsMigrationPlan l old.now keeps) limits (c.in_ok-keeps.ensures.planned clean) in
     let early : HasCleanDisk new → HasCleanDisk mid = clean_before _ mid new c.commit_keeps.ensures.survives in
     survives_migration max_limits old mid new keeps c.in_ok-keeps.ensures.unchanged plan_migration early c.plan_migration.ensures.changes_nothing.survives c.commit_keeps.ensures.survives

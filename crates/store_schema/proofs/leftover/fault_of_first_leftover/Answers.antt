@@ -16,8 +16,8 @@ returns-in-Files-2-clause-fault g c files is =
 
 pub returns-in-Ok-clause-fault : goal.returns-in-Ok-clause-fault
 returns-in-Ok-clause-fault g c files is =
-    damaged_fault files c.in-Store.store c.test_found_first_schema.new.store c.test_found_first_schema.ensures.quiet (subst (IsLeftOf files (SqliteFailure NotADatabase)) c.in-Store.is is) ClassifiesFirstSchema c.in-Ok.ensures.answers
+    damaged_fault files c.in-Store.store c.check_found_first_schema.new.store c.check_found_first_schema.ensures.quiet (subst (IsLeftOf files (SqliteFailure NotADatabase)) c.in-Store.is is) ClassifiesFirstSchema c.in-Ok.ensures.answers
 
 pub returns-in-Err-clause-fault : goal.returns-in-Err-clause-fault
 returns-in-Err-clause-fault g c files is =
-    store_fault files c.in-Store.store c.test_found_first_schema.new.store c.test_found_first_schema.ensures.quiet (subst (IsLeftOf files (SqliteFailure NotADatabase)) c.in-Store.is is) ClassifiesFirstSchema c.in-Err.fault c.in-Err.ensures.answers
+    store_fault files c.in-Store.store c.check_found_first_schema.new.store c.check_found_first_schema.ensures.quiet (subst (IsLeftOf files (SqliteFailure NotADatabase)) c.in-Store.is is) ClassifiesFirstSchema c.in-Err.fault c.in-Err.ensures.answers

@@ -1,12 +1,12 @@
 use Rattle.std.proofs.Common.{refl, subst}
 use Rattle.sqlite.specs.Held.{state}
+use Rattle.book_model.specs.BookQueries.{keep_step}
 use Rattle.book_model.specs.Books.{Books}
 use Rattle.book_model.specs.Bounds.{Bounds}
 use Rattle.sync_core.specs.StoreModels.{AnswersQuery, KeepsTerms}
 use Rattle.store_tables.specs.StatementEffects.{OnlyReads}
 use Rattle.store_lookups.specs.CallResults.{IsExactly}
 use Rattle.store_lookups.specs.ChangeFaults.{ChangeFaultsFromOutside}
-use Rattle.store_queries.specs.KeepQueries.{keep_step}
 use Rattle.store_writes.proofs.CallLemmas.{read_before}
 use Rattle.book_store.specs.StoreViews.{StoreView, table_model}
 use Rattle.book_store.proofs.CountLemmas.{still_counts}

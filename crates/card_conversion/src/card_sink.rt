@@ -1,0 +1,49 @@
+//! The trait of sinks: where converted cards go.
+ghost use Rattle.std.specs.Prelude.{◌≡◌, IfOk, List};
+ghost use Rattle.vcard_lines.specs.declared.line.Line.{Line};
+ghost use Rattle.card_conversion.specs.Deliveries.{Delivers};
+
+use base_types::{NoMemory, Text};
+use std::alloc::{AllocError, Global};
+use vcard_text::Card;
+
+/// What became of a card at a sink.
+#[derive(Drop)]
+pub enum Delivery {
+    /// It was written.
+    Written,
+    /// The sink can't take it and wrote nothing, for a reason in words.
+    Refused(Text),
+}
+
+/// Why a sink takes no more cards.
+#[derive(Drop)]
+pub enum SinkFault {
+    /// An allocation failed.
+    Memory,
+    /// It couldn't write, in words.
+    Failed(Text),
+}
+
+impl From<NoMemory> for SinkFault {
+    fn from(_error: NoMemory) -> SinkFault {
+        SinkFault::Memory
+    }
+}
+
+impl From<AllocError> for SinkFault {
+    fn from(_error: AllocError) -> SinkFault {
+        SinkFault::Memory
+    }
+}
+
+/// Where converted cards go: rows to a writer, or files.
+pub trait CardSink {
+    /// What writing a card does to the sink: the card, and the sink before and after it.
+    ghost writes: { List Line → Self → Self → Type 0 };
+
+    /// Writes a card. `number` counts the cards of the file that is converted, from 1.
+    fn put(&mut self, alloc: Global, number: u64, card: &Card) -> Result<Delivery, SinkFault>
+        ensures { IfOk result (λ delivery.
+            Delivers (writes card.now) delivery self.old self.new) };
+}

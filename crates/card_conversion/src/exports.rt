@@ -1,0 +1,71 @@
+//! Converts the cards in rows of an export.
+ghost use Rattle.std.specs.Prelude.{ℕ, List, OnOk};
+ghost use Rattle.card_conversion.specs.Courses.{ConvertsTexts, Knows};
+
+use crate::card_sink::CardSink;
+use crate::course::Course;
+use crate::fault::{ConversionFault, read_fault};
+use crate::report::RowFields;
+use crate::reporting::Report;
+use crate::run::convert_piece;
+use csv_cards::{ExportRow, ExportRows};
+use import_text::{read_text, split_piece};
+use std::alloc::Global;
+use std::io::{Read, Write};
+
+/// Converts the text of a row, piece by piece.
+fn convert_row<O: CardSink, E: Write, T: Write>(
+    alloc: Global,
+    course: &mut Course,
+    row: &ExportRow,
+    sink: &mut O,
+    report: &mut Report<E, T>,
+) -> Result<(), ConversionFault>
+    ensures { OnOk result ((uids : List (List ℕ)) → Knows course.old uids
+        → ConvertsTexts O.writes uids course.old course.new sink.old sink.new) }
+{
+    let uid = read_text(alloc, row.uid.as_slice())?;
+    let fields = RowFields {
+        uid: uid.as_str(),
+        has_more: row.has_more,
+    };
+    course.ledger.go_to_line(row.line);
+    let mut rest = row.text.as_slice();
+    for _piece in 0..u64::MAX {
+        if rest.is_empty() {
+            return Ok(());
+        }
+        let (piece, after) = split_piece(rest);
+        let place = course.ledger.place;
+        let fate = convert_piece(alloc, &mut course.uids, place, piece, fields, sink, report)?;
+        course.ledger.count(piece, &fate);
+        rest = after;
+    }
+    Err(ConversionFault::Input)
+}
+
+/// Converts the cards in the rows of one more file, and writes them to the sink, in order. Each row
+/// is converted by itself, with the number of its own line.
+///
+/// The same card as an earlier one is passed, and another card under the same UID gets one of its
+/// own. Cards are counted on. An `Err` is as that of `convert_file`.
+pub fn convert_more_exports<R: Read + Drop, O: CardSink, E: Write, T: Write>(
+    alloc: Global,
+    course: &mut Course,
+    rows: ExportRows<R>,
+    sink: &mut O,
+    report: &mut Report<E, T>,
+) -> Result<(), ConversionFault>
+    ensures { OnOk result ((uids : List (List ℕ)) → Knows course.old uids
+        → ConvertsTexts O.writes uids course.old course.new sink.old sink.new) }
+{
+    let mut rows = rows;
+    for _row in 0..u64::MAX {
+        match rows.next_row(alloc) {
+            Ok(Some(row)) => convert_row(alloc, course, &row, sink, report)?,
+            Ok(None) => return Ok(()),
+            Err(error) => return Err(read_fault(error)),
+        }
+    }
+    Err(ConversionFault::Input)
+}

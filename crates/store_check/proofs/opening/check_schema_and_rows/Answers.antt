@@ -1,0 +1,21 @@
+use Rattle.std.proofs.Common.{rules, ◌≡◌, Err, subst, sym}
+use Rattle.sqlite.specs.Held.{state}
+use Rattle.store_check.specs.FaultSearches.{IsTestResult}
+use Rattle.store_check.proofs.OpenLemmas.{nothing_then, schema_searched, tables_opened}
+use Rattle.store_check.proofs.opening.check_schema_and_rows.Goals as goal
+
+pub returns-in_err-check_schema-clause-answers : goal.returns-in_err-check_schema-clause-answers
+returns-in_err-check_schema-clause-answers g c clean =
+    let said : c.from_residual.result ≡ Err c.in_err-check_schema.field-0.0 = search rules in
+    subst (IsTestResult c.args.limits (state g.S.Store c.args.conn.now).now) (sym said)
+    (schema_searched (state g.S.Store c.args.conn.now).now c.in_err-check_schema.field-0.0 (c.in_err-check_schema.ensures.answers clean))
+
+pub returns-clause-answers : goal.returns-clause-answers
+returns-clause-answers g c =
+    tables_opened (state g.S.Store c.args.conn.now) (state g.S.Store c.check_schema.new.conn) (state g.S.Store c.check_rows.new.conn)
+    c.in_ok-check_schema.ensures.answers c.in_ok-check_schema.ensures.unchanged c.check_rows.ensures.reads_only (λ db. IsTestResult c.args.limits db c.check_rows.result) c.check_rows.ensures.answers
+
+pub returns-clause-changes_nothing : goal.returns-clause-changes_nothing
+returns-clause-changes_nothing g c =
+    nothing_then (state g.S.Store c.args.conn.now) (state g.S.Store c.check_schema.new.conn) (state g.S.Store c.check_rows.new.conn)
+    c.in_ok-check_schema.ensures.answers c.in_ok-check_schema.ensures.unchanged c.check_rows.ensures.reads_only c.check_schema.ensures.reads_only
