@@ -9,6 +9,7 @@ use base_types::Text;
 use cli_args::{LineFault, Order};
 use cli_convert::{ConvertOptions, DateOrder, RowsSink, run_convert};
 use cli_host::{note_waiting, order_of_args, run_and_report};
+use convert_posts::Converter;
 use file_host::FileHost;
 use std::env;
 use std::io::IsTerminal;
@@ -75,7 +76,7 @@ fn convert(rt: &HostRuntime, wanted: ConvertOptions<'_>) -> u8 {
 
 /// Runs another order on the files and ports of the system, and returns the exit status.
 fn run(rt: &HostRuntime, order: Result<Order, LineFault>) -> u8 {
-    let mut host = FileHost::new(*rt);
+    let mut host = FileHost::new(*rt, Converter);
     let exit = run_and_report(
         rt.alloc(),
         &mut host,

@@ -9,7 +9,6 @@ use book_store::FileBooks;
 use cli_args::Order;
 use cli_host::run_on_host;
 use cli_orders::Stop;
-use convert_posts::Converter;
 use http_fronts::Front;
 use hub_server::Endpoint;
 use socket_endpoint::SocketEndpoint;
@@ -18,18 +17,23 @@ use std::net::{TcpListener, TcpStream};
 use std::rt::HostRuntime;
 use sync_core::BookStore;
 
-/// `run_on_host`, on the host that the program runs on.
+/// `run_on_host`, on the host that the program runs on, whose server has this front.
 ///
 /// No contract connects a store with a real file, or an endpoint or a listener with sockets. So the
 /// clauses only say that there are stores, endpoints and listeners with which this is the order's
 /// log.
-pub fn run_order<W: Write>(rt: &HostRuntime, order: Order, writer: &mut W) -> Result<(), Stop>
+pub fn run_order<F: Front + Copy, W: Write>(
+    rt: &HostRuntime,
+    front: F,
+    order: Order,
+    writer: &mut W,
+) -> Result<(), Stop>
     ensures done { OnOk result (HasLog (RunsOnHost ⟦<FileBooks as BookStore>⟧.model
-        ⟦<Converter as Front>⟧.answers ⟦<SocketEndpoint as Endpoint>⟧.calls
+        F.answers ⟦<SocketEndpoint as Endpoint>⟧.calls
         ⟦<TcpStream as Connection>⟧.model ⟦<TcpListener as Listener>⟧.coming order
         (W.contents writer.old) (W.contents writer.new))) }
     ensures stopped { IfErr result (λ stop. HasLog (StopsOnHost ⟦<FileBooks as BookStore>⟧.model
-        ⟦<Converter as Front>⟧.answers ⟦<SocketEndpoint as Endpoint>⟧.calls
+        F.answers ⟦<SocketEndpoint as Endpoint>⟧.calls
         ⟦<TcpStream as Connection>⟧.model ⟦<TcpListener as Listener>⟧.coming order stop
         (W.contents writer.old) (W.contents writer.new))) }
 
@@ -39,6 +43,6 @@ pub fn run_order<W: Write>(rt: &HostRuntime, order: Order, writer: &mut W) -> Re
     ensures output_kept { IfErr result (λ stop.
         KeepsOrderOutput order stop (W.contents writer.old) (W.contents writer.new)) }
 {
-    let mut host = FileHost::new(*rt);
+    let mut host = FileHost::new(*rt, front);
     run_on_host(rt.alloc(), &mut host, order, writer)
 }
