@@ -549,12 +549,20 @@ class ConvertContacts(OrderTest):
                 self.assertEqual(names, self.names(ended))
 
     def test_line_ends_in_a_cell(self):
-        """Each of CR LF, CR and LF ends a line."""
+        """Each of CR LF, CR, LF and CR CR LF ends a line, whatever ends the rows."""
         note = "one\r\ntwo\rthree\nfour\r\r\nfive\n\rsix"
         ended = self.convert(f'Name,Email,Notes\r\nAnn,a@x.test,"{note}"\r\n'.encode())
         [card] = rows_of(ended.out)
-        self.assertIn(r"NOTE:one\ntwo\nthree\nfour\n\nfive\n\nsix", self.lines(card))
+        self.assertIn(r"NOTE:one\ntwo\nthree\nfour\nfive\n\nsix", self.lines(card))
         self.assertEqual((0, numbers(1, 0, 0, 0)), (ended.status, ended.err.decode()))
+        for end in "\n", "\r", "\r\n", "\r\r\n":
+            for inner in "\n", "\r\n", "\r\r\n":
+                with self.subTest(end=end, inner=inner):
+                    rows = ["Name,Email,Notes", f'Ann,a@x.test,"one{inner}two"', "Bob,b@x.test,n"]
+                    ended = self.convert("".join(row + end for row in rows).encode())
+                    cards = rows_of(ended.out)
+                    self.assertEqual(2, len(cards))
+                    self.assertIn(r"NOTE:one\ntwo", self.lines(cards[0]))
 
     def test_people_above_the_header(self):
         """A line with the header's cells may be a person; all others are told once, as notes."""

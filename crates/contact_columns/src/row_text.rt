@@ -1,6 +1,6 @@
 //! `RowText`: the text of a file of rows, in which a quote that isn't closed ends with its line.
 
-use crate::row_ends::{end_rows, first_end};
+use crate::row_ends::{drop_returns, end_rows, first_end};
 use crate::row_scan::{RowEnd, mark_len, row_end};
 use import_text::{fill, joined};
 use std::alloc::Global;
@@ -43,7 +43,8 @@ enum Mode {
 /// or if its row has several lines and not as many cells as the header. With 200 lines, the cell is
 /// `LONG_ROW`. It gives as many line feeds as the file has, and at the end of a file that doesn't
 /// end with one, the end of its first line. Where the first line ends with a carriage return alone,
-/// each carriage return of the file counts as a line feed.
+/// each carriage return of the file that no line feed follows counts as a line feed. Of CR CR LF it
+/// gives CR LF.
 #[derive(Drop)]
 pub struct RowText<R> {
     alloc: Global,
@@ -160,6 +161,7 @@ impl<R: Read + Drop> RowText<R> {
         let mut input = input;
         self.is_at_end = chunk.len() < size;
         self.are_returns = self.are_returns.or(first_end(input.as_slice()));
+        drop_returns(&mut input);
         if self.are_returns == Some(true) {
             end_rows(input.as_mut_slice());
         }
