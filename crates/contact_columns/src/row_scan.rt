@@ -32,6 +32,8 @@ struct RowScan {
     cell_line: Option<usize>,
     /// Where the first line ends that ends in any cell in quotes.
     row_line: Option<usize>,
+    /// Whether the last octet is a carriage return in a cell in quotes.
+    is_after_return: bool,
 }
 
 /// Where the row at the front of some octets ends.
@@ -46,7 +48,8 @@ pub enum RowEnd {
     Long(usize),
     /// A quote isn't closed so far. If it stays so, the line in which it stands has this many octets.
     Open(usize),
-    /// A quote isn't closed, or not before text, and no line ends after it.
+    /// A quote isn't closed, or not before text, and no line ends after it; or one ends with a
+    /// carriage return, which is the last octet.
     Endless,
     /// It doesn't end.
     Unended,
@@ -54,6 +57,22 @@ pub enum RowEnd {
 
 fn is_line_end(octet: u8) -> bool {
     octet == b'\n' || octet == b'\r'
+}
+
+/// The number of octets of the first line, with its end: a line feed, a carriage return, or both.
+/// `None` if it doesn't end, or with the last octet, which is a carriage return: a line feed that
+/// follows would belong to the end.
+pub(crate) fn ended_line_len(octets: &[u8]) -> Option<usize> {
+    let place = octets.iter().position(|octet| is_line_end(*octet))?;
+    let after = place.saturating_add(1);
+    if octets.get(place).copied() == Some(b'\n') {
+        return Some(after);
+    }
+    match octets.get(after).copied() {
+        Some(b'\n') => Some(after.saturating_add(1)),
+        Some(_) => Some(after),
+        None => None,
+    }
 }
 
 impl RowScan {
@@ -64,6 +83,7 @@ impl RowScan {
             lines: 0,
             cell_line: None,
             row_line: None,
+            is_after_return: false,
         }
     }
 
@@ -82,18 +102,37 @@ impl RowScan {
 
     /// Notes that a line ends in a cell in quotes. `after` is the place after it.
     fn end_line(&mut self, after: usize) {
-        self.lines = self.lines.saturating_add(1);
         self.cell_line = self.cell_line.or(Some(after));
         self.row_line = self.row_line.or(Some(after));
     }
 
-    /// Takes an octet of a cell in quotes.
+    /// Notes that a line feed belongs to the end of the line that a carriage return ended.
+    fn extend_line(&mut self, after: usize) {
+        let before = Some(after.saturating_sub(1));
+        if self.cell_line == before {
+            self.cell_line = Some(after);
+        }
+        if self.row_line == before {
+            self.row_line = Some(after);
+        }
+    }
+
+    /// Takes an octet of a cell in quotes. A carriage return alone ends a line, too, since rows may
+    /// end with it though the first line doesn't; but only line feeds are counted, so that a cell
+    /// which is closed may have any number of carriage returns.
     fn take_quoted(&mut self, octet: u8, after: usize) {
         if octet == b'"' {
             self.place = Place::Closed;
+        } else if octet == b'\r' {
+            self.end_line(after);
         } else if octet == b'\n' {
+            self.lines = self.lines.saturating_add(1);
+            if self.is_after_return {
+                self.extend_line(after);
+            }
             self.end_line(after);
         }
+        self.is_after_return = octet == b'\r';
     }
 
     /// Whether the octet can't stand where it stands, or its cell has too many lines.
@@ -133,9 +172,8 @@ impl RowScan {
             Some(end) => return RowEnd::Broken(end),
             None => {}
         }
-        let rest = octets.get(from..).unwrap_or(&[]);
-        match rest.iter().position(|octet| *octet == b'\n') {
-            Some(more) => RowEnd::Broken(from.saturating_add(more).saturating_add(1)),
+        match ended_line_len(octets.get(from..).unwrap_or(&[])) {
+            Some(more) => RowEnd::Broken(from.saturating_add(more)),
             None => RowEnd::Endless,
         }
     }

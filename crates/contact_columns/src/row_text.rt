@@ -1,7 +1,7 @@
 //! `RowText`: the text of a file of rows, in which a quote that isn't closed ends with its line.
 
 use crate::row_ends::{drop_returns, end_rows, first_end};
-use crate::row_scan::{RowEnd, mark_len, row_end};
+use crate::row_scan::{RowEnd, ended_line_len, mark_len, row_end};
 use import_text::{fill, joined};
 use std::alloc::Global;
 use std::io;
@@ -39,7 +39,7 @@ enum Mode {
 /// Reads the rows of a file, and gives them on as they are, without a byte order mark. For a row in
 /// which a quote isn't closed, or is followed by other text than a quote, a delimiter or the end of
 /// the line, it gives a row with the cell `BROKEN_ROW`, and reads on with the line after that of
-/// the quote. A quote is one that isn't closed if there are 200 lines or 8,388,608 octets after it,
+/// the quote, which ends with a line feed, a carriage return or both. A quote is one that isn't closed if there are 200 lines or 8,388,608 octets after it,
 /// or if its row has several lines and not as many cells as the header. With 200 lines, the cell is
 /// `LONG_ROW`. It gives as many line feeds as the file has, and at the end of a file that doesn't
 /// end with one, the end of its first line. Where the first line ends with a carriage return alone,
@@ -55,6 +55,9 @@ pub struct RowText<R> {
     input: Vec<u8>,
     start: usize,
     is_at_end: bool,
+    /// The number of carriage returns that were read after these octets. What they are depends on
+    /// the octet that follows.
+    returns: usize,
     /// The number of octets from `start` that are given next, after those of `made`.
     ready: usize,
     /// What is given in place of a row, from `given`.
@@ -73,19 +76,8 @@ fn no_memory() -> Error {
     Error::from(ErrorKind::OutOfMemory)
 }
 
-/// The next octets of a reader: `size` of them, or fewer at its end.
-fn read_chunk<R: Read>(alloc: Global, reader: &mut R, size: usize) -> io::Result<Vec<u8>> {
-    let mut chunk = Vec::new(alloc);
-    if chunk.resize(size, 0).is_err() {
-        return Err(no_memory());
-    }
-    let count = fill(reader, chunk.as_mut_slice())?;
-    chunk.truncate(count);
-    Ok(chunk)
-}
-
-/// The row with this cell that stands for octets of a broken one, with as many line feeds, and at
-/// least one if it ends its line.
+/// The row with this cell that stands for octets of a broken one. It has as many line feeds, and
+/// ends if they end their line.
 fn broken_row(alloc: Global, cell: &[u8], octets: &[u8]) -> io::Result<Vec<u8>> {
     let mut made = Vec::new(alloc);
     if made.extend_from_slice(cell).is_err() {
@@ -96,7 +88,27 @@ fn broken_row(alloc: Global, cell: &[u8], octets: &[u8]) -> io::Result<Vec<u8>> 
             return Err(no_memory());
         }
     }
+    if octets.ends_with(b"\r") && made.push(b'\r').is_err() {
+        return Err(no_memory());
+    }
     Ok(made)
+}
+
+/// The number of carriage returns at the end.
+fn last_returns(octets: &[u8]) -> usize {
+    match octets.iter().rposition(|octet| *octet != b'\r') {
+        Some(place) => octets.len().saturating_sub(place.saturating_add(1)),
+        None => octets.len(),
+    }
+}
+
+/// Appends this number of octets, which are all the same.
+fn push_octets(octets: &mut Vec<u8>, octet: u8, count: usize) -> io::Result<()> {
+    let len = octets.len().saturating_add(count);
+    match octets.resize(len, octet) {
+        Ok(()) => Ok(()),
+        Err(_) => Err(no_memory()),
+    }
 }
 
 /// Whether a carriage return is before the first line feed; `None` if there is no line feed.
@@ -125,6 +137,7 @@ impl<R: Read + Drop> RowText<R> {
             input: Vec::new(alloc),
             start: 0,
             is_at_end: false,
+            returns: 0,
             ready: 0,
             made: Vec::new(alloc),
             given: 0,
@@ -145,29 +158,56 @@ impl<R: Read + Drop> RowText<R> {
         self.made.get(self.given..).unwrap_or(&[])
     }
 
-    /// Reads at least as many octets as are unread, or to the end of the source. So the octets of a
-    /// long row are looked at a few times each.
-    fn read_more(&mut self) -> io::Result<()> {
-        let len = self.unread().len();
-        let size = if len < CHUNK_OCTETS {
-            CHUNK_OCTETS
-        } else {
-            len
+    /// The next octets of the source, after the carriage returns that were kept back: at least as
+    /// many as are unread, or all to its end. So the octets of a long row are looked at a few times
+    /// each.
+    fn next_octets(&mut self) -> io::Result<Vec<u8>> {
+        let returns = self.returns;
+        let size = self.unread().len().max(returns).max(CHUNK_OCTETS);
+        let mut octets = Vec::new(self.alloc);
+        push_octets(&mut octets, b'\r', returns)?;
+        push_octets(&mut octets, 0, size)?;
+        let count = match octets.as_mut_slice().get_mut(returns..) {
+            Some(room) => fill(&mut self.reader, room)?,
+            None => 0,
         };
-        let chunk = read_chunk(self.alloc, &mut self.reader, size)?;
-        let Ok(input) = joined(self.alloc, self.unread(), chunk.as_slice()) else {
+        octets.truncate(returns.saturating_add(count));
+        self.is_at_end = count < size;
+        self.returns = 0;
+        Ok(octets)
+    }
+
+    /// Keeps back the carriage returns at the end of what was read, unless the source has ended:
+    /// all while it isn't known whether lines end so, and else two, since CR CR LF is one end. So
+    /// what becomes of them doesn't depend on where a read ended.
+    fn keep_back(&mut self, octets: &mut Vec<u8>) {
+        if self.is_at_end {
+            return;
+        }
+        let most = if self.are_returns.is_none() {
+            ROW_OCTETS_MAX
+        } else {
+            2
+        };
+        self.returns = last_returns(octets.as_slice()).min(most);
+        octets.truncate(octets.len().saturating_sub(self.returns));
+    }
+
+    /// Reads on, and makes one line end of each of the source.
+    fn read_more(&mut self) -> io::Result<()> {
+        let mut octets = self.next_octets()?;
+        self.are_returns = self.are_returns.or(first_end(octets.as_slice()));
+        self.keep_back(&mut octets);
+        drop_returns(&mut octets);
+        if self.are_returns == Some(true) {
+            end_rows(octets.as_mut_slice());
+        }
+        if !octets.is_empty() {
+            self.is_line_ended = octets.as_slice().ends_with(b"\n");
+        }
+        let Ok(input) = joined(self.alloc, self.unread(), octets.as_slice()) else {
             return Err(no_memory());
         };
-        let mut input = input;
-        self.is_at_end = chunk.len() < size;
-        self.are_returns = self.are_returns.or(first_end(input.as_slice()));
-        drop_returns(&mut input);
-        if self.are_returns == Some(true) {
-            end_rows(input.as_mut_slice());
-        }
-        if !chunk.is_empty() {
-            self.is_line_ended = input.as_slice().ends_with(b"\n");
-        }
         self.has_returns = self.has_returns.or(has_returns(input.as_slice()));
         self.input = input;
         self.start = 0;
@@ -197,7 +237,9 @@ impl<R: Read + Drop> RowText<R> {
             _ if !is_last => return Ok(false),
             RowEnd::Open(end) => self.break_row(BROKEN_ROW, end)?,
             RowEnd::Endless => {
-                self.break_row(BROKEN_ROW, len)?;
+                // A carriage return at the end may end the line: that depends on what follows.
+                let returns = last_returns(self.unread()).min(1);
+                self.break_row(BROKEN_ROW, len.saturating_sub(returns))?;
                 self.mode = Mode::DropsLine;
             }
             RowEnd::Unended => {
@@ -217,15 +259,22 @@ impl<R: Read + Drop> RowText<R> {
         }
     }
 
-    /// Passes what is unread of a line but its end.
+    /// Passes what is unread of a line but the last octet of its end. A carriage return after which
+    /// nothing was read yet stays unread.
     fn drop_line(&mut self) {
-        let (len, ends) = line_len(self.unread());
-        if ends {
-            self.start = self.start.saturating_add(len.saturating_sub(1));
-            self.ready = 1;
-            self.mode = Mode::Rows;
+        let len = self.unread().len();
+        let returns = if self.is_at_end {
+            0
         } else {
-            self.start = self.start.saturating_add(len);
+            last_returns(self.unread()).min(1)
+        };
+        match ended_line_len(self.unread()) {
+            Some(ended) => {
+                self.start = self.start.saturating_add(ended.saturating_sub(1));
+                self.ready = 1;
+                self.mode = Mode::Rows;
+            }
+            None => self.start = self.start.saturating_add(len.saturating_sub(returns)),
         }
     }
 
