@@ -87,3 +87,34 @@ class ConvertLineEnds(OrderTest):
                     ended = self.convert(octets)
                     self.assertEqual((1, ["B"]), (ended.status, self.names(ended)))
                     self.assertIn("row 1, line 2: not carried: ", ended.err.decode())
+
+    def test_empty_lines_above_the_header(self):
+        """Each row is told with its own line, whatever is right above the header."""
+        for above, count in [([""], 1), (["", ""], 2), (6 * [""], 6), (["sep=,", ""], 2),
+                             (["List of May", "", ""], 3), (["\ufeff"], 1)]:
+            for end in "\n", "\r\n", "\r":
+                with self.subTest(above=above, end=end):
+                    rows = ["Name,Email", "A,a@x,more", "", 'B,"b@x",more', "C,c@x"]
+                    octets = "".join(line + end for line in above + rows).encode()
+                    ended = self.convert(octets)
+                    self.assertEqual((1, ["C"]), (ended.status, self.names(ended)))
+                    why = "not carried: the row has more or fewer cells than the header\n"
+                    told = ended.err.decode()
+                    self.assertIn(f"row 1, line {count + 2}: {why}", told)
+                    self.assertIn(f"row 2, line {count + 4}: {why}", told)
+
+    def test_empty_lines_in_an_export(self):
+        """Rows `uid,vcard` are told with their own lines after empty ones, too."""
+        card = '"BEGIN:VCARD\nVERSION:4.0\nUID:u1\nFN:A\nEND:VCARD\n"'
+        rows = ["uid,vcard", "", f"u1,{card}", "", "", "u2,hello", "u3,hi", "", "u4,x", "u5,y"]
+        for end in "\n", "\r\n":
+            for last in "", end, 3 * end:
+                with self.subTest(end=end, last=last):
+                    ended = self.convert((end.join(rows) + last).encode())
+                    self.assertEqual((1, ["A"]), (ended.status, self.names(ended)))
+                    told = [line for line in ended.err.decode().splitlines()
+                            if line.startswith("line ")]
+                    # The card's row has six lines, from line 3 on.
+                    wanted = [f"line {line}: not carried: no card begins here"
+                              for line in (11, 12, 14, 15)]
+                    self.assertEqual(wanted, told)

@@ -4,6 +4,7 @@ use crate::above::{ABOVE_MAX, AboveLine, lines_above};
 use crate::columns::{read_columns, unread_columns};
 use crate::dates::DateOrder;
 use crate::row_ends::rows_end_with_returns;
+use crate::row_scan::mark_len;
 use csv::{ByteRecord, ReaderBuilder};
 use std::alloc::Global;
 use vcard_text::{NoMemory, Text};
@@ -11,7 +12,8 @@ use vcard_text::{NoMemory, Text};
 /// The header of a file of contacts.
 #[derive(Clone, Copy)]
 pub struct Header<'a> {
-    /// The number of octets before it: those of a mark, of a line `sep=;` or of notes.
+    /// The number of octets before it: those of a mark, of a line `sep=;`, of notes or of empty
+    /// lines.
     pub start: usize,
     /// The number of lines before it.
     pub lines: u64,
@@ -75,6 +77,27 @@ pub(crate) fn line_len(octets: &[u8], are_returns: bool) -> usize {
     }
 }
 
+/// The number of octets of the empty lines at the front, perhaps after a byte order mark, and how
+/// many lines they are. The library passes them with the header, which is the first row.
+fn empty_lines(octets: &[u8], are_returns: bool) -> (usize, u64) {
+    let mark = mark_len(octets);
+    let rest = octets.get(mark..).unwrap_or(&[]);
+    let count = rest
+        .iter()
+        .take_while(|octet| **octet == b'\r' || **octet == b'\n')
+        .count();
+    if count == 0 {
+        return (0, 0);
+    }
+    let end = if are_returns { b'\r' } else { b'\n' };
+    let ends = rest
+        .iter()
+        .take(count)
+        .filter(|octet| **octet == end)
+        .count();
+    (mark.saturating_add(count), ends as u64)
+}
+
 /// Finds the header of a file of contacts: in the first line, or after up to four other lines. Its
 /// cells have a comma, a semicolon, a tab or a vertical bar between them. `None` if there is none.
 /// `head` is the beginning of the file, at least to the end of the header. `wished` says what its
@@ -89,10 +112,12 @@ pub fn find_header<'a>(
     for lines in 0..LINES_MAX {
         let rest = head.get(start..).unwrap_or(&[]);
         if let Some((delimiter, width)) = header_at(alloc, rest, wished)? {
+            let (empty, more) = empty_lines(rest, are_returns);
+            let start = start.saturating_add(empty);
             let before = head.get(..start).unwrap_or(&[]);
             return Ok(Some(Header {
                 start,
-                lines,
+                lines: lines.saturating_add(more),
                 above: lines_above(alloc, before, are_returns, delimiter, width)?,
                 delimiter,
                 width,

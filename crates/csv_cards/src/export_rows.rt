@@ -60,6 +60,9 @@ pub struct ExportRows<R> {
     row: ByteRecord,
     /// The number of the line after the rows so far.
     line: u64,
+    /// Whether the library passes the line feed at the end of a row only with the next row, as it
+    /// does where rows end with CR LF. `None` before the header was read.
+    is_late: Option<bool>,
 }
 
 /// A field; empty if the row has none there.
@@ -121,10 +124,12 @@ impl<R: Read + Drop> ExportRows<R> {
     pub fn new(alloc: Global, source: R) -> ExportRows<R> {
         ExportRows {
             rows: ReaderBuilder::new()
+                .has_headers(false)
                 .flexible(true)
                 .from_reader(alloc, source),
             row: ByteRecord::new(alloc),
             line: 2,
+            is_late: None,
         }
     }
 
@@ -139,17 +144,31 @@ impl<R: Read + Drop> ExportRows<R> {
         }
     }
 
-    /// The number of the line of the row, if there is no empty line right before it. The library
-    /// counts the earlier ones, but may not have counted the line feed after a carriage return.
-    fn line_of_row(&self) -> u64 {
-        match self.row.position() {
-            Some(position) => self.line.max(position.line()),
-            None => self.line,
+    /// Reads the header, if it wasn't read yet. It is line 1, and the library is still at that line
+    /// if it passes the line feed only with the next row.
+    fn read_header(&mut self) -> io::Result<()> {
+        if self.is_late.is_none() {
+            let _found = self.has_next()?;
+            self.is_late = Some(self.rows.position().line() <= 1);
         }
+        Ok(())
+    }
+
+    /// The number of the line of the row, also after empty ones, if rows end as the header does. The
+    /// last row may have no end: then it is at least the line after the row before it.
+    fn line_of_row(&self) -> u64 {
+        let end = self.rows.position().line();
+        let last = if self.is_late == Some(true) {
+            end
+        } else {
+            end.saturating_sub(1)
+        };
+        self.line.max(last.saturating_sub(count_feeds(&self.row)))
     }
 
     /// The next row; `None` at the end of the source.
     pub fn next_row(&mut self, alloc: Global) -> io::Result<Option<ExportRow>> {
+        self.read_header()?;
         if !self.has_next()? {
             return Ok(None);
         }
