@@ -398,7 +398,8 @@ files of --rows and --octets
 'Name=fn,Mail=email;type=work,#3=-': a column's name, or # and its number, and one of fn, n.family, \
 n.given, n.additional, n.prefix, n.suffix, nickname, org, org.unit, title, role, email, tel, adr, \
 adr.street, adr.city, adr.region, adr.code, adr.country, adr.box, adr.extended, url, bday, \
-anniversary, note, categories, uid, gender, lang, impp, or - to leave it out
+anniversary, note, categories, uid, gender, lang, impp, or - to leave it out. If all are numbers, the \
+first row is a person, unless it is a header that is known, or `header` is among them
       --charset <CHARSET>  Character set of the file: UTF-8, UTF-16, ISO-8859-1 to -16, \
 windows-1250 to -1258 or -874, KOI8-R or KOI8-U
       --report <REPORT>    New file for all lines of the report, one for each line of a card that \

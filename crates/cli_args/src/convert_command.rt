@@ -91,7 +91,8 @@ fn columns_option<'a>(alloc: Global) -> Arg<'a>
          name, or # and its number, and one of fn, n.family, n.given, n.additional, n.prefix, \
          n.suffix, nickname, org, org.unit, title, role, email, tel, adr, adr.street, adr.city, \
          adr.region, adr.code, adr.country, adr.box, adr.extended, url, bday, anniversary, note, \
-         categories, uid, gender, lang, impp, or - to leave it out",
+         categories, uid, gender, lang, impp, or - to leave it out. If all are numbers, the first \
+         row is a person, unless it is a header that is known, or `header` is among them",
     )
 }
 

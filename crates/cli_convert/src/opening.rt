@@ -8,7 +8,7 @@ use crate::exit::{
 };
 use crate::options::ConvertOptions;
 use card_conversion::foreign_format;
-use contact_columns::{DateOrder, Header, RowText, read_date_order, wish_fault};
+use contact_columns::{DateOrder, Header, RowText, made_header, read_date_order, wish_fault};
 use import_text::TextReader;
 use std::alloc::Global;
 use std::fs;
@@ -148,7 +148,9 @@ fn dates_in<R: Read + Drop>(
     let mut text = reader;
     let head = head_of(alloc, path, &mut text, HEAD_OCTETS)?;
     let rest = head.get(header.start..).unwrap_or(&[]);
-    let rows = RowText::new(alloc, rest.chain(text), header.delimiter, header.width);
+    let made = made_header(alloc, header, rest)?;
+    let source = made.as_slice().chain(rest).chain(text);
+    let rows = RowText::new(alloc, source, header.delimiter, header.width);
     match read_date_order(alloc, rows, header)? {
         Some(dates) => Ok(dates),
         None => Err(open_dates(alloc, path)),
@@ -179,6 +181,7 @@ fn header_with(header: Header<'_>, dates: DateOrder) -> Header<'_> {
         width: header.width,
         dates,
         wished: header.wished,
+        is_missing: header.is_missing,
     }
 }
 

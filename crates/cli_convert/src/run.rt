@@ -10,7 +10,7 @@ use crate::names::rows_front;
 use crate::opening::{open_file, read_content, text_after, wanted_encoding, with_dates};
 use crate::options::ConvertOptions;
 use crate::row_files::RowFiles;
-use crate::several::{check_more, content_text, convert_all};
+use crate::several::{check_more, content_text, convert_all, text_above};
 use base_types::Text;
 use card_conversion::laws::{written_cards_differ, written_rows_are_read};
 use card_conversion::{ConversionFault, Report, RowsSink, Summary};
@@ -203,7 +203,8 @@ fn convert_text<F: Files, R: Read + Drop, W: Write, E: Write>(
     check_more(alloc, files, wanted)?;
     report.set_file(wanted_report(alloc, files, wanted)?);
     tell_left_out(alloc, wanted, report)?;
-    let text = content_text(head.as_slice(), content, reader);
+    let above = text_above(alloc, content, head.as_slice())?;
+    let text = content_text(above.as_slice(), head.as_slice(), content, reader);
     convert_opened(alloc, files, wanted, content, text, rows, report)
 }
 

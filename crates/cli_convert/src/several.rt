@@ -8,10 +8,11 @@ use crate::exit::{ConvertStop, no_second_reading, stop_of};
 use crate::opening::{is_file, open_file, read_content, text_after, wanted_encoding, with_dates};
 use crate::options::ConvertOptions;
 use crate::sources::convert_to;
-use base_types::Text;
+use base_types::{NoMemory, Text};
 use card_conversion::{
     CardSink, ConversionFault, Course, LineEnds, Report, Summary, ends_with_returns,
 };
+use contact_columns::made_header;
 use std::alloc::Global;
 use std::fs::Files;
 use std::io::{Chain, Read, Write};
@@ -29,14 +30,31 @@ fn is_of_cards(content: Content<'_>) -> bool {
     matches!(content, Content::Cards)
 }
 
-/// What is converted of a file: its head, and what `reader` has after it.
+/// What is read above the head of a file: a header, if it has contacts and no header.
+pub(crate) fn text_above(
+    alloc: Global,
+    content: Content<'_>,
+    head: &[u8],
+) -> Result<Vec<u8>, NoMemory> {
+    match content {
+        Content::Contacts(header) => {
+            made_header(alloc, header, head.get(header.start..).unwrap_or(&[]))
+        }
+        _ => Ok(Vec::new(alloc)),
+    }
+}
+
+/// What is converted of a file: what is read above its head, the head, and what `reader` has after
+/// it.
 pub(crate) fn content_text<'a, R: Read>(
+    above: &'a [u8],
     head: &'a [u8],
     content: Content<'_>,
     reader: R,
-) -> LineEnds<Chain<&'a [u8], R>> {
+) -> LineEnds<Chain<Chain<&'a [u8], &'a [u8]>, R>> {
     let are_returns = is_of_cards(content) && ends_with_returns(head);
-    let reader = head.get(start_of(content)..).unwrap_or(&[]).chain(reader);
+    let rest = head.get(start_of(content)..).unwrap_or(&[]);
+    let reader = above.chain(rest).chain(reader);
     LineEnds {
         reader,
         are_returns,
@@ -113,7 +131,8 @@ fn convert_next<F: Files, O: CardSink, E: Write>(
     let mut reader = text_after(alloc, wanted.file, encoding, front.as_slice(), file)?;
     let (head, content) = read_content(alloc, wanted, &mut reader)?;
     let content = with_dates(alloc, files, wanted, content)?;
-    let text = content_text(head.as_slice(), content, reader);
+    let above = text_above(alloc, content, head.as_slice())?;
+    let text = content_text(above.as_slice(), head.as_slice(), content, reader);
     convert_content::<F, _, O, E>(alloc, course, wanted, content, text, sink, report)
 }
 

@@ -23,7 +23,7 @@ pub enum AboveLine {
 }
 
 /// Whether a line names the delimiter of the file, perhaps after a byte order mark.
-fn names_delimiter(line: &[u8]) -> bool {
+pub(crate) fn names_delimiter(line: &[u8]) -> bool {
     let text = line.strip_prefix(b"\xEF\xBB\xBF").unwrap_or(line);
     let text = text.strip_prefix(b"\"").unwrap_or(text);
     begins_with_word(text, b"sep=")

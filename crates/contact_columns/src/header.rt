@@ -3,8 +3,10 @@
 use crate::above::{ABOVE_MAX, AboveLine, lines_above};
 use crate::columns::{read_columns, unread_columns};
 use crate::dates::DateOrder;
+use crate::headerless::find_rows;
 use crate::row_ends::rows_end_with_returns;
 use crate::row_scan::mark_len;
+use crate::wishes::{are_numbers, most_number};
 use csv::{ByteRecord, ReaderBuilder};
 use std::alloc::Global;
 use vcard_text::{NoMemory, Text};
@@ -27,6 +29,9 @@ pub struct Header<'a> {
     pub dates: DateOrder,
     /// What the user says of its columns (see `read_columns`); empty for nothing.
     pub wished: &'a str,
+    /// Whether the file has none. All else is said of its rows then, and `made_header` is read
+    /// above them.
+    pub is_missing: bool,
 }
 
 /// The delimiters between cells that are tried.
@@ -79,7 +84,7 @@ pub(crate) fn line_len(octets: &[u8], are_returns: bool) -> usize {
 
 /// The number of octets of the empty lines at the front, perhaps after a byte order mark, and how
 /// many lines they are. The library passes them with the header, which is the first row.
-fn empty_lines(octets: &[u8], are_returns: bool) -> (usize, u64) {
+pub(crate) fn empty_lines(octets: &[u8], are_returns: bool) -> (usize, u64) {
     let mark = mark_len(octets);
     let rest = octets.get(mark..).unwrap_or(&[]);
     let count = rest
@@ -98,11 +103,8 @@ fn empty_lines(octets: &[u8], are_returns: bool) -> (usize, u64) {
     (mark.saturating_add(count), ends as u64)
 }
 
-/// Finds the header of a file of contacts: in the first line, or after up to four other lines. Its
-/// cells have a comma, a semicolon, a tab or a vertical bar between them. `None` if there is none.
-/// `head` is the beginning of the file, at least to the end of the header. `wished` says what its
-/// columns become, and may be empty (see `read_columns`). The only `Err` is out of memory.
-pub fn find_header<'a>(
+/// Finds a header whose columns are known, or are all that are wished.
+fn find_written<'a>(
     alloc: Global,
     head: &[u8],
     wished: &'a str,
@@ -123,11 +125,55 @@ pub fn find_header<'a>(
                 width,
                 dates: DateOrder::Unknown,
                 wished,
+                is_missing: false,
             }));
         }
         start = start.saturating_add(line_len(rest, are_returns));
     }
     Ok(None)
+}
+
+/// The header, of whose columns this is said.
+fn header_with<'a>(header: Header<'_>, wished: &'a str) -> Header<'a> {
+    Header {
+        start: header.start,
+        lines: header.lines,
+        above: header.above,
+        delimiter: header.delimiter,
+        width: header.width,
+        dates: header.dates,
+        wished,
+        is_missing: header.is_missing,
+    }
+}
+
+/// Whether the file has no header: what is wished names each column by its number, and no row among
+/// the first lines is a header that is known. So a person isn't taken for one.
+pub(crate) fn is_missing(alloc: Global, head: &[u8], wished: &str) -> Result<bool, NoMemory> {
+    Ok(are_numbers(wished) && find_written(alloc, head, "")?.is_none())
+}
+
+/// Finds the header of a file of contacts: in the first line, or after up to four other lines. Its
+/// cells have a comma, a semicolon, a tab or a vertical bar between them. `None` if there is none.
+/// `head` is the beginning of the file, at least to the end of the header. `wished` says what its
+/// columns become, and may be empty (see `read_columns`). If it names each by its number and no
+/// header is known, the file has none, and each of its rows is a person. The only `Err` is out of
+/// memory.
+pub fn find_header<'a>(
+    alloc: Global,
+    head: &[u8],
+    wished: &'a str,
+) -> Result<Option<Header<'a>>, NoMemory> {
+    if !are_numbers(wished) {
+        return find_written(alloc, head, wished);
+    }
+    match find_written(alloc, head, "")? {
+        Some(known) if most_number(wished) <= known.width => {
+            Ok(Some(header_with(known, wished)))
+        }
+        Some(_) => Ok(None),
+        None => find_rows(alloc, head, wished),
+    }
 }
 
 /// The columns of the first row that should have addresses of electronic mail or numbers of

@@ -4,6 +4,7 @@ use crate::columns::ContactColumns;
 use crate::meaning::Part;
 use crate::slots::Slot;
 use crate::suggestion::push_entry;
+use crate::wishes::push_header_entry;
 use std::alloc::Global;
 use vcard_text::{NoMemory, Text};
 
@@ -117,8 +118,13 @@ fn words_of(alloc: Global, columns: &ContactColumns) -> Result<Vec<String>, NoMe
 }
 
 /// What becomes of the columns, as `Name=fn,#7=-`. Columns whose cells are kept aside are missing,
-/// and so are those of what a user can't say, as labels. The only `Err` is out of memory.
-pub fn mapped_columns(alloc: Global, columns: &ContactColumns) -> Result<Text, NoMemory> {
+/// and so are those of what a user can't say, as labels. If all others are named by their numbers,
+/// it says whether there is a header. The only `Err` is out of memory.
+pub fn mapped_columns(
+    alloc: Global,
+    columns: &ContactColumns,
+    has_header: bool,
+) -> Result<Text, NoMemory> {
     let words = words_of(alloc, columns)?;
     let names = columns.columns.as_slice();
     let mut text = String::new(alloc);
@@ -127,6 +133,9 @@ pub fn mapped_columns(alloc: Global, columns: &ContactColumns) -> Result<Text, N
         if !word.is_empty() {
             push_entry(alloc, &mut text, place, names[place].name.as_str(), word)?;
         }
+    }
+    if has_header {
+        push_header_entry(&mut text)?;
     }
     Ok(Text::new(text))
 }

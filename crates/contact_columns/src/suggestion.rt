@@ -2,6 +2,7 @@
 
 use crate::columns::{Column, column_names, columns_of, has_names, lower};
 use crate::header::{DELIMITERS, first_row};
+use crate::wishes::push_header_entry;
 use std::alloc::Global;
 use vcard_text::{Items, NoMemory, Text};
 
@@ -144,12 +145,14 @@ pub(crate) fn first_names(alloc: Global, head: &[u8]) -> Result<Items<Text>, NoM
 }
 
 /// What to say of the columns of a file to begin with, as `Mail (priv.)=email,#3=tel`: a guess for
-/// each column of its first row that isn't known. Empty if the row has one cell. The only `Err` is
-/// out of memory.
+/// each column of its first row that isn't known. It says that the row is a header if all columns
+/// are named by their numbers. Empty if the row has one cell. The only `Err` is out of memory.
 pub fn suggested_columns(alloc: Global, head: &[u8]) -> Result<Text, NoMemory> {
     let names = first_names(alloc, head)?;
     if names.len() < 2 {
         return Text::copy_of(alloc, "");
     }
-    Ok(Text::new(suggestion_for(alloc, names.as_slice())?))
+    let mut text = suggestion_for(alloc, names.as_slice())?;
+    push_header_entry(&mut text)?;
+    Ok(Text::new(text))
 }

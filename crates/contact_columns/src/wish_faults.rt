@@ -1,15 +1,21 @@
 //! What is wrong with what the user says of the columns of a file.
 
 use crate::columns::{column_names, columns_of};
-use crate::header::{find_header, first_row};
+use crate::header::{find_header, first_row, is_missing};
+use crate::headerless::number_names;
 use crate::suggestion::first_names;
 use crate::targets::{TARGET_WORDS, target_of};
-use crate::wishes::{Wish, chosen_wishes, entry_parts, has_column, read_wishes, types_in};
+use crate::wishes::{
+    Wish, chosen_wishes, entry_parts, has_column, read_wishes, says_header, types_in,
+};
 use std::alloc::Global;
 use vcard_text::{Items, NoMemory, Text};
 
 /// What is wrong with an entry, whatever the file is.
 fn entry_fault(alloc: Global, entry: &str) -> Result<Option<Text>, NoMemory> {
+    if says_header(entry) {
+        return Ok(None);
+    }
     let Some((column, word, params)) = entry_parts(entry) else {
         let words = format!(in alloc; "'{entry}' isn't COLUMN=PROPERTY")?;
         return Ok(Some(Text::new(words)));
@@ -43,8 +49,12 @@ fn first_fault(alloc: Global, wished: &str) -> Result<Option<Text>, NoMemory> {
     Ok(None)
 }
 
-/// The names of the columns of the header, if a row has all columns of the wishes.
+/// The names of the columns of the header, if a row has all columns of the wishes; their numbers,
+/// if the file has no header.
 fn wished_names(alloc: Global, head: &[u8], wished: &str) -> Result<Option<Items<Text>>, NoMemory> {
+    if is_missing(alloc, head, wished)? {
+        return number_names(alloc, head, wished);
+    }
     match find_header(alloc, head, wished)? {
         Some(header) => {
             let rest = head.get(header.start..).unwrap_or(&[]);

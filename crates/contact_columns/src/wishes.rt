@@ -153,6 +153,52 @@ fn is_about(alloc: Global, wish: &Wish<'_>, place: usize, name: &str) -> Result<
     is_same_name(alloc, wish.column, name)
 }
 
+/// The entry that says that the file has a header, also if all other entries are by number.
+pub(crate) const HEADER_ENTRY: &str = "header";
+
+/// Whether the entry says that the file has a header.
+pub(crate) fn says_header(entry: &str) -> bool {
+    entry.trim().eq_ignore_ascii_case(HEADER_ENTRY)
+}
+
+/// The number of the column in an entry, counted from 1, if the column is named so.
+fn entry_number(entry: &str) -> Option<u64> {
+    let (column, _) = entry.split_once('=')?;
+    match number_in(column.trim()) {
+        Some(0) => None,
+        number => number,
+    }
+}
+
+/// Whether something is said of columns, and of each by its number. Then the file may have no
+/// header (see `find_header`).
+pub fn are_numbers(wished: &str) -> bool {
+    for entry in wished.split(',') {
+        if entry_number(entry).is_none() {
+            return false;
+        }
+    }
+    true
+}
+
+/// The largest number of a column among the entries; 0 if none is named so.
+pub(crate) fn most_number(wished: &str) -> usize {
+    let mut most: u64 = 0;
+    for entry in wished.split(',') {
+        most = most.max(entry_number(entry).unwrap_or(0));
+    }
+    usize::try_from(most).unwrap_or(usize::MAX)
+}
+
+/// Adds the entry that says that there is a header, if each other one names a column by its number.
+pub(crate) fn push_header_entry(text: &mut String) -> Result<(), NoMemory> {
+    if are_numbers(text.as_str()) {
+        text.push(',')?;
+        text.push_str(HEADER_ENTRY)?;
+    }
+    Ok(())
+}
+
 /// For each column of these names the index of the first wish about it, or the number of wishes.
 pub(crate) fn chosen_wishes(
     alloc: Global,

@@ -25,6 +25,8 @@ pub struct ContactReader<R> {
     owners: Owners,
     /// The number of lines before the header.
     lines_before: u64,
+    /// The number of lines of the header that aren't the file's, since the file has none.
+    lines_made: u64,
     /// Whether the library passes the line feed at the end of a row only with the next row, as it
     /// does where rows end with CR LF.
     is_late: bool,
@@ -56,7 +58,8 @@ fn ends_late(header: &ByteRecord, line: u64) -> bool {
 }
 
 impl<R: Read + Drop> ContactReader<R> {
-    /// Reads the header of a file, with which the source begins (see `find_header`).
+    /// Reads the header of a file, with which the source begins (see `find_header`, and
+    /// `made_header` for a file that has none).
     ///
     /// An `Err` is `UnknownHeader` if `read_columns` knows no columns in the first row,
     /// `Unreadable` if the source fails, or `Memory`.
@@ -96,6 +99,7 @@ impl<R: Read + Drop> ContactReader<R> {
                     columns,
                     owners,
                     lines_before: header.lines,
+                    lines_made: if header.is_missing { 1 } else { 0 },
                     is_late,
                 })
             }
@@ -115,7 +119,8 @@ impl<R: Read + Drop> ContactReader<R> {
             .rows
             .position()
             .line()
-            .saturating_add(self.lines_before);
+            .saturating_add(self.lines_before)
+            .saturating_sub(self.lines_made);
         if self.is_late && !is_broken(&self.row) {
             line.saturating_add(1)
         } else {

@@ -16,9 +16,12 @@ use crate::row_cut::{RowKind, cut_rows, header_len};
 use crate::row_list::Origin;
 use base_types::{NoMemory, Text};
 use card_conversion::LineEnds;
-use contact_columns::{DateOrder, RowText, mapped_columns, read_date_order, rows_end_with_returns};
+use contact_columns::{
+    DateOrder, RowText, made_header, mapped_columns, read_date_order, rows_end_with_returns,
+};
 use contact_csv::{AboveLine, ContactFault, ContactReader, Header};
 use std::alloc::Global;
+use std::io::{Chain, Read};
 
 /// The header with this order of day and month.
 fn header_with(header: Header<'_>, dates: DateOrder) -> Header<'_> {
@@ -30,21 +33,23 @@ fn header_with(header: Header<'_>, dates: DateOrder) -> Header<'_> {
         width: header.width,
         dates,
         wished: header.wished,
+        is_missing: header.is_missing,
     }
 }
 
 /// What is known of the order of day and month: what is said, or else what the dates of the text
-/// show, which begins with the header.
+/// show, which begins with the header, or comes after `above`.
 fn dates_in(
     alloc: Global,
     asked: &Asked,
+    above: &[u8],
     text: &[u8],
     header: Header<'_>,
 ) -> Result<Dates, NoMemory> {
     let found = match asked.dates {
         Some(order) => Some(order),
         None => {
-            let rows = RowText::new(alloc, text, header.delimiter, header.width);
+            let rows = RowText::new(alloc, above.chain(text), header.delimiter, header.width);
             read_date_order(alloc, rows, header)?
         }
     };
@@ -96,16 +101,17 @@ struct Contacts {
     dates: Dates,
 }
 
-/// A reader of contacts, after its header, with which the text begins. `None` if there is no such
-/// header.
+/// A reader of contacts, after its header, with which the text begins, or which is `above` it.
+/// `None` if there is no such header.
 fn read_contacts<'a>(
     alloc: Global,
+    above: &'a [u8],
     text: &'a [u8],
     header: Header<'_>,
-) -> Result<Option<ContactReader<RowText<&'a [u8]>>>, NoMemory>
+) -> Result<Option<ContactReader<RowText<Chain<&'a [u8], &'a [u8]>>>>, NoMemory>
     ensures { IfOk result (λ read. IfSome read (λ contacts. IsReady contacts)) }
 {
-    let rows = RowText::new(alloc, text, header.delimiter, header.width);
+    let rows = RowText::new(alloc, above.chain(text), header.delimiter, header.width);
     match ContactReader::new(alloc, rows, header) {
         Ok(contacts) => Ok(Some(contacts)),
         Err(ContactFault::Memory) => Err(NoMemory),
@@ -125,12 +131,13 @@ fn convert_contacts_in(
     ensures { IfOk result (λ done. IfSome done (λ it.
         IsOfContacts it.converted.summary it.converted.rows)) }
 {
-    let dates = dates_in(alloc, asked, text, header)?;
+    let made = made_header(alloc, header, text)?;
+    let dates = dates_in(alloc, asked, made.as_slice(), text, header)?;
     let header = header_with(header, order_of(dates));
-    let Some(contacts) = read_contacts(alloc, text, header)? else {
+    let Some(contacts) = read_contacts(alloc, made.as_slice(), text, header)? else {
         return Ok(None);
     };
-    let columns = mapped_columns(alloc, contacts.columns())?;
+    let columns = mapped_columns(alloc, contacts.columns(), !header.is_missing)?;
     let above = lines_told(asked, &header);
     match convert_rows(alloc, above, contacts, origin, starts)? {
         Some(converted) => Ok(Some(Contacts {
@@ -182,13 +189,21 @@ struct RowsCut {
     cut: Cut,
 }
 
+/// The number of octets of the header in a text; 0 if the file has none.
+fn written_len(kind: RowKind, text: &[u8], header: Header<'_>) -> usize {
+    if header.is_missing {
+        0
+    } else {
+        header_len(kind, text.get(header.start..).unwrap_or(&[]))
+    }
+}
+
 /// The front of a text of contacts whose lines end with line feeds.
 fn cut_text(alloc: Global, text: &[u8], header: Header<'_>, more: bool) -> Result<RowsCut, NoMemory>
     ensures { IfOk result (λ rows. rows.taken ≤ length text.now) }
 {
     let kind = RowKind::Contacts(header.delimiter, header.width);
-    let from_header = text.get(header.start..).unwrap_or(&[]);
-    let end = header.start.saturating_add(header_len(kind, from_header));
+    let end = header.start.saturating_add(written_len(kind, text, header));
     let (taken, cut) = cut_rows(alloc, kind, text, end, more)?;
     Ok(RowsCut {
         header: end,

@@ -5,7 +5,7 @@ use crate::card_cut::front;
 use crate::unconverted::Unconverted;
 use base_types::NoMemory;
 use card_conversion::foreign_format;
-use contact_columns::{rows_end_with_returns, wish_fault};
+use contact_columns::{are_numbers, rows_end_with_returns, wish_fault};
 use contact_csv::{Header, find_header};
 use csv_cards::is_export;
 use import_text::{begins_with_word, is_card, split_piece};
@@ -168,7 +168,9 @@ fn contacts_in<'a>(alloc: Global, asked: &'a Asked, body: &[u8]) -> Result<Conte
     if let Some(words) = header_bound(head, columns) {
         return Ok(without_header(asked, words));
     }
-    if !columns.is_empty() && wish_fault(alloc, head, columns)?.is_some() {
+    // A later part of a file without a header may have no row with all columns that are wished.
+    let is_tried = !columns.is_empty() && (asked.line <= 1 || !are_numbers(columns));
+    if is_tried && wish_fault(alloc, head, columns)?.is_some() {
         return Ok(Content::None(NotContent::Columns));
     }
     if let Some(header) = find_header(alloc, head, columns)? {

@@ -50,9 +50,22 @@ export function wordsFor(names, text) {
   return words;
 }
 
-/** The words of all columns as the server takes them: by their numbers, whatever their names. */
-export function columnsText(words) {
-  return words.map((word, at) => (word ? `#${at + 1}=${word}` : "")).filter(Boolean).join(",");
+/** A name that the server takes as it stands. */
+const PLAIN = /^[a-z][a-z0-9 ._-]*$/i;
+
+/**
+ * The words of all columns as the server takes them: by their numbers, whatever their names, but
+ * the first that has a plain name of its own by that. If all were by number, the first row would be
+ * a person, unless it is a header that the server knows.
+ */
+export function columnsText(words, names = []) {
+  const lower = names.map((it) => it.toLowerCase());
+  const isOwn = (at) => lower.indexOf(lower[at]) === lower.lastIndexOf(lower[at]);
+  const named = words.findIndex((word, at) => word && PLAIN.test(names[at] ?? "") && isOwn(at));
+  const column = (at) => (at === named ? names[at] : `#${at + 1}`);
+  const entries = words.map((word, at) => (word ? `${column(at)}=${word}` : "")).filter(Boolean);
+  if (entries.length && named < 0) entries.push("header");
+  return entries.join(",");
 }
 
 /** The rows of a text, as far as it goes; `most` of them. Quotes as in RFC 4180. */

@@ -37,7 +37,7 @@ export class Source {
 
   /** What is said of the file to the server. */
   get said() {
-    return { columns: columnsText(this.words), dates: this.dates };
+    return { columns: columnsText(this.words, this.names), dates: this.dates };
   }
 
   /** Whether somebody has to say what comes first in dates. */

@@ -121,7 +121,7 @@ test("columns that aren't known are guessed, and shown", async () => {
   };
   const source = new Source(new File(["Kunde;Ort;Tel\nPat;Rom;123\n"], "k.csv"));
   await source.read(run({ convert }));
-  assert.deepEqual(asked.slice(0, 2), ["", "#1=fn,#3=tel"]);
+  assert.deepEqual(asked.slice(0, 2), ["", "Kunde=fn,#3=tel"]);
   assert.deepEqual(source.names, ["Kunde", "Ort", "Tel"]);
   assert.ok(source.isGuessed);
 });
@@ -137,7 +137,11 @@ test("columns by name and by number", () => {
   const words = wordsFor(["A", "b,c", "D"], "a=fn,#2=tel;type=work");
   assert.deepEqual(words, ["fn", "tel;type=work", ""]);
   assert.deepEqual(wordsFor(["A", "A"], "A=fn,A=-"), ["fn", "-"]);
-  assert.equal(columnsText(["fn", "", "-"]), "#1=fn,#3=-");
+  const names = ["Mail, alt", "Ort", "Kunde", "Tel", "tel"];
+  const said = (...words) => columnsText(words, names);
+  assert.equal(said("email", "", "fn", "tel", "-"), "#1=email,Kunde=fn,#4=tel,#5=-");
+  assert.equal(said("email", "", "", "tel", "-"), "#1=email,#4=tel,#5=-,header");
+  assert.equal(columnsText(["", ""], ["A", "B"]), "");
   assert.deepEqual(rowsOf('a,"b ""c"",\nd"\r\n\n,e', ",", 9), [["a", 'b "c",\nd'], ["", "e"]]);
   assert.equal(delimiterOf("a;b,c;d\n"), ";");
 });

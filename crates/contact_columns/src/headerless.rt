@@ -1,0 +1,176 @@
+//! Files of contacts without a header, whose columns the user names by their numbers alone.
+
+use crate::above::{lines_above, names_delimiter};
+use crate::dates::DateOrder;
+use crate::header::{Header, empty_lines, line_len};
+use crate::row_ends::rows_end_with_returns;
+use crate::wishes::most_number;
+use csv::{ByteRecord, ReaderBuilder};
+use std::alloc::Global;
+use vcard_text::{Items, NoMemory, Text};
+
+/// The rows from which the delimiter and the number of cells are known.
+const ROWS_TRIED: usize = 10;
+
+/// The most columns of a file of which no row is known that has all of them.
+const COLUMNS_MAX: usize = 1_000;
+
+/// The delimiters that are tried. A comma comes last, since it is in many names and addresses.
+const DELIMITERS: [u8; 4] = [b'\t', b'|', b';', b','];
+
+/// The form of rows: the delimiter, the number of cells, and how many of the first rows have it.
+#[derive(Clone, Copy)]
+struct Form {
+    delimiter: u8,
+    width: usize,
+    rows: usize,
+}
+
+/// The numbers of cells of the first rows, with this delimiter.
+fn first_widths(alloc: Global, octets: &[u8], delimiter: u8) -> Result<Vec<usize>, NoMemory> {
+    let mut reader = ReaderBuilder::new()
+        .has_headers(false)
+        .flexible(true)
+        .delimiter(delimiter)
+        .from_reader(alloc, octets);
+    let mut row = ByteRecord::new(alloc);
+    let mut widths = Vec::new(alloc);
+    for _row in 0..ROWS_TRIED {
+        match reader.read_byte_record(&mut row) {
+            Ok(true) => widths.push(row.len())?,
+            Ok(false) => break,
+            Err(_) => return Err(NoMemory),
+        }
+    }
+    Ok(widths)
+}
+
+/// Whether more rows have the one form, or as many have it with more cells.
+fn is_better(one: Form, other: Option<Form>) -> bool {
+    match other {
+        Some(other) => {
+            one.rows > other.rows || (one.rows == other.rows && one.width > other.width)
+        }
+        None => true,
+    }
+}
+
+/// The form that most of the first rows have, of those with at least this number of cells.
+fn form_of(alloc: Global, octets: &[u8], least: usize) -> Result<Option<Form>, NoMemory> {
+    let mut found: Option<Form> = None;
+    for delimiter in DELIMITERS {
+        let widths = first_widths(alloc, octets, delimiter)?;
+        for width in &widths {
+            let width = *width;
+            let form = Form {
+                delimiter,
+                width,
+                rows: widths.as_slice().iter().filter(|it| **it == width).count(),
+            };
+            if width >= least && is_better(form, found) {
+                found = Some(form);
+            }
+        }
+    }
+    Ok(found)
+}
+
+/// The number of octets before the first row, and the number of their lines: empty ones, and one
+/// that names the delimiter.
+fn rows_start(head: &[u8], are_returns: bool) -> (usize, u64) {
+    let (start, lines) = empty_lines(head, are_returns);
+    let rest = head.get(start..).unwrap_or(&[]);
+    if !names_delimiter(rest) {
+        return (start, lines);
+    }
+    let start = start.saturating_add(line_len(rest, are_returns));
+    let (more, empty) = empty_lines(head.get(start..).unwrap_or(&[]), are_returns);
+    let lines = lines.saturating_add(1).saturating_add(empty);
+    (start.saturating_add(more), lines)
+}
+
+/// Where the rows of a file without a header begin, and their form. `None` if it has no row, or if
+/// more columns are wished than a file has.
+pub(crate) fn find_rows<'a>(
+    alloc: Global,
+    head: &[u8],
+    wished: &'a str,
+) -> Result<Option<Header<'a>>, NoMemory> {
+    let are_returns = rows_end_with_returns(head);
+    let (start, lines) = rows_start(head, are_returns);
+    let rest = head.get(start..).unwrap_or(&[]);
+    let least = most_number(wished);
+    let (delimiter, width) = match form_of(alloc, rest, least)? {
+        Some(form) => (form.delimiter, form.width),
+        None if !rest.is_empty() && least <= COLUMNS_MAX => (b',', least),
+        None => return Ok(None),
+    };
+    let before = head.get(..start).unwrap_or(&[]);
+    Ok(Some(Header {
+        start,
+        lines,
+        above: lines_above(alloc, before, are_returns, delimiter, width)?,
+        delimiter,
+        width,
+        dates: DateOrder::Unknown,
+        wished,
+        is_missing: true,
+    }))
+}
+
+/// The names of the columns of a file without a header: `#1` and so on. `None` if none of its first
+/// rows has all columns that are wished.
+pub(crate) fn number_names(
+    alloc: Global,
+    head: &[u8],
+    wished: &str,
+) -> Result<Option<Items<Text>>, NoMemory> {
+    let (start, _) = rows_start(head, rows_end_with_returns(head));
+    let rest = head.get(start..).unwrap_or(&[]);
+    let Some(form) = form_of(alloc, rest, most_number(wished))? else {
+        return Ok(None);
+    };
+    let mut names = Items::new(alloc);
+    for place in 0..form.width {
+        names.push(number_name(alloc, place)?)?;
+    }
+    Ok(Some(names))
+}
+
+/// The name of the column at the index: its number, counted from 1.
+fn number_name(alloc: Global, place: usize) -> Result<Text, NoMemory> {
+    let number = (place as u64).saturating_add(1);
+    Ok(Text::new(format!(in alloc; "#{number}")?))
+}
+
+/// The end of the first line of the octets.
+fn first_line_end(octets: &[u8]) -> &'static [u8] {
+    if rows_end_with_returns(octets) {
+        return b"\r";
+    }
+    let feed = octets.iter().position(|octet| *octet == b'\n').unwrap_or(0);
+    if octets.get(..feed).unwrap_or(&[]).ends_with(b"\r") {
+        b"\r\n"
+    } else {
+        b"\n"
+    }
+}
+
+/// The header that is read in place of one that is missing, above the rows that begin with these
+/// octets: the numbers of the columns, as `#1,#2`, and the end that lines have. Empty if the file
+/// has a header. The only `Err` is out of memory.
+pub fn made_header(alloc: Global, header: Header<'_>, rows: &[u8]) -> Result<Vec<u8>, NoMemory> {
+    let mut made = Vec::new(alloc);
+    if !header.is_missing {
+        return Ok(made);
+    }
+    for place in 0..header.width {
+        if place > 0 {
+            made.push(header.delimiter)?;
+        }
+        let name = number_name(alloc, place)?;
+        made.extend_from_slice(name.as_str().as_bytes())?;
+    }
+    made.extend_from_slice(first_line_end(rows))?;
+    Ok(made)
+}
