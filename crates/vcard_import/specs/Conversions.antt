@@ -1,7 +1,7 @@
 -- Which card the logical lines of another program's card become, and which changes are reported.
 -- What a changed line becomes is not defined.
 use Rattle.std.specs.Prelude.{ℕ, ◌≡◌, Bool, true, false, List, [], ◌∷◌, ◌++◌, map, codes, Some, ◌⊎◌}
-use Rattle.std.specs.Prelude.{if◌then◌else◌}
+use Rattle.std.specs.Prelude.{filter, if◌then◌else◌}
 use Rattle.std.specs.List.{list_any}
 use Rattle.import_text.specs.RawLines.{raw_lines, is_encoded_as}
 use Rattle.import_text.specs.declared.raw_line.RawLine.{RawLine}
@@ -17,7 +17,7 @@ use Rattle.vcard_import.specs.DerivedUid.{derived_uid}
 use Rattle.vcard_import.specs.Ends.{without_end}
 use Rattle.vcard_import.specs.FirstUid.{first_uid}
 use Rattle.vcard_import.specs.Labels.{HaveAddresses, fits}
-use Rattle.vcard_import.specs.LeftOut.{has_left_out, may_go}
+use Rattle.vcard_import.specs.LeftOut.{has_left_out, is_left_out_at, may_go}
 use Rattle.vcard_import.specs.Folds.{folding_of}
 use Rattle.vcard_import.specs.Versions.{version_of}
 use Rattle.vcard_import.specs.declared.change.Change.{Change}
@@ -99,6 +99,10 @@ addition line = record { place = 0; kind = Added }
 -- on the version, and a byte order mark is no part of the first
 abbrev pub card_raw_lines : List ℕ → List RawLine
 card_raw_lines octets = raw_lines (folding_of octets) (without_end (without_bom octets))
+
+-- the logical lines of the octets that the changes call left out, in order
+abbrev pub left_out_lines : List ℕ → List Change → List RawLine
+left_out_lines octets changes = filter (is_left_out_at changes) (card_raw_lines octets)
 
 -- The lines are those that the logical lines of the octets become, and then the FN and the UID that
 -- they lack. The changes are those of these lines, and then one for each line that was added. For

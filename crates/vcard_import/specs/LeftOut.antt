@@ -1,7 +1,7 @@
 -- The logical lines that may have no line of their own: labels, which vCard 4.0 has as a parameter
 -- of their address (RFC 6350, section 6.3.1), and photos and the like (sections 6.2.4, 6.6.3 and
 -- 6.7.5) of a card that would be too long with them.
-use Rattle.std.specs.Prelude.{Bool, true, false, ◌||◌, List, codes}
+use Rattle.std.specs.Prelude.{Bool, true, false, ◌||◌, ◌&&◌, ◌==◌, List, codes}
 use Rattle.std.specs.List.{list_any}
 use Rattle.import_text.specs.RawLines.{is_encoded_as}
 use Rattle.import_text.specs.declared.raw_line.RawLine.{RawLine}
@@ -46,6 +46,11 @@ says_left_out Labelled = false
 -- the change says that a line is left out
 abbrev pub is_left_out : Change → Bool
 is_left_out change = says_left_out change.kind
+
+-- one of the changes says that the line at the place is left out
+abbrev pub is_left_out_at : List Change → RawLine → Bool
+is_left_out_at changes raw =
+    list_any (λ change. says_left_out change.kind && change.place == raw.place) changes
 
 -- one of the changes says so
 abbrev pub has_left_out : List Change → Bool

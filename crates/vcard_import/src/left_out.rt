@@ -1,9 +1,16 @@
 //! Lines that are left out of a card that would be too long with them.
-ghost use Rattle.std.specs.Prelude.{◌≡◌, IsTrue, true};
-ghost use Rattle.vcard_import.specs.LeftOut.{is_media};
+ghost use Rattle.std.specs.Prelude.{◌≡◌, ◌&&◌, ◌==◌, IfOk, IsTrue, true};
+ghost use Rattle.vcard_import.specs.Conversions.{left_out_lines};
+ghost use Rattle.vcard_import.specs.LeftOut.{is_left_out_at, is_media, says_left_out};
 
-use import_text::{RawLine, begins_with_word, is_encoded_as};
-use vcard_text::Line;
+use crate::change::Change;
+use crate::conversion::without_bom;
+use crate::ends::without_end;
+use crate::folds::folding_of;
+use import_text::{RawLine, begins_with_word, is_encoded_as, read_raw_lines};
+use std::alloc::Global;
+use vcard_property::ChangeKind;
+use vcard_text::{Line, NoMemory};
 
 /// Whether the head of the logical line has the name of a property with pictures or sounds.
 fn is_media(raw: &RawLine) -> bool
@@ -27,4 +34,35 @@ pub(crate) fn may_be_left_out(raw: &RawLine, line: &Line) -> bool
     ensures { IsTrue result → is_media raw.now ≡ true }
 {
     is_media(raw) && has_media(line)
+}
+
+/// Whether the change says that the line at the place is left out.
+fn says_left_out(change: &Change, place: usize) -> bool
+    ensures { result ≡ (says_left_out change.now.kind && change.now.place == place) }
+{
+    matches!(change.kind, ChangeKind::LeftOut) && change.place == place
+}
+
+/// Whether one of the changes says that the logical line is left out.
+fn is_left_out_at(changes: &[Change], raw: &RawLine) -> bool
+    ensures { result ≡ is_left_out_at changes.now raw.now }
+{
+    changes
+        .iter()
+        .any(|change| says_left_out(change, raw.place))
+}
+
+/// The logical lines of a card that the changes of its conversion call left out, in order. The only
+/// `Err` is out of memory.
+pub fn left_out_lines(
+    alloc: Global,
+    octets: &[u8],
+    changes: &[Change],
+) -> Result<Vec<RawLine>, NoMemory>
+    ensures { IfOk result (λ lines. lines.items ≡ left_out_lines octets.now changes.now) }
+{
+    let lines = without_end(without_bom(octets));
+    let mut raws = read_raw_lines(alloc, lines, folding_of(octets))?;
+    raws.retain(|raw| is_left_out_at(changes, raw));
+    Ok(raws)
 }

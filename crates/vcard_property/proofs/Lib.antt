@@ -1,3 +1,4 @@
 pub mod ProperLemmas
 pub mod SameLemmas
 pub mod ControlLemmas
+pub mod MediaLemmas

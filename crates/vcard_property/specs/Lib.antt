@@ -1,5 +1,6 @@
 pub mod Kinds
 pub mod Labels
 pub mod Lines
+pub mod Media
 pub mod SameLines
 pub mod internal

@@ -1,23 +1,23 @@
 //! Values of base64 as `data:` URIs (RFC 6350, sections 6.2.4 and 6.8.1; RFC 2397).
 ghost use Rattle.std.specs.Prelude.{◌≡◌, ◌++◌, List, ℕ, IfOk, not, filter, codes, string_bytes};
 ghost use Rattle.std.specs.Option.{option_map};
-ghost use Rattle.std.specs.Result.{result_ok};
 ghost use Rattle.std.specs.Char.{is_ascii_whitespace};
-ghost use Rattle.base64.specs.Engines.{standard, standard_pad_indifferent};
-ghost use Rattle.base64.specs.GeneralPurpose.{decode_of, encode_of};
+ghost use Rattle.base64.specs.Engines.{standard};
+ghost use Rattle.base64.specs.GeneralPurpose.{encode_of};
+ghost use Rattle.vcard_property.specs.Media.{base64_octets};
 
 use base64::DecodeAllocError;
 use base64::engine::general_purpose::{STANDARD, STANDARD_PAD_INDIFFERENT};
 use std::alloc::Global;
 use vcard_text::{NoMemory, ParamValue};
 
-/// The octets of the text that aren't white space.
-fn without_space(alloc: Global, text: &str) -> Result<Vec<u8>, NoMemory>
+/// The octets that aren't white space.
+fn without_space(alloc: Global, text: &[u8]) -> Result<Vec<u8>, NoMemory>
     ensures { IfOk result (λ octets. octets.items
         ≡ filter (λ octet. not (is_ascii_whitespace octet)) text.now) }
 {
     let mut octets = Vec::new(alloc);
-    for octet in text.as_bytes() {
+    for octet in text {
         if !octet.is_ascii_whitespace() {
             octets.push(*octet)?;
         }
@@ -25,12 +25,11 @@ fn without_space(alloc: Global, text: &str) -> Result<Vec<u8>, NoMemory>
     Ok(octets)
 }
 
-/// The octets that the text encodes in base64 (RFC 4648, section 4), with or without padding and
-/// with white space anywhere. `None` if it isn't base64. The only `Err` is out of memory.
-pub(crate) fn decoded_base64(alloc: Global, text: &str) -> Result<Option<Vec<u8>>, NoMemory>
-    ensures { IfOk result (λ decoded. option_map (λ octets. octets.items) decoded
-        ≡ result_ok (decode_of standard_pad_indifferent
-        (filter (λ octet. not (is_ascii_whitespace octet)) text.now))) }
+/// The octets that a text encodes in base64 (RFC 4648, section 4), with or without padding and with
+/// white space anywhere. `None` if it isn't base64. The only `Err` is out of memory.
+pub(crate) fn decoded_octets(alloc: Global, text: &[u8]) -> Result<Option<Vec<u8>>, NoMemory>
+    ensures { IfOk result (λ decoded.
+        option_map (λ octets. octets.items) decoded ≡ base64_octets text.now) }
 {
     let octets = without_space(alloc, text)?;
     match STANDARD_PAD_INDIFFERENT.decode(alloc, octets.as_slice()) {
@@ -38,6 +37,14 @@ pub(crate) fn decoded_base64(alloc: Global, text: &str) -> Result<Option<Vec<u8>
         Err(DecodeAllocError::DecodeError(_)) => Ok(None),
         Err(DecodeAllocError::OutOfMemory) => Err(NoMemory),
     }
+}
+
+/// The same of a text in UTF-8.
+pub(crate) fn decoded_base64(alloc: Global, text: &str) -> Result<Option<Vec<u8>>, NoMemory>
+    ensures { IfOk result (λ decoded.
+        option_map (λ octets. octets.items) decoded ≡ base64_octets text.now) }
+{
+    decoded_octets(alloc, text.as_bytes())
 }
 
 /// The media type that a value of TYPE names for a property, if it names one.

@@ -1,0 +1,14 @@
+-- The octets before the first one of a kind.
+use Rattle.std.proofs.Common.{◌≡◌, ◌==◌, ◌∷◌, [], ℕ, Bool, true, false, List, length, take, not, cond, refl, sym, ap, subst}
+use Rattle.std.proofs.lemmas.List.Sums.{take_while-cons}
+use Rattle.vcard_property.specs.Media.{before}
+
+with_octet : (octet : ℕ) (octets front : List ℕ) (b : Bool) → take (length front) octets ≡ front → take (length (cond b (octet ∷ front) [])) (octet ∷ octets) ≡ cond b (octet ∷ front) []
+with_octet octet octets front true e = ap (λ ys. octet ∷ ys) e
+with_octet octet octets front false e = refl
+
+pub take_before : (end : ℕ) (octets : List ℕ) → take (length (before end octets)) octets ≡ before end octets
+take_before end [] = refl
+take_before end (octet ∷ octets) =
+    subst (λ ys. take (length ys) (octet ∷ octets) ≡ ys) (sym (take_while-cons (λ o. not (o == end)) octet octets))
+    (with_octet octet octets (before end octets) (not (octet == end)) (take_before end octets))

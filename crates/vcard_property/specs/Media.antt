@@ -1,0 +1,38 @@
+-- The octets of the picture or the sound that a logical line has in it: base64, also in a `data:`
+-- URI (RFC 6350, sections 6.2.4, 6.6.3 and 6.7.5; RFC 2397; RFC 4648, section 4).
+use Rattle.std.specs.Prelude.{ℕ, List, ◌==◌, codes, drop, filter, length, not, take_while}
+use Rattle.std.specs.Prelude.{Option, None, if◌then◌else◌}
+use Rattle.std.specs.Char.{is_ascii_whitespace}
+use Rattle.std.specs.Result.{result_ok}
+use Rattle.base64.specs.Engines.{standard_pad_indifferent}
+use Rattle.base64.specs.GeneralPurpose.{decode_of}
+use Rattle.base_types.specs.Octets.{colon, comma}
+use Rattle.import_text.specs.RawLines.{begins_with_word, is_encoded_as}
+
+-- the octets that the text encodes in base64, with or without padding, and with white space
+-- anywhere; none if it isn't base64
+abbrev pub base64_octets : List ℕ → Option (List ℕ)
+base64_octets text = result_ok (decode_of standard_pad_indifferent
+    (filter (λ octet. not (is_ascii_whitespace octet)) text))
+
+-- the octets before the first one of a kind
+abbrev pub before : ℕ → List ℕ → List ℕ
+before end octets = take_while (λ octet. not (octet == end)) octets
+
+-- the octets after the first one of a kind; none if there is no such one
+abbrev pub after : ℕ → List ℕ → List ℕ
+after end octets = drop 1 (drop (length (before end octets)) octets)
+
+-- the octets of a `data:` URI: those of the base64 after its comma, if it says that this is base64
+abbrev pub uri_octets : List ℕ → Option (List ℕ)
+uri_octets uri = if is_encoded_as (codes "BASE64") (after colon (before comma uri))
+    then base64_octets (after comma uri) else None
+
+-- the octets of a value: of a `data:` URI, or of base64
+abbrev pub value_octets : List ℕ → Option (List ℕ)
+value_octets value =
+    if begins_with_word (codes "DATA:") value then uri_octets value else base64_octets value
+
+-- the octets of the picture or the sound in a logical line, whose value comes after the first colon
+abbrev pub media_octets : List ℕ → Option (List ℕ)
+media_octets line = value_octets (after colon line)

@@ -1,0 +1,70 @@
+//! The octets of pictures and sounds that logical lines have in them.
+ghost use Rattle.std.specs.Prelude.{◌≡◌, IfOk, length};
+ghost use Rattle.std.specs.Option.{option_map};
+ghost use Rattle.vcard_property.specs.Media.{after, before, media_octets, uri_octets, value_octets};
+
+use crate::binary::decoded_octets;
+use import_text::{begins_with_word, is_encoded_as};
+use std::alloc::Global;
+use vcard_text::NoMemory;
+
+/// The number of octets before the first one that is `end`.
+fn len_before(octets: &[u8], end: u8) -> usize
+    ensures { result ≡ length (before end octets.now) }
+{
+    octets.iter().take_while(|octet| **octet != end).count()
+}
+
+/// The octets before the first one that is `end`.
+#[tactic(auto, using(crate::proofs::MediaLemmas::take_before))]
+fn before(octets: &[u8], end: u8) -> &[u8]
+    ensures { result.now ≡ before end octets.now }
+{
+    let (front, _) = octets.split_at(len_before(octets, end));
+    front
+}
+
+/// The octets after the first one that is `end`; none if there is no such one.
+fn after(octets: &[u8], end: u8) -> &[u8]
+    ensures { result.now ≡ after end octets.now }
+{
+    let (_, rest) = octets.split_at(len_before(octets, end));
+    match rest.split_first() {
+        Some((_, more)) => more,
+        None => rest,
+    }
+}
+
+/// The octets of a `data:` URI that has base64. `None` for any other.
+fn uri_octets(alloc: Global, uri: &[u8]) -> Result<Option<Vec<u8>>, NoMemory>
+    ensures { IfOk result (λ found.
+        option_map (λ octets. octets.items) found ≡ uri_octets uri.now) }
+{
+    if is_encoded_as(after(before(uri, b','), b':'), b"BASE64") {
+        decoded_octets(alloc, after(uri, b','))
+    } else {
+        Ok(None)
+    }
+}
+
+/// The octets of a value: a `data:` URI, or base64.
+fn value_octets(alloc: Global, value: &[u8]) -> Result<Option<Vec<u8>>, NoMemory>
+    ensures { IfOk result (λ found.
+        option_map (λ octets. octets.items) found ≡ value_octets value.now) }
+{
+    if begins_with_word(value, b"DATA:") {
+        uri_octets(alloc, value)
+    } else {
+        decoded_octets(alloc, value)
+    }
+}
+
+/// The octets of the picture or the sound in a logical line: those that its value has as base64, or
+/// as a `data:` URI. `None` if it has none, as with another URI, or if its base64 can't be read.
+/// The only `Err` is out of memory.
+pub fn media_octets(alloc: Global, line: &[u8]) -> Result<Option<Vec<u8>>, NoMemory>
+    ensures { IfOk result (λ found.
+        option_map (λ octets. octets.items) found ≡ media_octets line.now) }
+{
+    value_octets(alloc, after(line, b':'))
+}
