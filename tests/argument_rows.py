@@ -260,6 +260,7 @@ NO_VALUES = [
     ("convert a.vcf --columns", no_value("--columns <COLUMNS>")),
     ("convert a.vcf --charset", no_value("--charset <CHARSET>")),
     ("convert a.vcf --report", no_value("--report <REPORT>")),
+    ("convert a.vcf --photos", no_value("--photos <PHOTOS>")),
     ("export a.db staff --form", no_value("--form <F>")),
     ("resync a.db --skip", no_value("--skip <N>")),
     ("mirror a.db staff --limit", no_value("--limit <L>")),

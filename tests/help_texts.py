@@ -404,6 +404,8 @@ first row is a person, unless it is a header that is known, or `header` is among
 windows-1250 to -1258 or -874, KOI8-R or KOI8-U
       --report <REPORT>    New file for all lines of the report, one for each line of a card that \
 was changed
+      --photos <PHOTOS>    Existing folder for the photos, logos and sounds of cards that have more \
+than 262144 bytes with them, which are carried without them
   -h, --help               Print help
 
 Example:

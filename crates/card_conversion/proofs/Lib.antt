@@ -2,6 +2,7 @@ mod AboveLemmas
 mod ExportLemmas
 mod FileLemmas
 mod LineLemmas
+mod MediaLemmas
 mod MovedLemmas
 mod PartLemmas
 mod PieceLemmas

@@ -5,6 +5,7 @@ pub mod Courses
 pub mod Deliveries
 pub mod Fates
 pub mod LineEnds
+pub mod Media
 pub mod Moved
 pub mod RowTexts
 pub mod ContactAccounts

@@ -5,6 +5,7 @@ ghost use Rattle.card_conversion.specs.Courses.{ConvertsTexts, Knows};
 use crate::card_sink::CardSink;
 use crate::course::Course;
 use crate::fault::{ConversionFault, read_fault};
+use crate::media_sink::MediaSink;
 use crate::report::RowFields;
 use crate::reporting::Report;
 use crate::run::convert_piece;
@@ -14,11 +15,12 @@ use std::alloc::Global;
 use std::io::{Read, Write};
 
 /// Converts the text of a row, piece by piece.
-fn convert_row<O: CardSink, E: Write, T: Write>(
+fn convert_row<O: CardSink, P: MediaSink, E: Write, T: Write>(
     alloc: Global,
     course: &mut Course,
     row: &ExportRow,
     sink: &mut O,
+    media: &mut P,
     report: &mut Report<E, T>,
 ) -> Result<(), ConversionFault>
     ensures { OnOk result ((uids : List (List ℕ)) → Knows course.old uids
@@ -37,7 +39,16 @@ fn convert_row<O: CardSink, E: Write, T: Write>(
         }
         let (piece, after) = split_piece(rest);
         let place = course.ledger.place;
-        let fate = convert_piece(alloc, &mut course.uids, place, piece, fields, sink, report)?;
+        let fate = convert_piece(
+            alloc,
+            &mut course.uids,
+            place,
+            piece,
+            fields,
+            sink,
+            media,
+            report,
+        )?;
         course.ledger.count(piece, &fate);
         rest = after;
     }
@@ -48,12 +59,14 @@ fn convert_row<O: CardSink, E: Write, T: Write>(
 /// is converted by itself, with the number of its own line.
 ///
 /// The same card as an earlier one is passed, and another card under the same UID gets one of its
-/// own. Cards are counted on. An `Err` is as that of `convert_file`.
-pub fn convert_more_exports<R: Read + Drop, O: CardSink, E: Write, T: Write>(
+/// own. Cards are counted on. Pictures and sounds that a card is carried without go to `media`. An
+/// `Err` is as that of `convert_file`.
+pub fn convert_more_exports<R: Read + Drop, O: CardSink, P: MediaSink, E: Write, T: Write>(
     alloc: Global,
     course: &mut Course,
     rows: ExportRows<R>,
     sink: &mut O,
+    media: &mut P,
     report: &mut Report<E, T>,
 ) -> Result<(), ConversionFault>
     ensures { OnOk result ((uids : List (List ℕ)) → Knows course.old uids
@@ -62,7 +75,7 @@ pub fn convert_more_exports<R: Read + Drop, O: CardSink, E: Write, T: Write>(
     let mut rows = rows;
     for _row in 0..u64::MAX {
         match rows.next_row(alloc) {
-            Ok(Some(row)) => convert_row(alloc, course, &row, sink, report)?,
+            Ok(Some(row)) => convert_row(alloc, course, &row, sink, media, report)?,
             Ok(None) => return Ok(()),
             Err(error) => return Err(read_fault(error)),
         }

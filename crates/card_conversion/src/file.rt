@@ -8,6 +8,7 @@ use crate::card_sink::CardSink;
 use crate::course::Course;
 use crate::fault::{ConversionFault, read_fault};
 use crate::ledger::Summary;
+use crate::media_sink::MediaSink;
 use crate::reporting::Report;
 use crate::run::{convert_cards, convert_more_cards};
 use import_text::TextReader;
@@ -37,11 +38,12 @@ pub fn convert_file<R: Read + Drop, O: CardSink, E: Write>(
 }
 
 /// The same of one more file, after others (see `convert_more_cards`).
-pub fn convert_more_file<R: Read + Drop, O: CardSink, E: Write, T: Write>(
+pub fn convert_more_file<R: Read + Drop, O: CardSink, P: MediaSink, E: Write, T: Write>(
     alloc: Global,
     course: &mut Course,
     reader: R,
     sink: &mut O,
+    media: &mut P,
     report: &mut Report<E, T>,
 ) -> Result<(), ConversionFault>
     // The pieces are those of the file's octets, or of its text in UTF-8 if it is in UTF-16.
@@ -50,7 +52,7 @@ pub fn convert_more_file<R: Read + Drop, O: CardSink, E: Write, T: Write>(
         sink.new) }
 {
     match TextReader::new(alloc, reader) {
-        Ok(text) => convert_more_cards(alloc, course, text, sink, report),
+        Ok(text) => convert_more_cards(alloc, course, text, sink, media, report),
         Err(error) => Err(read_fault(error)),
     }
 }

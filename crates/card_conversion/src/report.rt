@@ -5,6 +5,8 @@ use crate::fate::Fate;
 use crate::fault::ConversionFault;
 use crate::form_changes::FormKind;
 use crate::line_cursor::{PieceLines, find_name};
+use crate::line_names::{extension_name, is_empty_name, name_of};
+use crate::media_sink::Kept;
 use crate::parts::{Parts, lost_words};
 use crate::reporting::{Report, Weight};
 use base_types::NoMemory;
@@ -38,50 +40,15 @@ pub(crate) fn no_fields() -> RowFields<'static> {
     }
 }
 
-/// The most characters of a name in a report.
-const NAME_CHARS_MAX: usize = 60;
-
-/// What stands before the value and the parameters of a line, without its group and white space.
-fn head_of(line: &[u8]) -> &[u8] {
-    let end = line
-        .iter()
-        .position(|octet| *octet == b':' || *octet == b';')
-        .unwrap_or(line.len());
-    let head = line.get(..end).unwrap_or(line);
-    let name = match head.iter().rposition(|octet| *octet == b'.') {
-        Some(dot) => head.get(dot + 1..).unwrap_or(head),
-        None => head,
-    };
-    name.trim_ascii()
-}
-
-/// The name of a line in upper case, with a hyphen for each octet that no name may have.
-fn name_of(alloc: Global, line: &[u8]) -> Result<String, NoMemory> {
-    let mut name = String::new(alloc);
-    for octet in head_of(line).iter().take(NAME_CHARS_MAX) {
-        if octet.is_ascii_alphanumeric() {
-            name.push(char::from(octet.to_ascii_uppercase()))?;
-        } else {
-            name.push('-')?;
-        }
-    }
-    Ok(name)
-}
-
-/// The name with X- before it, unless it begins so.
-fn extension_name(alloc: Global, name: &str) -> Result<String, NoMemory> {
-    if name.starts_with("X-") {
-        return Ok(String::from_str(alloc, name)?);
-    }
-    Ok(format!(in alloc; "X-{name}")?)
-}
-
 /// A conversion that is reported: the lines of its piece and of its card from one on.
 #[derive(Clone, Copy)]
 struct Reported<'a> {
     piece: PieceLines<'a>,
     lines: &'a [Line],
     added: &'a [Line],
+    /// What became of the pictures and sounds that are left out from here on; empty if they aren't
+    /// wanted.
+    kept: &'a [Kept],
     /// Whether the card has a name.
     has_name: bool,
 }
@@ -131,17 +98,30 @@ fn added_words(alloc: Global, at: &mut Reported<'_>) -> Result<(Said, String), N
     Ok((Said::Content(Weight::Moved), words))
 }
 
-/// Whether nothing but white space follows the head of the line, whose name is FN.
-fn is_empty_name(name: &str, line: &[u8]) -> bool {
-    let end = line
-        .iter()
-        .position(|octet| *octet == b':')
-        .unwrap_or(line.len());
-    let value = line.get(end..).unwrap_or(&[]);
-    name == "FN"
-        && value
-            .iter()
-            .all(|octet| *octet == b':' || octet.is_ascii_whitespace())
+/// What a line that was left out is, and the words for it: what is written beside the card isn't
+/// lost.
+fn left_out_words(
+    alloc: Global,
+    at: &mut Reported<'_>,
+    name: &str,
+) -> Result<(Said, String), NoMemory> {
+    let Some((kept, rest)) = at.kept.split_first() else {
+        let words = format!(in alloc; "{name} left out")?;
+        return Ok((Said::Content(Weight::Lost), words));
+    };
+    at.kept = rest;
+    match kept {
+        Kept::Written(path) => {
+            let path = path.as_str();
+            let words = format!(in alloc; "{name} written to {path}")?;
+            Ok((Said::Content(Weight::Moved), words))
+        }
+        Kept::Refused(why) => {
+            let why = why.as_str();
+            let words = format!(in alloc; "{name} left out: {why}")?;
+            Ok((Said::Content(Weight::Lost), words))
+        }
+    }
 }
 
 /// What the report says of a change: a change of form, or words on one of content.
@@ -195,12 +175,7 @@ fn change_words(
                 format!(in alloc; "{name} joined to its ADR")?,
             )
         }
-        ChangeKind::LeftOut => {
-            (
-                Said::Content(Weight::Lost),
-                format!(in alloc; "{name} left out")?,
-            )
-        }
+        ChangeKind::LeftOut => left_out_words(alloc, at, name)?,
         ChangeKind::Labelled => {
             (
                 Said::Form(FormKind::Labelled),
@@ -354,6 +329,7 @@ fn report_changes<E: Write, T: Write>(
     place: Place,
     piece: &[u8],
     conversion: &Conversion,
+    kept: &[Kept],
     parts: &mut Parts,
     report: &mut Report<E, T>,
 ) -> Result<(), ConversionFault> {
@@ -363,6 +339,7 @@ fn report_changes<E: Write, T: Write>(
         piece: PieceLines::new(piece),
         lines,
         added: added_lines(conversion),
+        kept,
         has_name: lines.iter().any(is_name),
     };
     for change in changes {
@@ -376,6 +353,22 @@ fn report_changes<E: Write, T: Write>(
     tell_parts(alloc, place, parts, report)
 }
 
+/// Reports a card that was written under its own UID.
+fn report_written<E: Write, T: Write>(
+    alloc: Global,
+    place: Place,
+    piece: &[u8],
+    conversion: &Conversion,
+    fields: RowFields<'_>,
+    kept: &[Kept],
+    report: &mut Report<E, T>,
+) -> Result<(), ConversionFault> {
+    let mut parts = Parts::new(alloc);
+    let uid = conversion.card.uid();
+    report_fields(alloc, place, fields, uid, &mut parts, report)?;
+    report_changes(alloc, place, piece, conversion, kept, &mut parts, report)
+}
+
 /// Reports a card that was written under a UID of its own. So the UID that it had isn't compared
 /// with that of its row.
 fn report_moved<E: Write, T: Write>(
@@ -384,6 +377,7 @@ fn report_moved<E: Write, T: Write>(
     piece: &[u8],
     conversion: &Conversion,
     fields: RowFields<'_>,
+    kept: &[Kept],
     report: &mut Report<E, T>,
 ) -> Result<(), ConversionFault> {
     let uid = conversion.card.uid();
@@ -397,7 +391,7 @@ fn report_moved<E: Write, T: Write>(
         format!(in alloc; "line {line}: {words}")?.as_str(),
     )?;
     report_fields(alloc, place, fields, fields.uid, &mut parts, report)?;
-    report_changes(alloc, place, piece, conversion, &mut parts, report)
+    report_changes(alloc, place, piece, conversion, kept, &mut parts, report)
 }
 
 /// Reports a card that is the same as an earlier one.
@@ -446,13 +440,15 @@ fn report_other<E: Write, T: Write>(
     report.tell_all(alloc, Weight::NotCarried, text.as_str())
 }
 
-/// Reports what became of a piece at the place. `fields` are those of its row.
+/// Reports what became of a piece at the place. `fields` are those of its row, and `kept` says what
+/// became of the pictures and sounds that its card is carried without.
 pub(crate) fn report_piece<E: Write, T: Write>(
     alloc: Global,
     place: Place,
     piece: &[u8],
     fate: &Fate,
     fields: RowFields<'_>,
+    kept: &[Kept],
     report: &mut Report<E, T>,
 ) -> Result<(), ConversionFault> {
     match fate {
@@ -489,17 +485,10 @@ pub(crate) fn report_piece<E: Write, T: Write>(
         }
         Fate::Declined(_, why) => report_refused(alloc, place, why.as_str(), report),
         Fate::Written(conversion) => {
-            let mut parts = Parts::new(alloc);
-            report_fields(
-                alloc,
-                place,
-                fields,
-                conversion.card.uid(),
-                &mut parts,
-                report,
-            )?;
-            report_changes(alloc, place, piece, conversion, &mut parts, report)
+            report_written(alloc, place, piece, conversion, fields, kept, report)
         }
-        Fate::Moved(conversion) => report_moved(alloc, place, piece, conversion, fields, report),
+        Fate::Moved(conversion) => {
+            report_moved(alloc, place, piece, conversion, fields, kept, report)
+        }
     }
 }

@@ -3,6 +3,7 @@
 use crate::fault::ConversionFault;
 use crate::form_changes::{FormChanges, FormKind};
 use crate::ledger::Summary;
+use crate::media_sink::Kept;
 use base_types::{NoMemory, Text};
 use std::alloc::Global;
 use std::io;
@@ -60,6 +61,10 @@ pub struct Report<E, T> {
     forms: FormChanges,
     /// The number of cards of which a line or a cell is kept aside.
     aside: u64,
+    /// The number of pictures and sounds that were written beside their cards.
+    media: u64,
+    /// The number of those that were to be written and weren't.
+    lost_media: u64,
     first: Option<FirstLine>,
 }
 
@@ -86,6 +91,8 @@ impl<E: Write, T: Write> Report<E, T> {
             source: String::new(alloc),
             forms: FormChanges::new(alloc),
             aside: 0,
+            media: 0,
+            lost_media: 0,
             first: None,
         }
     }
@@ -176,8 +183,38 @@ impl<E: Write, T: Write> Report<E, T> {
         self.aside = self.aside.saturating_add(1);
     }
 
+    /// Counts the pictures and sounds that a card is carried without.
+    pub(crate) fn count_kept(&mut self, kept: &[Kept]) {
+        for each in kept {
+            match each {
+                Kept::Written(_) => self.media = self.media.saturating_add(1),
+                Kept::Refused(_) => self.lost_media = self.lost_media.saturating_add(1),
+            }
+        }
+    }
+
+    /// Whether a picture or a sound was to be written beside its card and wasn't.
+    pub fn has_lost_media(&self) -> bool {
+        self.lost_media > 0
+    }
+
+    /// The end of the last line: how many pictures and sounds were written, and how many weren't.
+    fn media_text(&self, alloc: Global) -> Result<String, NoMemory> {
+        let mut text = String::new(alloc);
+        let media = self.media;
+        if media > 0 {
+            text.push_str(format!(in alloc; ", {media} photos written")?.as_str())?;
+        }
+        let lost = self.lost_media;
+        if lost > 0 {
+            text.push_str(format!(in alloc; ", {lost} photos not written")?.as_str())?;
+        }
+        Ok(text)
+    }
+
     /// Writes the end: the numbers of changes of form, the line to look at first, and the numbers
-    /// of cards. `files` is the number of files that were made, if the conversion made files.
+    /// of cards and of pictures and sounds beside them. `files` is the number of files of cards or
+    /// rows that were made, if the conversion made files.
     pub fn finish(
         &mut self,
         alloc: Global,
@@ -188,7 +225,9 @@ impl<E: Write, T: Write> Report<E, T> {
         self.say(forms.as_str())?;
         let first = self.first_text(alloc)?;
         self.say(first.as_str())?;
-        let numbers = summary_text(alloc, summary, self.aside, files)?;
+        let mut numbers = summary_text(alloc, summary, self.aside, files)?;
+        numbers.push_str(self.media_text(alloc)?.as_str())?;
+        numbers.push('\n')?;
         self.say(numbers.as_str())
     }
 
@@ -204,7 +243,7 @@ impl<E: Write, T: Write> Report<E, T> {
     }
 }
 
-/// The last line of the report.
+/// The front of the last line of the report.
 fn summary_text(
     alloc: Global,
     summary: Summary,
@@ -222,8 +261,8 @@ fn summary_text(
     )?;
     let numbers = numbers.as_str();
     match files {
-        Some(files) => Ok(format!(in alloc; "{numbers}, {files} files made\n")?),
-        None => Ok(format!(in alloc; "{numbers}\n")?),
+        Some(files) => Ok(format!(in alloc; "{numbers}, {files} files made")?),
+        None => Ok(String::from_str(alloc, numbers)?),
     }
 }
 

@@ -2,6 +2,7 @@
 ghost use Rattle.std.specs.Prelude.{ℕ, List, IfOk, OnOk};
 ghost use Rattle.card_conversion.specs.Accounts.{ConvertsAll};
 ghost use Rattle.card_conversion.specs.Courses.{ConvertsPieces, Knows};
+ghost use Rattle.card_conversion.specs.Media.{KeepsSome, media_of_fate};
 ghost use Rattle.card_conversion.specs.internal.States.{TakesPiece};
 
 use crate::card_sink::CardSink;
@@ -9,6 +10,8 @@ use crate::course::Course;
 use crate::fate::Fate;
 use crate::fault::ConversionFault;
 use crate::ledger::Summary;
+use crate::left_out::keep_media;
+use crate::media_sink::{MediaSink, NoMedia};
 use crate::piece_reader::PieceReader;
 use crate::pieces::take_piece;
 use crate::report::{Place, RowFields, no_fields, report_piece};
@@ -17,21 +20,48 @@ use base_types::TextMap;
 use std::alloc::Global;
 use std::io::{Read, Write};
 
+/// Gives the pictures and sounds to their sink that the card of a piece is carried without, and
+/// reports what became of the piece. `fields` are those of its row.
+fn tell_piece<P: MediaSink, E: Write, T: Write>(
+    alloc: Global,
+    place: Place,
+    piece: &[u8],
+    fate: &Fate,
+    fields: RowFields<'_>,
+    media: &mut P,
+    report: &mut Report<E, T>,
+) -> Result<(), ConversionFault>
+    ensures { OnOk result
+        (KeepsSome P.takes (media_of_fate piece.now fate.now) media.old media.new) }
+{
+    let kept = keep_media(alloc, place.card, piece, fate, media)?;
+    report.count_kept(kept.as_slice());
+    report_piece(alloc, place, piece, fate, fields, kept.as_slice(), report)
+}
+
 /// Converts a piece if it is a card, writes the card to the sink, and reports what became of it.
-/// `fields` are those of its row.
-pub(crate) fn convert_piece<O: CardSink, E: Write, T: Write>(
+/// `fields` are those of its row. Pictures and sounds that the card is carried without go to
+/// `media`.
+pub(crate) fn convert_piece<O: CardSink, P: MediaSink, E: Write, T: Write>(
     alloc: Global,
     uids: &mut TextMap<()>,
     place: Place,
     piece: &[u8],
     fields: RowFields<'_>,
     sink: &mut O,
+    media: &mut P,
     report: &mut Report<E, T>,
 ) -> Result<Fate, ConversionFault>
-    ensures { IfOk result (TakesPiece O.writes piece.now uids.old uids.new sink.old sink.new) }
+    ensures taken { IfOk result
+        (TakesPiece O.writes piece.now uids.old uids.new sink.old sink.new) }
+
+    // Of the pictures and sounds that the written card is carried without, some were written, as
+    // they stand in its lines, in order and each at most once. Nothing else was.
+    ensures kept { IfOk result (λ fate.
+        KeepsSome P.takes (media_of_fate piece.now fate) media.old media.new) }
 {
     let fate = take_piece(alloc, uids, place.card, piece, sink)?;
-    match report_piece(alloc, place, piece, &fate, fields, report) {
+    match tell_piece(alloc, place, piece, &fate, fields, media, report) {
         Ok(()) => Ok(fate),
         Err(fault) => {
             drop(fate);
@@ -44,12 +74,14 @@ pub(crate) fn convert_piece<O: CardSink, E: Write, T: Write>(
 /// of a card, each card that can't be carried and each text that is no card.
 ///
 /// The same card as one of an earlier file is passed, and another card under the same UID gets one
-/// of its own. Cards are counted on. An `Err` is as that of `convert_file`.
-pub fn convert_more_cards<R: Read + Drop, O: CardSink, E: Write, T: Write>(
+/// of its own. Cards are counted on. Pictures and sounds that a card is carried without go to
+/// `media`. An `Err` is as that of `convert_file`.
+pub fn convert_more_cards<R: Read + Drop, O: CardSink, P: MediaSink, E: Write, T: Write>(
     alloc: Global,
     course: &mut Course,
     reader: R,
     sink: &mut O,
+    media: &mut P,
     report: &mut Report<E, T>,
 ) -> Result<(), ConversionFault>
     ensures { OnOk result ((uids : List (List ℕ)) → Knows course.old uids → ConvertsPieces O.writes
@@ -70,6 +102,7 @@ pub fn convert_more_cards<R: Read + Drop, O: CardSink, E: Write, T: Write>(
             piece,
             no_fields(),
             sink,
+            media,
             report,
         )?;
         course.ledger.count(piece, &fate);
@@ -91,8 +124,9 @@ pub fn convert_cards<R: Read + Drop, O: CardSink, E: Write>(
         ConvertsAll O.writes (R.remaining reader) sink.old sink.new summary) }
 {
     let mut course = Course::new(alloc);
+    let mut media = NoMedia;
     let mut report: Report<&mut E, Vec<u8>> = Report::new(alloc, errors);
-    convert_more_cards(alloc, &mut course, reader, sink, &mut report)?;
+    convert_more_cards(alloc, &mut course, reader, sink, &mut media, &mut report)?;
     let summary = course.summary();
     report.finish(alloc, summary, None)?;
     Ok(summary)

@@ -188,7 +188,7 @@ convert_order_of rows = with_file (λ file. Some (Convert file (later_texts (cod
     (u64_arg (codes "ROWS") rows) (u64_arg (codes "OCTETS") rows)
     (is_given (codes "day-first") rows) (is_given (codes "month-first") rows)
     (text_arg (codes "COLUMNS") rows) (text_arg (codes "CHARSET") rows)
-    (text_arg (codes "REPORT") rows))) rows
+    (text_arg (codes "REPORT") rows) (text_arg (codes "PHOTOS") rows))) rows
 
 -- the day and the month don't both come first
 abbrev pub convert_order : List Row → Option Order

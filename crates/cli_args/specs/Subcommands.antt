@@ -184,7 +184,8 @@ convert_command = order_command (codes "convert")
     ∷ switch (codes "month-first") (codes "month-first")
     ∷ free_option (codes "COLUMNS") (codes "columns")
     ∷ free_option (codes "CHARSET") (codes "charset")
-    ∷ free_option (codes "REPORT") (codes "report") ∷ [])
+    ∷ free_option (codes "REPORT") (codes "report")
+    ∷ free_option (codes "PHOTOS") (codes "photos") ∷ [])
 
 abbrev pub books_command : Shape
 books_command = order_command (codes "books") (file_arg ∷ [])

@@ -43,23 +43,23 @@ WorkedFiles =
 abbrev pub WorkedConversions : Type 0
 WorkedConversions =
     (order_from (codes "convert" ∷ codes "a.vcf" ∷ [])
-    ≡ Some (order.Convert (codes "a.vcf") [] None None None false false None None None))
+    ≡ Some (order.Convert (codes "a.vcf") [] None None None false false None None None None))
     × (order_from (codes "convert" ∷ codes "a.vcf" ∷ codes "--to=b" ∷ codes "--rows=10000"
     ∷ codes "--octets" ∷ codes "8388608" ∷ [])
     ≡ Some (order.Convert (codes "a.vcf") [] (Some (codes "b")) (Some 10000) (Some 8388608) false
-    false None None None))
+    false None None None None))
     × (order_from (codes "convert" ∷ codes "a.csv" ∷ codes "--day-first" ∷ codes "--columns=N=fn"
     ∷ codes "--charset=koi8-r" ∷ codes "--report" ∷ codes "r" ∷ [])
     ≡ Some (order.Convert (codes "a.csv") [] None None None true false (Some (codes "N=fn"))
-    (Some (codes "koi8-r")) (Some (codes "r"))))
+    (Some (codes "koi8-r")) (Some (codes "r")) None))
     × (order_from (codes "convert" ∷ codes "a.csv" ∷ codes "--month-first" ∷ [])
-    ≡ Some (order.Convert (codes "a.csv") [] None None None false true None None None))
+    ≡ Some (order.Convert (codes "a.csv") [] None None None false true None None None None))
     × (order_from (codes "convert" ∷ codes "a.csv" ∷ codes "--day-first" ∷ codes "--month-first"
     ∷ []) ≡ None)
     × (order_from (codes "convert" ∷ codes "a.vcf" ∷ codes "--report=r" ∷ codes "b.csv"
-    ∷ codes "c.vcf" ∷ [])
+    ∷ codes "--photos" ∷ codes "p" ∷ codes "c.vcf" ∷ [])
     ≡ Some (order.Convert (codes "a.vcf") (codes "b.csv" ∷ codes "c.vcf" ∷ []) None None None false
-    false None None (Some (codes "r"))))
+    false None None (Some (codes "r")) (Some (codes "p"))))
     × (order_from (codes "convert" ∷ codes "a.vcf" ∷ codes "--rows=10001" ∷ []) ≡ None)
     × (order_from (codes "convert" ∷ codes "a.vcf" ∷ codes "--octets=0" ∷ []) ≡ None)
     × (order_from (codes "convert" ∷ codes "a.vcf" ∷ codes "--octets=8388609" ∷ []) ≡ None)

@@ -119,6 +119,18 @@ fn report_option<'a>(alloc: Global) -> Arg<'a>
     )
 }
 
+fn photos_option<'a>(alloc: Global) -> Arg<'a>
+    ensures { IsArgument (lines.free_option (codes "PHOTOS") (codes "photos")) result }
+{
+    free_option(
+        alloc,
+        "PHOTOS",
+        "photos",
+        "Existing folder for the photos, logos and sounds of cards that have more than 262144 \
+         bytes with them, which are carried without them",
+    )
+}
+
 pub(crate) fn convert_command<'a>(alloc: Global) -> Result<Command<'a>, AllocError>
     ensures { IfOk result (IsOrderCommand lines.convert_command) }
 {
@@ -145,6 +157,7 @@ pub(crate) fn convert_command<'a>(alloc: Global) -> Result<Command<'a>, AllocErr
                 columns_option(alloc),
                 charset_option(alloc),
                 report_option(alloc),
+                photos_option(alloc),
             ],
         )?,
     )

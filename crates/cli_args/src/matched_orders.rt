@@ -165,6 +165,7 @@ fn convert_order_of(alloc: Global, matches: &ArgMatches<'_>) -> Result<Order, Li
     let columns = given_text(alloc, matches, "COLUMNS")?;
     let charset = given_text(alloc, matches, "CHARSET")?;
     let report = given_text(alloc, matches, "REPORT")?;
+    let photos = given_text(alloc, matches, "PHOTOS")?;
     Ok(Order::Convert {
         file,
         more,
@@ -176,6 +177,7 @@ fn convert_order_of(alloc: Global, matches: &ArgMatches<'_>) -> Result<Order, Li
         columns,
         charset,
         report,
+        photos,
     })
 }
 

@@ -176,6 +176,8 @@ pub enum Order {
         charset: Option<Text>,
         /// The path of a new file for the report, if it was given.
         report: Option<Text>,
+        /// The folder for photos that cards are carried without, if it was given.
+        photos: Option<Text>,
     },
     /// List the books.
     Books {

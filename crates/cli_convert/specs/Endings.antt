@@ -1,5 +1,5 @@
 -- How the order `convert` ends, and what it writes to standard output.
-use Rattle.std.specs.Prelude.{ℕ, ◌≡◌, ◌||◌, ◌==◌, Bool, not, List, [], length}
+use Rattle.std.specs.Prelude.{ℕ, ◌≡◌, ◌⊎◌, ◌||◌, ◌==◌, Bool, true, false, not, List, [], length}
 use Rattle.std.specs.Prelude.{Option, is_some, if◌then◌else◌}
 use Rattle.vcard_lines.specs.declared.line.Line.{Line}
 use Rattle.card_conversion.specs.Accounts.{WritesRows}
@@ -11,6 +11,12 @@ use Rattle.cli_convert.specs.declared.options.ConvertOptions.{ConvertOptions}
 -- the exit status of a conversion: 0 if all was carried, and 1 if something wasn't
 abbrev pub status_of : Summary → ℕ
 status_of summary = if summary.refused == 0 then 0 else 1
+
+-- The exit status of a conversion that didn't stop. If photos are to be written beside their cards,
+-- it may also be 1 for a photo that wasn't.
+abbrev pub HasStatus : Bool → Summary → ℕ → Type 0
+HasStatus false summary status = status ≡ status_of summary
+HasStatus true summary status = (status ≡ status_of summary) ⊎ (status ≡ 1)
 
 -- rows go to standard output: no folder and no bound is given
 abbrev pub prints_rows : ConvertOptions → Bool
@@ -38,7 +44,7 @@ pub record Prints (count : ℕ) (before after : Option (List ℕ)) (summary : Su
   pub rows : WritesRows (cards_of_all parts) before after
 
 -- A conversion of this number of files to standard output ended with the status that its summary
--- gives.
-abbrev pub EndsConversion : ℕ → Option (List ℕ) → Option (List ℕ) → ℕ → Type 0
-EndsConversion count before after status =
-    (summary : Summary) × Prints count before after summary × (status ≡ status_of summary)
+-- gives; where photos are to be written, also with 1.
+abbrev pub EndsConversion : Bool → ℕ → Option (List ℕ) → Option (List ℕ) → ℕ → Type 0
+EndsConversion photos count before after status =
+    (summary : Summary) × Prints count before after summary × HasStatus photos summary status

@@ -1,9 +1,12 @@
 -- The names of the files that are written.
-use Rattle.std.specs.Prelude.{ℕ, ◌||◌, ◌&&◌, ◌==◌, Bool, not, List, length, nat_le, nat_lt}
-use Rattle.std.specs.Prelude.{slice_index_or, ◌++◌, codes, decimal, drop, nat_eq, if◌then◌else◌}
+use Rattle.std.specs.Prelude.{ℕ, ◌||◌, ◌&&◌, ◌==◌, Bool, not, List, [], ◌∷◌, length, nat_le}
+use Rattle.std.specs.Prelude.{nat_lt, slice_index_or, ◌++◌, codes, decimal, drop, nat_eq, if◌then◌else◌}
 use Rattle.std.specs.Char.{is_ascii_alphanumeric}
 use Rattle.std.specs.List.{list_all, starts_with, ends_with}
 use Rattle.base_types.specs.Octets.{dot, hyphen, underscore}
+use Rattle.card_conversion.specs.declared.media_sink.MediaKind.{MediaKind}
+use Rattle.card_conversion.specs.declared.media_sink.MediaKind.TheVariants.{Photo, Logo, Sound}
+use Rattle.card_conversion.specs.declared.media_sink.MediaOwner.{MediaOwner}
 
 -- A-Z, a-z, 0-9, a hyphen, an underscore or a full stop
 abbrev pub is_name_octet : ℕ → Bool
@@ -28,3 +31,33 @@ bare_uid uid = if starts_with nat_eq uid (codes "urn:uuid:") then drop 9 uid els
 abbrev pub card_name : ℕ → List ℕ → List ℕ
 card_name number uid = if is_safe_name (bare_uid uid) then bare_uid uid ++ codes ".vcf"
     else codes "card-" ++ decimal number ++ codes ".vcf"
+
+-- ---- pictures and sounds that are written beside a card
+
+-- the front of the names: the UID if it is safe, and else `card-` and the number
+abbrev pub card_front : ℕ → List ℕ → List ℕ
+card_front number uid =
+    if is_safe_name (bare_uid uid) then bare_uid uid else codes "card-" ++ decimal number
+
+abbrev pub kind_word : MediaKind → List ℕ
+kind_word Photo = codes "-photo"
+kind_word Logo = codes "-logo"
+kind_word Sound = codes "-sound"
+
+-- the ending by the first octets: those of JPEG, PNG and GIF, whose fields are 255 216 255, 137 PNG
+-- and GIF8
+abbrev pub ending_of : List ℕ → List ℕ
+ending_of octets =
+    if starts_with nat_eq octets (255 ∷ 216 ∷ 255 ∷ []) then codes ".jpg"
+    else (if starts_with nat_eq octets (137 ∷ codes "PNG") then codes ".png"
+    else (if starts_with nat_eq octets (codes "GIF8") then codes ".gif"
+    else codes ".bin"))
+
+-- a hyphen and the number before the ending, from the second one of a kind on
+abbrev pub numbered : ℕ → List ℕ → List ℕ
+numbered which ending = if nat_lt 1 which then codes "-" ++ decimal which ++ ending else ending
+
+-- the name of the file of a picture or a sound with these octets
+abbrev pub media_name : MediaOwner → List ℕ → List ℕ
+media_name owner octets = card_front owner.number owner.uid.now ++ kind_word owner.kind
+    ++ numbered owner.which (ending_of octets)

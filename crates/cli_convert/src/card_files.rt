@@ -1,11 +1,10 @@
 //! A sink that writes a file for each card into a folder.
 
-use crate::create::{Created, create_new, write_to};
+use crate::create::write_new;
 use crate::names::card_path;
 use base_types::Text;
 use card_conversion::{CardSink, Delivery, SinkFault};
 use std::alloc::Global;
-use std::fs;
 use std::fs::Files;
 use vcard_text::{Card, write_card};
 
@@ -25,19 +24,10 @@ impl<'a, F: Files> CardSink for CardFiles<'a, F> {
         let text = write_card(alloc, card)?;
         let path = card_path(alloc, self.folder, number, card.uid())?;
         let path = path.as_str();
-        match create_new(alloc, self.files, path)? {
-            Created::File(mut file) => {
-                if let Err(fault) = write_to(alloc, &mut file, path, text.as_slice()) {
-                    // No part of a card stays, if the system lets it be removed.
-                    let _removed = fs::remove_file(self.files, path);
-                    return Err(fault);
-                }
-                Ok(Delivery::Written)
-            }
-            Created::Exists => {
-                let words = format!(in alloc; "the file {path} exists")?;
-                Ok(Delivery::Refused(Text::new(words)))
-            }
+        if write_new(alloc, self.files, path, text.as_slice())? {
+            return Ok(Delivery::Written);
         }
+        let words = format!(in alloc; "the file {path} exists")?;
+        Ok(Delivery::Refused(Text::new(words)))
     }
 }

@@ -3,6 +3,7 @@
 use base_types::{NoMemory, Text};
 use card_conversion::SinkFault;
 use std::alloc::Global;
+use std::fs;
 use std::fs::{File, Files};
 use std::io::{ErrorKind, Write};
 
@@ -44,5 +45,25 @@ pub(crate) fn write_to<W: Write>(
     match file.write_all(octets) {
         Ok(()) => Ok(()),
         Err(_) => Err(unwritten(alloc, path)?),
+    }
+}
+
+/// Writes octets to a new file. `false` if there is a file or a folder of that name.
+pub(crate) fn write_new<F: Files>(
+    alloc: Global,
+    files: &F,
+    path: &str,
+    octets: &[u8],
+) -> Result<bool, SinkFault> {
+    match create_new(alloc, files, path)? {
+        Created::File(mut file) => {
+            if let Err(fault) = write_to(alloc, &mut file, path, octets) {
+                // No part of it stays, if the system lets it be removed.
+                let _removed = fs::remove_file(files, path);
+                return Err(fault);
+            }
+            Ok(true)
+        }
+        Created::Exists => Ok(false),
     }
 }

@@ -1,6 +1,6 @@
 //! How the order ends.
-ghost use Rattle.std.specs.Prelude.{◌≡◌, MatchResult};
-ghost use Rattle.cli_convert.specs.Endings.{status_of};
+ghost use Rattle.std.specs.Prelude.{◌≡◌, ◌⊎◌, MatchResult};
+ghost use Rattle.cli_convert.specs.Endings.{HasStatus};
 
 use base_types::{NoMemory, Text};
 use card_conversion::{ConversionFault, Summary};
@@ -155,12 +155,21 @@ fn report_stop<E: Write>(alloc: Global, stop: &ConvertStop, errors: &mut E) {
 }
 
 /// Reports a stop, and returns the exit status: 0 if all was carried, 1 if something wasn't, and 3
-/// for a stop.
-pub(crate) fn end<E: Write>(alloc: Global, done: Result<Summary, ConvertStop>, errors: &mut E) -> u8
-    ensures { MatchResult done (λ summary. result ≡ status_of summary) (λ _. result ≡ 3) }
+/// for a stop. `photos` says that photos are to be written beside their cards, and `lost` that one
+/// of them wasn't.
+pub(crate) fn end<E: Write>(
+    alloc: Global,
+    done: Result<Summary, ConvertStop>,
+    photos: bool,
+    lost: bool,
+    errors: &mut E,
+) -> u8
+    ensures status { (result ≡ 0) ⊎ ((result ≡ 1) ⊎ (result ≡ 3)) }
+    ensures ended { MatchResult done (λ summary. HasStatus photos summary result)
+        (λ _. result ≡ 3) }
 {
     match done {
-        Ok(summary) if summary.refused == 0 => 0,
+        Ok(summary) if summary.refused == 0 && !(photos && lost) => 0,
         Ok(_) => 1,
         Err(stop) => {
             report_stop(alloc, &stop, errors);

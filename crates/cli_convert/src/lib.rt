@@ -6,6 +6,7 @@ mod charset_reader;
 mod content;
 mod create;
 mod exit;
+mod media_files;
 mod names;
 mod opening;
 mod options;

@@ -2,9 +2,10 @@
 ghost use Rattle.std.specs.Prelude.{◌≡◌, IfOk, codes, nat_eq};
 ghost use Rattle.std.specs.List.{ends_with, list_all};
 ghost use Rattle.cli_convert.specs.Names.{bare_uid, card_name, is_name_octet, is_safe_name};
-ghost use Rattle.cli_convert.specs.Names.{path_in};
+ghost use Rattle.cli_convert.specs.Names.{card_front, ending_of, kind_word, media_name, path_in};
 
 use base_types::{NoMemory, Text};
+use card_conversion::{MediaKind, MediaOwner};
 use std::alloc::Global;
 
 /// The most octets of a UID that names a file.
@@ -85,6 +86,75 @@ pub(crate) fn card_path(
     ensures { IfOk result (λ path. path ≡ path_in folder.now (card_name number uid.now)) }
 {
     let name = card_name(alloc, number, uid)?;
+    path_in(alloc, folder, name.as_str())
+}
+
+/// What stands after the front of the name for a picture or a sound.
+fn kind_word(kind: MediaKind) -> &'static str
+    ensures { result.now ≡ kind_word kind }
+{
+    match kind {
+        MediaKind::Photo => "-photo",
+        MediaKind::Logo => "-logo",
+        MediaKind::Sound => "-sound",
+    }
+}
+
+/// The ending of a name, by the first octets of what the file has.
+fn ending_of(octets: &[u8]) -> &'static str
+    ensures { result.now ≡ ending_of octets.now }
+{
+    if octets.starts_with(b"\xFF\xD8\xFF") {
+        ".jpg"
+    } else if octets.starts_with(b"\x89PNG") {
+        ".png"
+    } else if octets.starts_with(b"GIF8") {
+        ".gif"
+    } else {
+        ".bin"
+    }
+}
+
+/// The front of the name of a picture or a sound: the card's UID where that is the name of a file,
+/// and otherwise its number. The only `Err` is out of memory.
+fn card_front(alloc: Global, number: u64, uid: &str) -> Result<Text, NoMemory>
+    ensures { IfOk result (λ front. front ≡ card_front number uid.now) }
+{
+    let uid = bare_uid(uid);
+    if is_safe_name(uid) {
+        Text::copy_of(alloc, uid)
+    } else {
+        Ok(Text::new(format!(in alloc; "card-{number}")?))
+    }
+}
+
+/// The name of the file of a picture or a sound. The second one of a kind and those after it have
+/// their number. The only `Err` is out of memory.
+fn media_name(alloc: Global, owner: MediaOwner<'_>, octets: &[u8]) -> Result<Text, NoMemory>
+    ensures { IfOk result (λ name. name ≡ media_name owner.entry octets.now) }
+{
+    let front = card_front(alloc, owner.number, owner.uid)?;
+    let front = front.as_str();
+    let word = kind_word(owner.kind);
+    let ending = ending_of(octets);
+    let which = owner.which;
+    if which > 1 {
+        Ok(Text::new(format!(in alloc; "{front}{word}-{which}{ending}")?))
+    } else {
+        Ok(Text::new(format!(in alloc; "{front}{word}{ending}")?))
+    }
+}
+
+/// The path of the file of a picture or a sound in a folder.
+pub(crate) fn media_path(
+    alloc: Global,
+    folder: &str,
+    owner: MediaOwner<'_>,
+    octets: &[u8],
+) -> Result<Text, NoMemory>
+    ensures { IfOk result (λ path. path ≡ path_in folder.now (media_name owner.entry octets.now)) }
+{
+    let name = media_name(alloc, owner, octets)?;
     path_in(alloc, folder, name.as_str())
 }
 

@@ -25,6 +25,8 @@ pub struct ConvertOptions<'a> {
     pub charset: Option<&'a str>,
     /// The path of a new file for the report, if it was given.
     pub report: Option<&'a str>,
+    /// The folder for pictures and sounds that cards are carried without, if it was given.
+    pub photos: Option<&'a str>,
 }
 
 impl<'a> ConvertOptions<'a> {
@@ -40,6 +42,7 @@ impl<'a> ConvertOptions<'a> {
             columns: self.columns,
             charset: self.charset,
             report: self.report,
+            photos: self.photos,
         }
     }
 

@@ -1,5 +1,5 @@
 //! Runs the order.
-ghost use Rattle.std.specs.Prelude.{◌≡◌, ◌⊎◌, ◌+◌, ◌<◌, IfOk, IsTrue, length};
+ghost use Rattle.std.specs.Prelude.{◌≡◌, ◌⊎◌, ◌+◌, ◌<◌, IfOk, IsTrue, is_some, length};
 ghost use Rattle.cli_convert.specs.Endings.{EndsConversion, Prints, prints_rows};
 
 use crate::card_files::CardFiles;
@@ -223,6 +223,7 @@ fn convert<F: Files, W: Write, E: Write>(
     let encoding = wanted_encoding(alloc, wanted)?;
     let (front, file) = open_file(alloc, files, wanted.file)?;
     check_folder(alloc, files, wanted.folder)?;
+    check_folder(alloc, files, wanted.photos)?;
     let text = text_after(alloc, wanted.file, encoding, front.as_slice(), file)?;
     convert_text(alloc, files, wanted, text, rows, report)
 }
@@ -232,9 +233,10 @@ fn convert<F: Files, W: Write, E: Write>(
 /// file if one is wanted. Nothing is written before each file was opened, and it is known what it
 /// has.
 ///
-/// Returns the exit status of the program: 0 if all was carried, 1 if something wasn't, and 3 if
-/// the conversion stopped: a file, a folder, standard output or standard error can't be used, or
-/// there is no memory. Of files, a folder and standard error this is only tested.
+/// Returns the exit status of the program: 0 if all was carried, 1 if something wasn't, or a photo
+/// that was to be written beside its card, and 3 if the conversion stopped: a file, a folder,
+/// standard output or standard error can't be used, or there is no memory. Of files, a folder and
+/// standard error this is only tested.
 pub fn run_convert<F: Files, W: Write, E: Write + Drop>(
     alloc: Global,
     files: &F,
@@ -247,12 +249,14 @@ pub fn run_convert<F: Files, W: Write, E: Write + Drop>(
     // A conversion to standard output that didn't stop wrote one header, and a row for each card
     // that was carried, of as many files as are given. They are read back as these cards, of which
     // no two have one UID. The status is that of the summary, which counts what was carried and
-    // what wasn't.
+    // what wasn't; where photos are to be written beside their cards, it may be 1 for one that
+    // wasn't.
     ensures printed { result < 3 → IsTrue (prints_rows wanted.entry)
-        → EndsConversion (length wanted.entry.more.now + 1) (W.contents rows.old.writer)
-        (W.contents rows.new.writer) result }
+        → EndsConversion (is_some wanted.entry.photos) (length wanted.entry.more.now + 1)
+        (W.contents rows.old.writer) (W.contents rows.new.writer) result }
 {
     let mut report: Report<E, F::File> = Report::new(alloc, errors);
     let done = convert(alloc, files, wanted, rows, &mut report);
-    end(alloc, done, &mut report)
+    let lost = report.has_lost_media();
+    end(alloc, done, wanted.photos.is_some(), lost, &mut report)
 }

@@ -5,6 +5,7 @@ ghost use Rattle.cli_convert.specs.Endings.{Converts};
 
 use crate::content::Content;
 use crate::exit::{ConvertStop, no_second_reading, stop_of};
+use crate::media_files::MediaFiles;
 use crate::opening::{is_file, open_file, read_content, text_after, wanted_encoding, with_dates};
 use crate::options::ConvertOptions;
 use crate::sources::convert_to;
@@ -95,6 +96,7 @@ pub(crate) fn check_more<F: Files>(
 /// several files.
 fn convert_content<F: Files, R: Read + Drop, O: CardSink, E: Write>(
     alloc: Global,
+    files: &F,
     course: &mut Course,
     wanted: ConvertOptions<'_>,
     content: Content<'_>,
@@ -108,7 +110,11 @@ fn convert_content<F: Files, R: Read + Drop, O: CardSink, E: Write>(
     if !wanted.more.is_empty() {
         report.set_source(alloc, wanted.file)?;
     }
-    match convert_to(alloc, course, content, text, sink, report) {
+    let mut media = MediaFiles {
+        files,
+        folder: wanted.photos,
+    };
+    match convert_to(alloc, course, content, text, sink, &mut media, report) {
         Ok(()) => Ok(()),
         Err(fault) => Err(stop_of(alloc, fault, wanted.file)),
     }
@@ -133,7 +139,7 @@ fn convert_next<F: Files, O: CardSink, E: Write>(
     let content = with_dates(alloc, files, wanted, content)?;
     let above = text_above(alloc, content, head.as_slice())?;
     let text = content_text(above.as_slice(), head.as_slice(), content, reader);
-    convert_content::<F, _, O, E>(alloc, course, wanted, content, text, sink, report)
+    convert_content::<F, _, O, E>(alloc, files, course, wanted, content, text, sink, report)
 }
 
 /// Converts the text of the first file, and then all files after it.
@@ -150,7 +156,16 @@ pub(crate) fn convert_all<F: Files, R: Read + Drop, O: CardSink, E: Write>(
         sink.old sink.new summary) }
 {
     let mut course = Course::new(alloc);
-    convert_content::<F, R, O, E>(alloc, &mut course, wanted, content, text, sink, report)?;
+    convert_content::<F, R, O, E>(
+        alloc,
+        files,
+        &mut course,
+        wanted,
+        content,
+        text,
+        sink,
+        report,
+    )?;
     for file in wanted.more {
         let next = wanted.of_file(file.as_str());
         convert_next(alloc, files, &mut course, next, sink, report)?;

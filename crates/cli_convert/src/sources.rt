@@ -5,8 +5,8 @@ ghost use Rattle.contact_csv.specs.Contacts.{IsReady};
 
 use crate::content::Content;
 use card_conversion::{
-    CardSink, ConversionFault, Course, Report, convert_contacts_under, convert_more_exports,
-    convert_more_file,
+    CardSink, ConversionFault, Course, MediaSink, Report, convert_contacts_under,
+    convert_more_exports, convert_more_file,
 };
 use contact_columns::RowText;
 use contact_csv::{ContactFault, ContactReader, Header};
@@ -30,13 +30,15 @@ fn read_contacts<R: Read + Drop>(
     }
 }
 
-/// Converts what one more file has to a sink.
-pub(crate) fn convert_to<R: Read + Drop, O: CardSink, E: Write, T: Write>(
+/// Converts what one more file has to a sink. Pictures and sounds that a card is carried without go
+/// to `media`.
+pub(crate) fn convert_to<R: Read + Drop, O: CardSink, P: MediaSink, E: Write, T: Write>(
     alloc: Global,
     course: &mut Course,
     content: Content<'_>,
     reader: R,
     sink: &mut O,
+    media: &mut P,
     report: &mut Report<E, T>,
 ) -> Result<(), ConversionFault>
     ensures { OnOk result ((uids : List (List ℕ)) → Knows course.old uids → (part : Part)
@@ -45,14 +47,14 @@ pub(crate) fn convert_to<R: Read + Drop, O: CardSink, E: Write, T: Write>(
     match content {
         Content::Export => {
             let rows = ExportRows::new(alloc, reader);
-            convert_more_exports(alloc, course, rows, sink, report)
+            convert_more_exports(alloc, course, rows, sink, media, report)
         }
         Content::Contacts(header) => {
             let contacts = read_contacts(alloc, reader, header)?;
             convert_contacts_under(alloc, course, &header.above, contacts, sink, report)
         }
         Content::Cards | Content::OtherRows => {
-            convert_more_file(alloc, course, reader, sink, report)
+            convert_more_file(alloc, course, reader, sink, media, report)
         }
     }
 }

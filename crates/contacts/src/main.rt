@@ -49,6 +49,7 @@ fn conversion_of(order: &Result<Order, LineFault>) -> Option<ConvertOptions<'_>>
                 columns,
                 charset,
                 report,
+                photos,
             },
         ) => Some(ConvertOptions {
             file: file.as_str(),
@@ -60,6 +61,7 @@ fn conversion_of(order: &Result<Order, LineFault>) -> Option<ConvertOptions<'_>>
             columns: given(columns).unwrap_or(""),
             charset: given(charset),
             report: given(report),
+            photos: given(photos),
         }),
         _ => None,
     }

@@ -8,7 +8,7 @@ use crate::row_list::{Origin, RowList};
 use base_types::{Items, NoMemory};
 use card_conversion::laws::written_cards_differ;
 use card_conversion::{
-    ConversionFault, Course, Report, Summary, convert_contacts_under, convert_more_cards,
+    ConversionFault, Course, NoMedia, Report, Summary, convert_contacts_under, convert_more_cards,
     convert_more_exports,
 };
 use contact_csv::{AboveLine, ContactReader};
@@ -48,7 +48,15 @@ pub(crate) fn convert_pieces<R: Read + Drop>(
     let mut report = Report::new(alloc, io::sink());
     report.set_file(Some(&mut lines));
     let mut course = Course::new(alloc);
-    match convert_more_cards(alloc, &mut course, reader, &mut rows, &mut report) {
+    let mut media = NoMedia;
+    match convert_more_cards(
+        alloc,
+        &mut course,
+        reader,
+        &mut rows,
+        &mut media,
+        &mut report,
+    ) {
         Ok(()) => {
             drop(report);
             Ok(Some(Converted {
@@ -78,7 +86,15 @@ pub(crate) fn convert_exports<R: Read + Drop>(
     let mut report = Report::new(alloc, io::sink());
     report.set_file(Some(&mut lines));
     let mut course = Course::new(alloc);
-    match convert_more_exports(alloc, &mut course, cards, &mut rows, &mut report) {
+    let mut media = NoMedia;
+    match convert_more_exports(
+        alloc,
+        &mut course,
+        cards,
+        &mut rows,
+        &mut media,
+        &mut report,
+    ) {
         Ok(()) => {
             drop(report);
             Ok(Some(Converted {

@@ -7,4 +7,4 @@ loop-piece-init g c = λ uids known. begun g.O.CardSink.writes uids c.args.cours
 pub loop-piece-preserved : goal.loop-piece-preserved
 loop-piece-preserved g c = λ uids known.
     joined g.O.CardSink.writes uids c.args.course.now c.loop-piece.course _ c.args.sink.now c.loop-piece.sink c.convert_piece.new.sink (c.loop-piece.invariant uids known)
-    (λ more knows. one_text g.O.CardSink.writes more c.split_piece.result.0.now c.in_ok-fate.fate c.loop-piece.course _ c.loop-piece.sink c.convert_piece.new.sink c.in_ok-fate.ensures c.count.ensures knows)
+    (λ more knows. one_text g.O.CardSink.writes more c.split_piece.result.0.now c.in_ok-fate.fate c.loop-piece.course _ c.loop-piece.sink c.convert_piece.new.sink c.in_ok-fate.ensures.taken c.count.ensures knows)

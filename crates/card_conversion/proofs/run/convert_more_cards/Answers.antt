@@ -22,7 +22,7 @@ loop-piece-preserved g c = (
   λ uids known.
       one_piece g.O.CardSink.writes g.R.Read.remaining (g.R.Read.remaining c.args.reader) uids (counts_of c.args.course.now) c.args.sink.now c.loop-piece.sink c.convert_piece.new.sink
       c.loop-piece.pieces c.find_piece.new.self c.pass.new.self c.loop-piece.course.uids c.convert_piece.new.uids c.piece-piece.result.now c.in_ok-fate.fate (counts_of c.loop-piece.course) c.count.new.self.summary
-      (c.loop-piece.invariant.1 uids known) c.in_ok-len.ensures.left (rw c.piece-piece.ensures c.pass.ensures.left) (c.pass.ensures.ended c.in_ok-len.ensures.ended) c.in_ok-fate.ensures c.count.ensures,
+      (c.loop-piece.invariant.1 uids known) c.in_ok-len.ensures.left (rw c.piece-piece.ensures c.pass.ensures.left) (c.pass.ensures.ended c.in_ok-len.ensures.ended) c.in_ok-fate.ensures.taken c.count.ensures,
 )
 
 pub find_piece-requires : goal.find_piece-requires

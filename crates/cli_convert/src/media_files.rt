@@ -1,0 +1,43 @@
+//! A sink that writes a file for each picture or sound that a card is carried without.
+
+use crate::create::write_new;
+use crate::names::media_path;
+use base_types::Text;
+use card_conversion::{Kept, MediaOwner, MediaSink, SinkFault};
+use std::alloc::Global;
+use std::fs::Files;
+
+/// Writes files into a folder, if one is given.
+#[derive(Drop)]
+pub(crate) struct MediaFiles<'a, F> {
+    pub(crate) files: &'a F,
+    pub(crate) folder: Option<&'a str>,
+}
+
+impl<'a, F: Files> MediaSink for MediaFiles<'a, F> {
+    ghost use Rattle.std.specs.Prelude.{◌≡◌};
+
+    ghost takes = { λ _ before after. after ≡ before };
+
+    fn is_open(&self) -> bool {
+        self.folder.is_some()
+    }
+
+    fn put(
+        &mut self,
+        alloc: Global,
+        owner: MediaOwner<'_>,
+        octets: &[u8],
+    ) -> Result<Kept, SinkFault> {
+        let Some(folder) = self.folder else {
+            return Ok(Kept::Refused(Text::copy_of(alloc, "no folder is given")?));
+        };
+        let path = media_path(alloc, folder, owner, octets)?;
+        if write_new(alloc, self.files, path.as_str(), octets)? {
+            return Ok(Kept::Written(path));
+        }
+        let name = path.as_str();
+        let words = format!(in alloc; "the file {name} exists")?;
+        Ok(Kept::Refused(Text::new(words)))
+    }
+}
