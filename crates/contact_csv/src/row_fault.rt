@@ -1,6 +1,7 @@
 //! `RowFault`: why a row isn't converted.
-ghost use Rattle.std.specs.Prelude.{◌≡◌, [], IfSome, get_or, map, true};
+ghost use Rattle.std.specs.Prelude.{◌≡◌, [], IfSome, IsTrue, get_or, map, true};
 ghost use Rattle.std.specs.List.{list_all};
+ghost use Rattle.std.specs.Str.{trim};
 ghost use Rattle.csv.specs.Records.{fields_of};
 ghost use Rattle.contact_columns.specs.Cells.{cell_text, is_void};
 ghost use Rattle.contact_csv.specs.Contacts.{IsFaulty};
@@ -76,18 +77,49 @@ fn has_column(columns: &[Column], name: &str) -> bool
         .any(|column| column.name.as_str().eq_ignore_ascii_case(name))
 }
 
-/// Whether the cell has no value, or is the name of a column.
-fn is_name_of(columns: &[Column], cell: &str) -> bool
+/// Whether the cell at the index has the name of its own column.
+fn is_own_name(columns: &[Column], place: usize, cell: &str) -> bool
+    ensures { IsTrue result (has_column columns.now (trim cell.now) ≡ true) }
+{
+    match columns.get(place) {
+        Some(column) => column.name.as_str().eq_ignore_ascii_case(cell.trim()),
+        None => false,
+    }
+}
+
+/// Whether the cell at the index has no value, or is the name of a column. Its own column comes
+/// first, so that the header again costs one look a cell.
+fn is_name_of(columns: &[Column], place: usize, cell: &str) -> bool
     ensures { result ≡ is_name_of columns.now cell.now }
 {
-    is_void(cell) || has_column(columns, cell.trim())
+    is_void(cell) || is_own_name(columns, place, cell) || has_column(columns, cell.trim())
 }
 
 /// Whether each cell that has a value is the name of a column.
 fn has_names(columns: &[Column], cells: &[Text]) -> bool
     ensures { result ≡ list_all (is_name_of columns.now) cells.now }
 {
-    cells.iter().all(|cell| is_name_of(columns, cell.as_str()))
+    cells
+        .iter()
+        .enumerate()
+        .all(|(place, cell)| is_name_of(columns, place, cell.as_str()))
+}
+
+/// The most cells of a row that are looked for in other columns than their own.
+const MOVED_CELLS_MAX: usize = 1_000;
+
+/// Whether more cells than that have a value that isn't the name of their own column. Such a row is
+/// no header again: to look for each among all columns would take the square of their number.
+fn has_many_moved(columns: &[Column], cells: &[Text]) -> bool {
+    let moved = cells
+        .iter()
+        .enumerate()
+        .filter(|(place, cell)| {
+            !is_void(cell.as_str()) && !is_own_name(columns, *place, cell.as_str())
+        })
+        .take(MOVED_CELLS_MAX + 1)
+        .count();
+    moved > MOVED_CELLS_MAX
 }
 
 /// Whether at least as many cells have a value as columns have a name.
@@ -114,7 +146,7 @@ pub(crate) fn fault_of_row(columns: &[Column], row: &ByteRecord, cells: &[Text])
     if !has_width(columns, row) {
         return Some(RowFault::Width);
     }
-    if has_names(columns, cells) && has_as_many(columns, cells) {
+    if !has_many_moved(columns, cells) && has_names(columns, cells) && has_as_many(columns, cells) {
         return Some(RowFault::Header);
     }
     None

@@ -8,8 +8,9 @@ mod streams;
 use base_types::Text;
 use cli_args::{LineFault, Order};
 use cli_convert::{ConvertOptions, DateOrder, RowsSink, run_convert};
-use cli_host::{note_waiting, order_of_args, run_and_report};
-use file_host::FileHost;
+use cli_host::{note_waiting, order_of_args};
+use convert_posts::Converter;
+use file_host::run_and_report_on_files;
 use std::env;
 use std::io::IsTerminal;
 use std::process::ExitCode;
@@ -77,10 +78,9 @@ fn convert(rt: &HostRuntime, wanted: ConvertOptions<'_>) -> u8 {
 
 /// Runs another order on the files and ports of the system, and returns the exit status.
 fn run(rt: &HostRuntime, order: Result<Order, LineFault>) -> u8 {
-    let mut host = FileHost::new(*rt);
-    let exit = run_and_report(
-        rt.alloc(),
-        &mut host,
+    let exit = run_and_report_on_files(
+        rt,
+        Converter,
         order,
         &mut rt.stdin(),
         &mut rt.stdout(),

@@ -11,7 +11,7 @@ use base_types::{Items, Text};
 use book_store::{CopyFault, FileBooks, SqlStore};
 use cli_host::Host;
 use cli_orders::{Address, FoundCause, Restored, Stop};
-use convert_posts::Converter;
+use http_fronts::Front;
 use request_log::RequestLog;
 use site_files::{Site, read_site};
 use socket_endpoint::SocketEndpoint;
@@ -26,20 +26,21 @@ use store_migration::migrate;
 use store_schema::OpenFault;
 use sync_core::Limits;
 
-/// The host that the program runs on, with its files and ports.
+/// The host that the program runs on, with its files and ports, and the front of its server.
 #[derive(Clone, Copy)]
-pub struct FileHost {
+pub struct FileHost<F> {
     rt: HostRuntime,
+    front: F,
 }
 
-impl FileHost {
-    /// The host of the program that has this handle of the system.
-    pub fn new(rt: HostRuntime) -> FileHost {
-        FileHost { rt }
+impl<F> FileHost<F> {
+    /// The host of the program that has this handle of the system. Its server has this front.
+    pub fn new(rt: HostRuntime, front: F) -> FileHost<F> {
+        FileHost { rt, front }
     }
 }
 
-impl RequestLog for FileHost {
+impl<F> RequestLog for FileHost<F> {
     fn print(&self, line: &[u8]) {
         RequestLog::print(&self.rt, line)
     }
@@ -60,15 +61,15 @@ fn limits() -> Limits
     Limits::standard()
 }
 
-impl Host<FileBooks, SocketEndpoint, TcpListener> for FileHost {
+impl<F: Front + Copy> Host<FileBooks, SocketEndpoint, TcpListener> for FileHost<F> {
     ghost use Rattle.file_host.specs.FileHosts.{IsAnyCall};
 
-    type Front = Converter;
+    type Front = F;
 
     ghost calls = { IsAnyCall };
 
-    fn front(&self) -> Converter {
-        Converter
+    fn front(&self) -> F {
+        self.front
     }
 
     fn create(&mut self, file: &str) -> Result<FileBooks, OpenFault>

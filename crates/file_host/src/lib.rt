@@ -15,4 +15,4 @@ mod running;
 mod store_files;
 
 pub use host::FileHost;
-pub use running::run_order;
+pub use running::{run_and_report_on_files, run_order};

@@ -1,35 +1,45 @@
 //! Runs orders on the host that the program runs on.
-ghost use Rattle.std.specs.Prelude.{IfErr, OnOk};
+ghost use Rattle.std.specs.Prelude.{◌≡◌, ◌≢◌, ◌⊎◌, List, ℕ, IfErr, IfSome, OnOk, Ok, Err};
+ghost use Rattle.std.specs.Io.KnownBytes.{Keeps};
+ghost use Rattle.cli_args.specs.declared.fault.LineFault.{LineFault as TheFault};
+ghost use Rattle.cli_args.specs.declared.order.Order.{Order as TheOrder};
+ghost use Rattle.cli_host.specs.Exits.{EndsOrder, IsTryDone, IsTryStopped, ReportsBadArguments};
+ghost use Rattle.cli_host.specs.Exits.{ReportsStop};
 ghost use Rattle.cli_host.specs.OrdersOnHost.{KeepsOrderOutput, RunsOnHost, StopsOnHost};
+ghost use Rattle.cli_orders.specs.Stops.{out_of_memory};
 ghost use Rattle.file_host.specs.FileHosts.{HasLog};
 
 use crate::host::FileHost;
 use book_http::{Connection, Listener};
 use book_store::FileBooks;
-use cli_args::Order;
-use cli_host::run_on_host;
+use cli_args::{LineFault, Order};
+use cli_host::{ProgramExit, run_and_report, run_on_host};
 use cli_orders::Stop;
-use convert_posts::Converter;
 use http_fronts::Front;
 use hub_server::Endpoint;
 use socket_endpoint::SocketEndpoint;
-use std::io::Write;
+use std::io::{Read, Write};
 use std::net::{TcpListener, TcpStream};
 use std::rt::HostRuntime;
 use sync_core::BookStore;
 
-/// `run_on_host`, on the host that the program runs on.
+/// `run_on_host`, on the host that the program runs on, whose server has this front.
 ///
 /// No contract connects a store with a real file, or an endpoint or a listener with sockets. So the
 /// clauses only say that there are stores, endpoints and listeners with which this is the order's
 /// log.
-pub fn run_order<W: Write>(rt: &HostRuntime, order: Order, writer: &mut W) -> Result<(), Stop>
+pub fn run_order<F: Front + Copy, W: Write>(
+    rt: &HostRuntime,
+    front: F,
+    order: Order,
+    writer: &mut W,
+) -> Result<(), Stop>
     ensures done { OnOk result (HasLog (RunsOnHost ⟦<FileBooks as BookStore>⟧.model
-        ⟦<Converter as Front>⟧.answers ⟦<SocketEndpoint as Endpoint>⟧.calls
+        F.answers ⟦<SocketEndpoint as Endpoint>⟧.calls
         ⟦<TcpStream as Connection>⟧.model ⟦<TcpListener as Listener>⟧.coming order
         (W.contents writer.old) (W.contents writer.new))) }
     ensures stopped { IfErr result (λ stop. HasLog (StopsOnHost ⟦<FileBooks as BookStore>⟧.model
-        ⟦<Converter as Front>⟧.answers ⟦<SocketEndpoint as Endpoint>⟧.calls
+        F.answers ⟦<SocketEndpoint as Endpoint>⟧.calls
         ⟦<TcpStream as Connection>⟧.model ⟦<TcpListener as Listener>⟧.coming order stop
         (W.contents writer.old) (W.contents writer.new))) }
 
@@ -39,6 +49,50 @@ pub fn run_order<W: Write>(rt: &HostRuntime, order: Order, writer: &mut W) -> Re
     ensures output_kept { IfErr result (λ stop.
         KeepsOrderOutput order stop (W.contents writer.old) (W.contents writer.new)) }
 {
-    let mut host = FileHost::new(*rt);
+    let mut host = FileHost::new(*rt, front);
     run_on_host(rt.alloc(), &mut host, order, writer)
+}
+
+/// `run_and_report`, on the host that the program runs on, whose server has this front. This is all
+/// that the program does for an order but `convert`.
+///
+/// As for `run_order`, the clauses only say that there are stores, endpoints and listeners with
+/// which this is the order's log.
+pub fn run_and_report_on_files<F: Front + Copy, R: Read, W: Write, E: Write>(
+    rt: &HostRuntime,
+    front: F,
+    order: Result<Order, LineFault>,
+    reader: &mut R,
+    writer: &mut W,
+    errors: &mut E,
+) -> ProgramExit
+    // The output for the input is printed and nothing is reported, or the stop is reported.
+    ensures try_order { order ≡ Ok TheOrder.Try → IfSome (R.remaining reader.old) (λ input.
+        IsTryDone input (W.contents writer.old) (W.contents writer.new) (E.contents errors.old)
+        (E.contents errors.new) result
+        ⊎ IsTryStopped input (W.contents writer.old) (W.contents writer.new)
+        (E.contents errors.old) (E.contents errors.new) result) }
+
+    // The output of another order is printed and nothing is reported, or the stop is reported.
+    ensures other_order { (other : TheOrder) → order ≡ Ok other → other ≢ TheOrder.Try →
+        HasLog (EndsOrder ⟦<FileBooks as BookStore>⟧.model F.answers
+        ⟦<SocketEndpoint as Endpoint>⟧.calls ⟦<TcpStream as Connection>⟧.model
+        ⟦<TcpListener as Listener>⟧.coming other (W.contents writer.old) (W.contents writer.new)
+        (E.contents errors.old) (E.contents errors.new) result) }
+
+    // Another order reads no input.
+    ensures unread { order ≢ Ok TheOrder.Try → reader.new ≡ reader.old }
+
+    // For invalid arguments it reports the text, and prints nothing.
+    ensures bad_arguments { (text : List ℕ) → order ≡ Err (TheFault.Bad text) →
+        ReportsBadArguments text (E.contents errors.old) (E.contents errors.new) result
+        × Keeps (W.contents writer.old) (W.contents writer.new) }
+
+    // If memory ran out while the arguments were read, it reports that, and prints nothing.
+    ensures memory { order ≡ Err TheFault.Memory →
+        ReportsStop out_of_memory (E.contents errors.old) (E.contents errors.new) result
+        × Keeps (W.contents writer.old) (W.contents writer.new) }
+{
+    let mut host = FileHost::new(*rt, front);
+    run_and_report(rt.alloc(), &mut host, order, reader, writer, errors)
 }
