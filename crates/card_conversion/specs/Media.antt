@@ -1,7 +1,8 @@
 -- What becomes of the pictures and sounds that cards are carried without, because they would be too
--- long with them.
-use Rattle.std.specs.Prelude.{ℕ, ◌≡◌, ◌⊎◌, List, [], ◌∷◌, flat_map, Option, Some, None}
+-- long with them. `takes` is what writing octets does to their sink.
+use Rattle.std.specs.Prelude.{ℕ, ◌≡◌, ◌⊎◌, ⊤, ⊥, List, [], ◌∷◌, Option, Some, None}
 use Rattle.import_text.specs.declared.raw_line.RawLine.{RawLine}
+use Rattle.vcard_text.specs.Cards.{uid_of}
 use Rattle.vcard_import.specs.Conversions.{left_out_lines}
 use Rattle.vcard_import.specs.declared.change.Change.{Change}
 use Rattle.vcard_property.specs.Media.{media_octets}
@@ -13,41 +14,53 @@ use Rattle.card_conversion.specs.declared.fate.Fate.TheVariants as fate
 use Rattle.card_conversion.specs.declared.media_sink.Kept.{Kept}
 use Rattle.card_conversion.specs.declared.media_sink.Kept.TheVariants as kept
 
--- the octets were written, or the sink is unchanged
-abbrev pub Keeps : {A : Type 0} → (A → A → Type 0) → Kept → A → A → Type 0
-Keeps takes (kept.Written name) before after = takes before after
-Keeps takes (kept.Refused words) before after = after ≡ before
+-- what became of one: it was written, or it was refused and the sink is unchanged
+abbrev pub Puts : {A : Type 0} → (A → A → Type 0) → Kept → A → A → Type 0
+Puts takes (kept.Written name) before after = takes before after
+Puts takes (kept.Refused words) before after = after ≡ before
 
--- Of the octets some were written, in order and each at most once, and nothing else was.
-abbrev pub KeepsSome : {A : Type 0} → (List ℕ → A → A → Type 0) → List (List ℕ) → A → A → Type 0
-KeepsSome takes [] before after = after ≡ before
-KeepsSome {A} takes (octets ∷ more) before after =
-    (between : A) × (takes octets before between ⊎ (between ≡ before))
-    × KeepsSome takes more between after
+-- The octets of a logical line were written or refused. A line without any was refused.
+abbrev pub PutsLine : {A : Type 0} → (List ℕ → A → A → Type 0) → Option (List ℕ) → Kept → A → A
+    → Type 0
+PutsLine takes None is before after = Puts (λ _ _. ⊥) is before after
+PutsLine takes (Some octets) is before after = Puts (takes octets) is before after
 
--- the octets in a logical line, if it has some
-abbrev pub media_of_line : Option (List ℕ) → List (List ℕ)
-media_of_line None = []
-media_of_line (Some octets) = octets ∷ []
+-- what became of the octets that each of the lines encodes, in order
+abbrev pub PutsLines : {A : Type 0} → (List ℕ → A → A → Type 0) → List RawLine → List Kept → A → A
+    → Type 0
+PutsLines takes [] [] before after = after ≡ before
+PutsLines takes [] (is ∷ all) before after = ⊥
+PutsLines takes (line ∷ lines) [] before after = ⊥
+PutsLines {A} takes (line ∷ lines) (is ∷ all) before after =
+    (between : A) × PutsLine takes (media_octets line.octets) is before between
+    × PutsLines takes lines all between after
 
--- the octets in logical lines, in order
-abbrev pub media_of_lines : List RawLine → List (List ℕ)
-media_of_lines lines = flat_map (λ line. media_of_line (media_octets line.octets)) lines
+-- none was written
+abbrev pub AreRefused : List Kept → Type 0
+AreRefused [] = ⊤
+AreRefused (kept.Written name ∷ all) = ⊥
+AreRefused (kept.Refused words ∷ all) = AreRefused all
 
--- the pictures and sounds of a card that the changes of its conversion call left out: the octets
--- that their lines have, in order
-abbrev pub media_left_out : List ℕ → List Change → List (List ℕ)
-media_left_out octets changes = media_of_lines (left_out_lines octets changes)
+-- The pictures and sounds of a card, which the changes of its conversion call left out: each was
+-- written or refused, in order, or none was written.
+abbrev pub PutsMedia : {A : Type 0} → (List ℕ → A → A → Type 0) → List ℕ → List Change → List Kept
+    → A → A → Type 0
+PutsMedia takes octets changes all before after =
+    PutsLines takes (left_out_lines octets changes) all before after
+    ⊎ (AreRefused all × (after ≡ before))
 
--- those of a card that was written; of any other piece none
-abbrev pub media_of_fate : List ℕ → Fate → List (List ℕ)
-media_of_fate octets Blank = []
-media_of_fate octets Other = []
-media_of_fate octets Long = []
-media_of_fate octets Overfull = []
-media_of_fate octets (Refused fault) = []
-media_of_fate octets (Repeated made) = []
-media_of_fate octets (Crowded made) = []
-media_of_fate octets (Declined made words) = []
-media_of_fate octets (fate.Written made) = media_left_out octets made.changes
-media_of_fate octets (fate.Moved made) = media_left_out octets made.changes
+-- Those of a card that was written, under its UID. Nothing was written of any other piece.
+abbrev pub PutsOfFate : {A : Type 0} → (List ℕ → List ℕ → A → A → Type 0) → List ℕ → Fate
+    → List Kept → A → A → Type 0
+PutsOfFate takes octets Blank all before after = after ≡ before
+PutsOfFate takes octets Other all before after = after ≡ before
+PutsOfFate takes octets Long all before after = after ≡ before
+PutsOfFate takes octets Overfull all before after = after ≡ before
+PutsOfFate takes octets (Refused fault) all before after = after ≡ before
+PutsOfFate takes octets (Repeated made) all before after = after ≡ before
+PutsOfFate takes octets (Crowded made) all before after = after ≡ before
+PutsOfFate takes octets (Declined made words) all before after = after ≡ before
+PutsOfFate takes octets (fate.Written made) all before after =
+    PutsMedia (takes (uid_of made.card)) octets made.changes all before after
+PutsOfFate takes octets (fate.Moved made) all before after =
+    PutsMedia (takes (uid_of made.card)) octets made.changes all before after

@@ -1,14 +1,15 @@
 //! Gives the pictures and sounds that a card is carried without to their sink.
-ghost use Rattle.std.specs.Prelude.{◌∷◌, [], OnOk};
-ghost use Rattle.card_conversion.specs.Media.{KeepsSome, media_left_out, media_of_fate};
-ghost use Rattle.card_conversion.specs.Media.{media_of_line, media_of_lines};
+ghost use Rattle.std.specs.Prelude.{IfOk};
+ghost use Rattle.vcard_text.specs.Cards.{uid_of};
 ghost use Rattle.vcard_property.specs.Media.{media_octets};
+ghost use Rattle.card_conversion.specs.Media.{AreRefused, Puts, PutsLine, PutsLines, PutsMedia};
+ghost use Rattle.card_conversion.specs.Media.{PutsOfFate};
 
 use crate::fate::Fate;
 use crate::fault::ConversionFault;
 use crate::line_names::head_of;
 use crate::media_sink::{Kept, MediaKind, MediaOwner, MediaSink};
-use base_types::Text;
+use base_types::{NoMemory, Text};
 use import_text::RawLine;
 use std::alloc::Global;
 use vcard_import::{Change, ChangeKind, Conversion, left_out_lines};
@@ -61,7 +62,8 @@ fn keep_octets<P: MediaSink>(
     octets: &[u8],
     media: &mut P,
 ) -> Result<Kept, ConversionFault>
-    ensures { OnOk result (KeepsSome P.takes (octets.now ∷ []) media.old media.new) }
+    ensures { IfOk result (λ kept.
+        Puts (P.takes owner.entry.uid.now octets.now) kept media.old media.new) }
 {
     let kept = media.put(alloc, owner, octets)?;
     Ok(kept)
@@ -74,8 +76,8 @@ fn keep_line<P: MediaSink>(
     line: &RawLine,
     media: &mut P,
 ) -> Result<Kept, ConversionFault>
-    ensures { OnOk result
-        (KeepsSome P.takes (media_of_line (media_octets line.now.octets)) media.old media.new) }
+    ensures { IfOk result (λ kept. PutsLine (P.takes owner.entry.uid.now)
+        (media_octets line.now.octets) kept media.old media.new) }
 {
     match media_octets(alloc, line.octets.as_slice())? {
         Some(octets) => keep_octets(alloc, owner, octets.as_slice(), media),
@@ -95,8 +97,8 @@ fn keep_lines<P: MediaSink>(
     lines: &[RawLine],
     media: &mut P,
 ) -> Result<Vec<Kept>, ConversionFault>
-    ensures { OnOk result
-        (KeepsSome P.takes (media_of_lines lines.now) media.old media.new) }
+    ensures { IfOk result (λ all.
+        PutsLines (P.takes uid.now) lines.now all.items media.old media.new) }
 {
     let mut all = Vec::new(alloc);
     let mut counts = KindCounts {
@@ -119,11 +121,26 @@ fn keep_lines<P: MediaSink>(
     Ok(all)
 }
 
-/// Whether one of the changes says that a line is left out.
-fn leaves_out(changes: &[Change]) -> bool {
+/// The most pictures and sounds of a card that are given to a sink. Each is looked up among all
+/// changes of its card.
+const MEDIA_MAX: usize = 1_000;
+
+/// How many of the changes say that a line is left out.
+fn count_left_out(changes: &[Change]) -> usize {
     changes
         .iter()
-        .any(|change| matches!(change.kind, ChangeKind::LeftOut))
+        .filter(|change| matches!(change.kind, ChangeKind::LeftOut))
+        .count()
+}
+
+/// What is told where there are more than that.
+fn too_many(alloc: Global) -> Result<Vec<Kept>, NoMemory>
+    ensures { IfOk result (λ all. AreRefused all.items) }
+{
+    let words = Text::copy_of(alloc, "the card has more than 1,000 of them")?;
+    let mut all = Vec::new(alloc);
+    all.push(Kept::Refused(words))?;
+    Ok(all)
 }
 
 /// Gives the pictures and sounds that a card is carried without to the sink, if it is open.
@@ -135,15 +152,16 @@ fn keep_of_card<P: MediaSink>(
     conversion: &Conversion,
     media: &mut P,
 ) -> Result<Vec<Kept>, ConversionFault>
-    ensures { OnOk result
-        (KeepsSome P.takes (media_left_out piece.now conversion.now.changes) media.old media.new) }
+    ensures { IfOk result (λ all. PutsMedia (P.takes (uid_of conversion.now.card)) piece.now
+        conversion.now.changes all.items media.old media.new) }
 {
     let changes = conversion.changes.as_slice();
-    if !media.is_open() {
+    let count = count_left_out(changes);
+    if count == 0 || !media.is_open() {
         return Ok(Vec::new(alloc));
     }
-    if !leaves_out(changes) {
-        return Ok(Vec::new(alloc));
+    if count > MEDIA_MAX {
+        return Ok(too_many(alloc)?);
     }
     let lines = left_out_lines(alloc, piece, changes)?;
     keep_lines(
@@ -157,7 +175,8 @@ fn keep_of_card<P: MediaSink>(
 
 /// Gives the pictures and sounds to the sink that a card is carried without, if the fate of the
 /// piece is that it was written. What became of each is in the order of the changes that call it
-/// left out; nothing, if the sink isn't open. An `Err` is `Output` or `Memory`.
+/// left out. It is empty if the sink isn't open, and has one entry for all if there are more than
+/// 1,000. An `Err` is `Output` or `Memory`.
 pub(crate) fn keep_media<P: MediaSink>(
     alloc: Global,
     number: u64,
@@ -165,8 +184,8 @@ pub(crate) fn keep_media<P: MediaSink>(
     fate: &Fate,
     media: &mut P,
 ) -> Result<Vec<Kept>, ConversionFault>
-    ensures { OnOk result
-        (KeepsSome P.takes (media_of_fate piece.now fate.now) media.old media.new) }
+    ensures { IfOk result (λ all.
+        PutsOfFate P.takes piece.now fate.now all.items media.old media.new) }
 {
     match fate {
         Fate::Written(conversion) => keep_of_card(alloc, number, piece, conversion, media),

@@ -1,6 +1,6 @@
 //! The trait of sinks for pictures and sounds that cards are carried without.
 ghost use Rattle.std.specs.Prelude.{◌≡◌, ℕ, List, IfOk};
-ghost use Rattle.card_conversion.specs.Media.{Keeps};
+ghost use Rattle.card_conversion.specs.Media.{Puts};
 
 use crate::card_sink::SinkFault;
 use base_types::Text;
@@ -41,8 +41,9 @@ pub enum Kept {
 
 /// Where pictures and sounds go that cards are carried without.
 pub trait MediaSink {
-    /// What writing octets does to the sink: the octets, and the sink before and after it.
-    ghost takes: { List ℕ → Self → Self → Type 0 };
+    /// What writing octets does to the sink: the UID of their card, the octets, and the sink before
+    /// and after it.
+    ghost takes: { List ℕ → List ℕ → Self → Self → Type 0 };
 
     /// Whether pictures and sounds are wanted at all.
     fn is_open(&self) -> bool;
@@ -54,7 +55,8 @@ pub trait MediaSink {
         owner: MediaOwner<'_>,
         octets: &[u8],
     ) -> Result<Kept, SinkFault>
-        ensures { IfOk result (λ kept. Keeps (takes octets.now) kept self.old self.new) };
+        ensures { IfOk result (λ kept.
+            Puts (takes owner.entry.uid.now octets.now) kept self.old self.new) };
 }
 
 /// Wants no pictures and sounds.
@@ -64,7 +66,7 @@ pub struct NoMedia;
 impl MediaSink for NoMedia {
     ghost use Rattle.std.specs.Prelude.{⊥};
 
-    ghost takes = { λ _ _ _. ⊥ };
+    ghost takes = { λ _ _ _ _. ⊥ };
 
     fn is_open(&self) -> bool {
         false

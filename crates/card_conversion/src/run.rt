@@ -2,7 +2,8 @@
 ghost use Rattle.std.specs.Prelude.{ℕ, List, IfOk, OnOk};
 ghost use Rattle.card_conversion.specs.Accounts.{ConvertsAll};
 ghost use Rattle.card_conversion.specs.Courses.{ConvertsPieces, Knows};
-ghost use Rattle.card_conversion.specs.Media.{KeepsSome, media_of_fate};
+ghost use Rattle.card_conversion.specs.Media.{PutsOfFate};
+ghost use Rattle.card_conversion.specs.declared.media_sink.Kept.{Kept as TheKept};
 ghost use Rattle.card_conversion.specs.internal.States.{TakesPiece};
 
 use crate::card_sink::CardSink;
@@ -31,8 +32,8 @@ fn tell_piece<P: MediaSink, E: Write, T: Write>(
     media: &mut P,
     report: &mut Report<E, T>,
 ) -> Result<(), ConversionFault>
-    ensures { OnOk result
-        (KeepsSome P.takes (media_of_fate piece.now fate.now) media.old media.new) }
+    ensures { OnOk result ((all : List TheKept)
+        × PutsOfFate P.takes piece.now fate.now all media.old media.new) }
 {
     let kept = keep_media(alloc, place.card, piece, fate, media)?;
     report.count_kept(kept.as_slice());
@@ -55,10 +56,10 @@ pub(crate) fn convert_piece<O: CardSink, P: MediaSink, E: Write, T: Write>(
     ensures taken { IfOk result
         (TakesPiece O.writes piece.now uids.old uids.new sink.old sink.new) }
 
-    // Of the pictures and sounds that the written card is carried without, some were written, as
-    // they stand in its lines, in order and each at most once. Nothing else was.
-    ensures kept { IfOk result (λ fate.
-        KeepsSome P.takes (media_of_fate piece.now fate) media.old media.new) }
+    // Each picture and each sound that the written card is carried without was written for its UID,
+    // with the octets that its line encodes, or was refused, in order; or none was written.
+    ensures kept { IfOk result (λ fate. (all : List TheKept)
+        × PutsOfFate P.takes piece.now fate all media.old media.new) }
 {
     let fate = take_piece(alloc, uids, place.card, piece, sink)?;
     match tell_piece(alloc, place, piece, &fate, fields, media, report) {

@@ -1,5 +1,5 @@
 -- How the order `convert` ends, and what it writes to standard output.
-use Rattle.std.specs.Prelude.{ℕ, ◌≡◌, ◌⊎◌, ◌||◌, ◌==◌, Bool, true, false, not, List, [], length}
+use Rattle.std.specs.Prelude.{ℕ, ◌≡◌, ◌||◌, ◌&&◌, ◌==◌, Bool, not, List, [], length}
 use Rattle.std.specs.Prelude.{Option, is_some, if◌then◌else◌}
 use Rattle.vcard_lines.specs.declared.line.Line.{Line}
 use Rattle.card_conversion.specs.Accounts.{WritesRows}
@@ -8,15 +8,10 @@ use Rattle.card_conversion.specs.Deliveries.{WritesInTurn}
 use Rattle.card_conversion.specs.declared.ledger.Summary.{Summary}
 use Rattle.cli_convert.specs.declared.options.ConvertOptions.{ConvertOptions}
 
--- the exit status of a conversion: 0 if all was carried, and 1 if something wasn't
-abbrev pub status_of : Summary → ℕ
-status_of summary = if summary.refused == 0 then 0 else 1
-
--- The exit status of a conversion that didn't stop. If photos are to be written beside their cards,
--- it may also be 1 for a photo that wasn't.
-abbrev pub HasStatus : Bool → Summary → ℕ → Type 0
-HasStatus false summary status = status ≡ status_of summary
-HasStatus true summary status = (status ≡ status_of summary) ⊎ (status ≡ 1)
+-- The exit status of a conversion that didn't stop: 0 if all was carried, and 1 if something wasn't,
+-- or if a photo was lost that was to be written beside its card.
+abbrev pub status_of : Bool → Summary → ℕ
+status_of lost summary = if summary.refused == 0 && not lost then 0 else 1
 
 -- rows go to standard output: no folder and no bound is given
 abbrev pub prints_rows : ConvertOptions → Bool
@@ -44,7 +39,8 @@ pub record Prints (count : ℕ) (before after : Option (List ℕ)) (summary : Su
   pub rows : WritesRows (cards_of_all parts) before after
 
 -- A conversion of this number of files to standard output ended with the status that its summary
--- gives; where photos are to be written, also with 1.
+-- gives. A photo can only be lost if photos are to be written beside their cards.
 abbrev pub EndsConversion : Bool → ℕ → Option (List ℕ) → Option (List ℕ) → ℕ → Type 0
 EndsConversion photos count before after status =
-    (summary : Summary) × Prints count before after summary × HasStatus photos summary status
+    (summary : Summary) × (lost : Bool) × Prints count before after summary
+    × (status ≡ status_of (photos && lost) summary)

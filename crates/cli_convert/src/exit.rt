@@ -1,6 +1,6 @@
 //! How the order ends.
-ghost use Rattle.std.specs.Prelude.{◌≡◌, ◌⊎◌, MatchResult};
-ghost use Rattle.cli_convert.specs.Endings.{HasStatus};
+ghost use Rattle.std.specs.Prelude.{◌≡◌, ◌⊎◌, ◌&&◌, MatchResult};
+ghost use Rattle.cli_convert.specs.Endings.{status_of};
 
 use base_types::{NoMemory, Text};
 use card_conversion::{ConversionFault, Summary};
@@ -165,8 +165,8 @@ pub(crate) fn end<E: Write>(
     errors: &mut E,
 ) -> u8
     ensures status { (result ≡ 0) ⊎ ((result ≡ 1) ⊎ (result ≡ 3)) }
-    ensures ended { MatchResult done (λ summary. HasStatus photos summary result)
-        (λ _. result ≡ 3) }
+    ensures ended { MatchResult done
+        (λ summary. result ≡ status_of (photos && lost) summary) (λ _. result ≡ 3) }
 {
     match done {
         Ok(summary) if summary.refused == 0 && !(photos && lost) => 0,

@@ -17,7 +17,7 @@ pub(crate) struct MediaFiles<'a, F> {
 impl<'a, F: Files> MediaSink for MediaFiles<'a, F> {
     ghost use Rattle.std.specs.Prelude.{◌≡◌};
 
-    ghost takes = { λ _ before after. after ≡ before };
+    ghost takes = { λ _ _ before after. after ≡ before };
 
     fn is_open(&self) -> bool {
         self.folder.is_some()

@@ -249,8 +249,7 @@ pub fn run_convert<F: Files, W: Write, E: Write + Drop>(
     // A conversion to standard output that didn't stop wrote one header, and a row for each card
     // that was carried, of as many files as are given. They are read back as these cards, of which
     // no two have one UID. The status is that of the summary, which counts what was carried and
-    // what wasn't; where photos are to be written beside their cards, it may be 1 for one that
-    // wasn't.
+    // what wasn't; but with `photos` it is 1 if a photo was lost.
     ensures printed { result < 3 → IsTrue (prints_rows wanted.entry)
         → EndsConversion (is_some wanted.entry.photos) (length wanted.entry.more.now + 1)
         (W.contents rows.old.writer) (W.contents rows.new.writer) result }

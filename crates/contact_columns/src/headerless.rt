@@ -1,10 +1,11 @@
 //! Files of contacts without a header, whose columns the user names by their numbers alone.
+ghost use Rattle.std.specs.Prelude.{◌≡◌, [], IfOk, false};
 
 use crate::above::{lines_above, names_delimiter};
 use crate::dates::DateOrder;
 use crate::header::{Header, empty_lines, line_len};
 use crate::row_ends::rows_end_with_returns;
-use crate::wishes::most_number;
+use crate::wishes::{RowForm, most_number, wished_form};
 use csv::{ByteRecord, ReaderBuilder};
 use std::alloc::Global;
 use vcard_text::{Items, NoMemory, Text};
@@ -89,6 +90,26 @@ fn rows_start(head: &[u8], are_returns: bool) -> (usize, u64) {
     (start.saturating_add(more), lines)
 }
 
+/// The form of these rows: the one that is wished, or else the one that most of them have. `None` if
+/// none has all columns that are wished.
+fn rows_form(alloc: Global, rows: &[u8], wished: &str) -> Result<Option<RowForm>, NoMemory> {
+    let least = most_number(wished);
+    if let Some(form) = wished_form(wished) {
+        return Ok(if least <= form.width {
+            Some(form)
+        } else {
+            None
+        });
+    }
+    match form_of(alloc, rows, least)? {
+        Some(form) => Ok(Some(RowForm {
+            delimiter: form.delimiter,
+            width: form.width,
+        })),
+        None => Ok(None),
+    }
+}
+
 /// Where the rows of a file without a header begin, and their form. `None` if it has no row, or if
 /// more columns are wished than a file has.
 pub(crate) fn find_rows<'a>(
@@ -100,7 +121,7 @@ pub(crate) fn find_rows<'a>(
     let (start, lines) = rows_start(head, are_returns);
     let rest = head.get(start..).unwrap_or(&[]);
     let least = most_number(wished);
-    let (delimiter, width) = match form_of(alloc, rest, least)? {
+    let (delimiter, width) = match rows_form(alloc, rest, wished)? {
         Some(form) => (form.delimiter, form.width),
         None if !rest.is_empty() && least <= COLUMNS_MAX => (b',', least),
         None => return Ok(None),
@@ -127,7 +148,7 @@ pub(crate) fn number_names(
 ) -> Result<Option<Items<Text>>, NoMemory> {
     let (start, _) = rows_start(head, rows_end_with_returns(head));
     let rest = head.get(start..).unwrap_or(&[]);
-    let Some(form) = form_of(alloc, rest, most_number(wished))? else {
+    let Some(form) = rows_form(alloc, rest, wished)? else {
         return Ok(None);
     };
     let mut names = Items::new(alloc);
@@ -159,7 +180,9 @@ fn first_line_end(octets: &[u8]) -> &'static [u8] {
 /// The header that is read in place of one that is missing, above the rows that begin with these
 /// octets: the numbers of the columns, as `#1,#2`, and the end that lines have. Empty if the file
 /// has a header. The only `Err` is out of memory.
-pub fn made_header(alloc: Global, header: Header<'_>, rows: &[u8]) -> Result<Vec<u8>, NoMemory> {
+pub fn made_header(alloc: Global, header: Header<'_>, rows: &[u8]) -> Result<Vec<u8>, NoMemory>
+    ensures { IfOk result (λ made. header.entry.is_missing ≡ false → made.items ≡ []) }
+{
     let mut made = Vec::new(alloc);
     if !header.is_missing {
         return Ok(made);

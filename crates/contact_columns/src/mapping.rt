@@ -1,10 +1,11 @@
 //! What becomes of each column, in the words of what a user says of them.
 
 use crate::columns::ContactColumns;
+use crate::header::Header;
 use crate::meaning::Part;
 use crate::slots::Slot;
 use crate::suggestion::push_entry;
-use crate::wishes::push_header_entry;
+use crate::wishes::{RowForm, push_header_entry, push_rows_entry};
 use std::alloc::Global;
 use vcard_text::{NoMemory, Text};
 
@@ -118,12 +119,13 @@ fn words_of(alloc: Global, columns: &ContactColumns) -> Result<Vec<String>, NoMe
 }
 
 /// What becomes of the columns, as `Name=fn,#7=-`. Columns whose cells are kept aside are missing,
-/// and so are those of what a user can't say, as labels. If all others are named by their numbers,
-/// it says whether there is a header. The only `Err` is out of memory.
+/// and so are those of what a user can't say, as labels. Of a file without a header it gives the
+/// form of the rows, as `rows=comma;cells=2`, and of another it says `header` if all other entries
+/// name columns by their numbers. The only `Err` is out of memory.
 pub fn mapped_columns(
     alloc: Global,
     columns: &ContactColumns,
-    has_header: bool,
+    header: Header<'_>,
 ) -> Result<Text, NoMemory> {
     let words = words_of(alloc, columns)?;
     let names = columns.columns.as_slice();
@@ -134,7 +136,13 @@ pub fn mapped_columns(
             push_entry(alloc, &mut text, place, names[place].name.as_str(), word)?;
         }
     }
-    if has_header {
+    if header.is_missing {
+        let form = RowForm {
+            delimiter: header.delimiter,
+            width: header.width,
+        };
+        push_rows_entry(alloc, &mut text, form)?;
+    } else {
         push_header_entry(&mut text)?;
     }
     Ok(Text::new(text))

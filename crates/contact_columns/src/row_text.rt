@@ -39,12 +39,12 @@ enum Mode {
 /// Reads the rows of a file, and gives them on as they are, without a byte order mark. For a row in
 /// which a quote isn't closed, or is followed by other text than a quote, a delimiter or the end of
 /// the line, it gives a row with the cell `BROKEN_ROW`, and reads on with the line after that of
-/// the quote, which ends with a line feed, a carriage return or both. A quote is one that isn't closed if there are 200 lines or 8,388,608 octets after it,
-/// or if its row has several lines and not as many cells as the header. With 200 lines, the cell is
-/// `LONG_ROW`. It gives as many line feeds as the file has, and at the end of a file that doesn't
-/// end with one, the end of its first line. Where the first line ends with a carriage return alone,
-/// each carriage return of the file that no line feed follows counts as a line feed. Of CR CR LF it
-/// gives CR LF.
+/// the quote. That line ends with a line feed, a carriage return or both. A quote is one that isn't
+/// closed if there are 200 lines or 8,388,608 octets after it, or if its row has several lines and
+/// not as many cells as the header. With 200 lines, the cell is `LONG_ROW`. It gives as many line
+/// feeds as the file has, and at the end of a file that doesn't end with one, the end of its first
+/// line. Where the first line ends with a carriage return alone, each carriage return of the file
+/// that no line feed follows counts as a line feed. Of CR CR LF it gives CR LF.
 #[derive(Drop)]
 pub struct RowText<R> {
     alloc: Global,

@@ -1,19 +1,20 @@
 //! What is wrong with what the user says of the columns of a file.
 
 use crate::columns::{column_names, columns_of};
+use crate::doubts::is_doubtful;
 use crate::header::{find_header, first_row, is_missing};
 use crate::headerless::number_names;
 use crate::suggestion::first_names;
 use crate::targets::{TARGET_WORDS, target_of};
 use crate::wishes::{
-    Wish, chosen_wishes, entry_parts, has_column, read_wishes, says_header, types_in,
+    Wish, chosen_wishes, entry_parts, has_column, read_wishes, says_header, says_rows, types_in,
 };
 use std::alloc::Global;
 use vcard_text::{Items, NoMemory, Text};
 
 /// What is wrong with an entry, whatever the file is.
 fn entry_fault(alloc: Global, entry: &str) -> Result<Option<Text>, NoMemory> {
-    if says_header(entry) {
+    if says_header(entry) || says_rows(entry) {
         return Ok(None);
     }
     let Some((column, word, params)) = entry_parts(entry) else {
@@ -145,12 +146,21 @@ fn doubled(alloc: Global, wishes: &[Wish<'_>], names: &[Text]) -> Result<Option<
     second_column(alloc, wishes, names, chosen.as_slice())
 }
 
+/// The words for a first row that may be a header or a person.
+const DOUBT: &str =
+    "the first row looks like a header: add the entry 'header', or 'rows' if it is a \
+     person";
+
 /// What is wrong with what the user says of the columns of a file, in words: an entry that can't be
-/// read, a column that no row among the first lines has, a column with two entries, or two columns
-/// for one value. `None` if nothing is. `head` is the beginning of the file. The only `Err` is out of memory.
+/// read, a column that no row among the first lines has, a column with two entries, two columns for
+/// one value, or that each is given by its number though the first row looks like a header. `None`
+/// if nothing is. `head` is the beginning of the file. The only `Err` is out of memory.
 pub fn wish_fault(alloc: Global, head: &[u8], wished: &str) -> Result<Option<Text>, NoMemory> {
     if let Some(words) = first_fault(alloc, wished)? {
         return Ok(Some(words));
+    }
+    if is_doubtful(alloc, head, wished)? {
+        return Ok(Some(Text::copy_of(alloc, DOUBT)?));
     }
     let wishes = read_wishes(alloc, wished)?;
     let wishes = wishes.as_slice();

@@ -19,6 +19,13 @@ pub(crate) struct Wish<'a> {
 }
 
 impl Wish<'_> {
+    /// The index of the column, if it is named by its number.
+    pub(crate) fn place(&self) -> Option<usize> {
+        let number = number_in(self.column)?;
+        let place = number.checked_sub(1)?;
+        usize::try_from(place).ok()
+    }
+
     /// Whether the column is left out.
     pub(crate) fn leaves_out(&self) -> bool {
         self.target.property.is_empty()
@@ -161,6 +168,93 @@ pub(crate) fn says_header(entry: &str) -> bool {
     entry.trim().eq_ignore_ascii_case(HEADER_ENTRY)
 }
 
+/// The entry that says that the file has no header, alone or with the form of its rows.
+const ROWS_ENTRY: &str = "rows";
+
+/// The form of the rows of a file without a header.
+#[derive(Clone, Copy)]
+pub(crate) struct RowForm {
+    /// What is between cells.
+    pub(crate) delimiter: u8,
+    /// The number of cells.
+    pub(crate) width: usize,
+}
+
+/// The most cells of rows whose form is given.
+const CELLS_MAX: usize = 1_000;
+
+/// The delimiter with this word.
+fn delimiter_named(word: &str) -> Option<u8> {
+    match word {
+        "tab" => Some(b'\t'),
+        "bar" => Some(b'|'),
+        "semicolon" => Some(b';'),
+        "comma" => Some(b','),
+        _ => None,
+    }
+}
+
+/// The word for the delimiter.
+fn delimiter_word(delimiter: u8) -> &'static str {
+    match delimiter {
+        b'\t' => "tab",
+        b'|' => "bar",
+        b';' => "semicolon",
+        _ => "comma",
+    }
+}
+
+/// The form of rows that the entry gives, as `rows=semicolon;cells=2`.
+fn entry_form(entry: &str) -> Option<RowForm> {
+    let (column, word, params) = entry_parts(entry)?;
+    if !column.eq_ignore_ascii_case(ROWS_ENTRY) {
+        return None;
+    }
+    let delimiter = delimiter_named(word)?;
+    let width = match params.trim().strip_prefix("cells=")?.parse::<usize>() {
+        Ok(width) => width,
+        Err(_) => return None,
+    };
+    if width == 0 || width > CELLS_MAX {
+        return None;
+    }
+    Some(RowForm { delimiter, width })
+}
+
+/// Whether the entry says that the file has no header.
+pub(crate) fn says_rows(entry: &str) -> bool {
+    entry.trim().eq_ignore_ascii_case(ROWS_ENTRY) || entry_form(entry).is_some()
+}
+
+/// Whether one of the entries says that the file has no header.
+pub(crate) fn has_rows_entry(wished: &str) -> bool {
+    wished.split(',').any(says_rows)
+}
+
+/// The form of rows that an entry gives, if one does.
+pub(crate) fn wished_form(wished: &str) -> Option<RowForm> {
+    wished.split(',').find_map(entry_form)
+}
+
+/// Whether an entry gives the form of the rows of a file without a header, as the reply to its first
+/// part does.
+pub fn has_row_form(wished: &str) -> bool {
+    wished_form(wished).is_some()
+}
+
+/// Adds the entry that gives the form of the rows of a file without a header.
+pub(crate) fn push_rows_entry(
+    alloc: Global,
+    text: &mut String,
+    form: RowForm,
+) -> Result<(), NoMemory> {
+    let word = delimiter_word(form.delimiter);
+    let width = form.width as u64;
+    let entry = format!(in alloc; ",{ROWS_ENTRY}={word};cells={width}")?;
+    text.push_str(entry.as_str())?;
+    Ok(())
+}
+
 /// The number of the column in an entry, counted from 1, if the column is named so.
 fn entry_number(entry: &str) -> Option<u64> {
     let (column, _) = entry.split_once('=')?;
@@ -173,12 +267,15 @@ fn entry_number(entry: &str) -> Option<u64> {
 /// Whether something is said of columns, and of each by its number. Then the file may have no
 /// header (see `find_header`).
 pub fn are_numbers(wished: &str) -> bool {
+    let mut has_number = false;
     for entry in wished.split(',') {
-        if entry_number(entry).is_none() {
+        if entry_number(entry).is_some() {
+            has_number = true;
+        } else if !says_rows(entry) {
             return false;
         }
     }
-    true
+    has_number
 }
 
 /// The largest number of a column among the entries; 0 if none is named so.

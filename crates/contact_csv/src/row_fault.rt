@@ -23,7 +23,8 @@ pub enum RowFault {
     Nul(usize),
     /// It has more or fewer cells than the header.
     Width,
-    /// Its cells are the names of the columns, in any order: it is the header again.
+    /// Its cells are the names of the columns, at most 64 of them in other columns than their own: it
+    /// is the header again.
     Header,
     /// Its contact is no card.
     Card(CardFault),
@@ -106,7 +107,7 @@ fn has_names(columns: &[Column], cells: &[Text]) -> bool
 }
 
 /// The most cells of a row that are looked for in other columns than their own.
-const MOVED_CELLS_MAX: usize = 1_000;
+const MOVED_CELLS_MAX: usize = 64;
 
 /// Whether more cells than that have a value that isn't the name of their own column. Such a row is
 /// no header again: to look for each among all columns would take the square of their number.

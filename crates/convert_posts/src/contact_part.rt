@@ -137,7 +137,7 @@ fn convert_contacts_in(
     let Some(contacts) = read_contacts(alloc, made.as_slice(), text, header)? else {
         return Ok(None);
     };
-    let columns = mapped_columns(alloc, contacts.columns(), !header.is_missing)?;
+    let columns = mapped_columns(alloc, contacts.columns(), header)?;
     let above = lines_told(asked, &header);
     match convert_rows(alloc, above, contacts, origin, starts)? {
         Some(converted) => Ok(Some(Contacts {

@@ -5,7 +5,7 @@ use crate::card_cut::front;
 use crate::unconverted::Unconverted;
 use base_types::NoMemory;
 use card_conversion::foreign_format;
-use contact_columns::{are_numbers, rows_end_with_returns, wish_fault};
+use contact_columns::{are_numbers, has_row_form, rows_end_with_returns, wish_fault};
 use contact_csv::{Header, find_header};
 use csv_cards::is_export;
 use import_text::{begins_with_word, is_card, split_piece};
@@ -31,6 +31,11 @@ const COMPARED_MAX: u64 = 65_536;
 
 /// The same for names that both aren't of ASCII, whose case costs more.
 const WIDE_COMPARED_MAX: u64 = 3_000;
+
+/// Why a later part of a file without a header isn't converted: by its own rows it may be cut into
+/// other columns than the first part.
+const OPEN_FORM: &str = "--columns: a later part of a file without a header needs the entry rows=, \
+     which the reply to the first part has";
 
 /// What a body has.
 #[derive(Clone, Copy)]
@@ -168,9 +173,12 @@ fn contacts_in<'a>(alloc: Global, asked: &'a Asked, body: &[u8]) -> Result<Conte
     if let Some(words) = header_bound(head, columns) {
         return Ok(without_header(asked, words));
     }
+    let is_by_number = asked.line > 1 && are_numbers(columns);
+    if is_by_number && !has_row_form(columns) && find_header(alloc, head, "")?.is_none() {
+        return Ok(Content::None(NotContent::Foreign(OPEN_FORM)));
+    }
     // A later part of a file without a header may have no row with all columns that are wished.
-    let is_tried = !columns.is_empty() && (asked.line <= 1 || !are_numbers(columns));
-    if is_tried && wish_fault(alloc, head, columns)?.is_some() {
+    if !columns.is_empty() && !is_by_number && wish_fault(alloc, head, columns)?.is_some() {
         return Ok(Content::None(NotContent::Columns));
     }
     if let Some(header) = find_header(alloc, head, columns)? {

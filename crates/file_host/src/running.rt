@@ -6,7 +6,9 @@ ghost use Rattle.cli_args.specs.declared.order.Order.{Order as TheOrder};
 ghost use Rattle.cli_host.specs.Exits.{EndsOrder, IsTryDone, IsTryStopped, ReportsBadArguments};
 ghost use Rattle.cli_host.specs.Exits.{ReportsStop};
 ghost use Rattle.cli_host.specs.OrdersOnHost.{KeepsOrderOutput, RunsOnHost, StopsOnHost};
+ghost use Rattle.cli_orders.specs.Inputs.{read_octets_max};
 ghost use Rattle.cli_orders.specs.Stops.{out_of_memory};
+ghost use Rattle.book_http.specs.Streams.{ReadsAtMost};
 ghost use Rattle.file_host.specs.FileHosts.{HasLog};
 
 use crate::host::FileHost;
@@ -72,6 +74,10 @@ pub fn run_and_report_on_files<F: Front + Copy, R: Read, W: Write, E: Write>(
         (E.contents errors.new) result
         ⊎ IsTryStopped input (W.contents writer.old) (W.contents writer.new)
         (E.contents errors.old) (E.contents errors.new) result) }
+
+    // `try` reads no more than a prefix of its input.
+    ensures at_most { order ≡ Ok TheOrder.Try →
+        ReadsAtMost read_octets_max (R.remaining reader.old) (R.remaining reader.new) }
 
     // The output of another order is printed and nothing is reported, or the stop is reported.
     ensures other_order { (other : TheOrder) → order ≡ Ok other → other ≢ TheOrder.Try →

@@ -47,10 +47,11 @@ says_left_out Labelled = false
 abbrev pub is_left_out : Change → Bool
 is_left_out change = says_left_out change.kind
 
--- one of the changes says that the line at the place is left out
+-- The line may have a picture or a sound, and one of the changes says that the line at its place is
+-- left out.
 abbrev pub is_left_out_at : List Change → RawLine → Bool
-is_left_out_at changes raw =
-    list_any (λ change. says_left_out change.kind && change.place == raw.place) changes
+is_left_out_at changes raw = is_media raw
+    && list_any (λ change. says_left_out change.kind && change.place == raw.place) changes
 
 -- one of the changes says so
 abbrev pub has_left_out : List Change → Bool

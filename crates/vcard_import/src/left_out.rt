@@ -43,17 +43,20 @@ fn says_left_out(change: &Change, place: usize) -> bool
     matches!(change.kind, ChangeKind::LeftOut) && change.place == place
 }
 
-/// Whether one of the changes says that the logical line is left out.
+/// Whether the logical line may have a picture or a sound, and one of the changes says that it is
+/// left out.
 fn is_left_out_at(changes: &[Change], raw: &RawLine) -> bool
     ensures { result ≡ is_left_out_at changes.now raw.now }
 {
-    changes
-        .iter()
-        .any(|change| says_left_out(change, raw.place))
+    is_media(raw)
+        && changes
+            .iter()
+            .any(|change| says_left_out(change, raw.place))
 }
 
-/// The logical lines of a card that the changes of its conversion call left out, in order. The only
-/// `Err` is out of memory.
+/// The logical lines of a card that the changes of its conversion call left out, in order. It looks
+/// at each change for each line that may have a picture or a sound. The only `Err` is out of
+/// memory.
 pub fn left_out_lines(
     alloc: Global,
     octets: &[u8],

@@ -7,8 +7,8 @@ with_octet : (octet : ℕ) (octets front : List ℕ) (b : Bool) → take (length
 with_octet octet octets front true e = ap (λ ys. octet ∷ ys) e
 with_octet octet octets front false e = refl
 
-pub take_before : (end : ℕ) (octets : List ℕ) → take (length (before end octets)) octets ≡ before end octets
-take_before end [] = refl
-take_before end (octet ∷ octets) =
-    subst (λ ys. take (length ys) (octet ∷ octets) ≡ ys) (sym (take_while-cons (λ o. not (o == end)) octet octets))
-    (with_octet octet octets (before end octets) (not (octet == end)) (take_before end octets))
+pub take_before : (mark : ℕ) (octets : List ℕ) → take (length (before mark octets)) octets ≡ before mark octets
+take_before mark [] = refl
+take_before mark (octet ∷ octets) =
+    subst (λ ys. take (length ys) (octet ∷ octets) ≡ ys) (sym (take_while-cons (λ o. not (o == mark)) octet octets))
+    (with_octet octet octets (before mark octets) (not (octet == mark)) (take_before mark octets))

@@ -1,38 +1,63 @@
 //! The octets of pictures and sounds that logical lines have in them.
 ghost use Rattle.std.specs.Prelude.{◌≡◌, IfOk, length};
 ghost use Rattle.std.specs.Option.{option_map};
-ghost use Rattle.vcard_property.specs.Media.{after, before, media_octets, uri_octets, value_octets};
+ghost use Rattle.vcard_property.specs.Media.{after, before, media_octets, says_base64};
+ghost use Rattle.vcard_property.specs.Media.{uri_octets, value_octets, without_backslash};
 
 use crate::binary::decoded_octets;
-use import_text::{begins_with_word, is_encoded_as};
+use import_text::begins_with_word;
 use std::alloc::Global;
 use vcard_text::NoMemory;
 
-/// The number of octets before the first one that is `end`.
-fn len_before(octets: &[u8], end: u8) -> usize
-    ensures { result ≡ length (before end octets.now) }
+/// The number of octets before the first one that is the mark.
+fn len_before(octets: &[u8], mark: u8) -> usize
+    ensures { result ≡ length (before mark octets.now) }
 {
-    octets.iter().take_while(|octet| **octet != end).count()
+    octets.iter().take_while(|octet| **octet != mark).count()
 }
 
-/// The octets before the first one that is `end`.
+/// The octets before the first one that is the mark.
 #[tactic(auto, using(crate::proofs::MediaLemmas::take_before))]
-fn before(octets: &[u8], end: u8) -> &[u8]
-    ensures { result.now ≡ before end octets.now }
+fn before(octets: &[u8], mark: u8) -> &[u8]
+    ensures { result.now ≡ before mark octets.now }
 {
-    let (front, _) = octets.split_at(len_before(octets, end));
+    let (front, _) = octets.split_at(len_before(octets, mark));
     front
 }
 
-/// The octets after the first one that is `end`; none if there is no such one.
-fn after(octets: &[u8], end: u8) -> &[u8]
-    ensures { result.now ≡ after end octets.now }
+/// The octets after the first one that is the mark; none if there is no such one.
+fn after(octets: &[u8], mark: u8) -> &[u8]
+    ensures { result.now ≡ after mark octets.now }
 {
-    let (_, rest) = octets.split_at(len_before(octets, end));
+    let (_, rest) = octets.split_at(len_before(octets, mark));
     match rest.split_first() {
         Some((_, more)) => more,
         None => rest,
     }
+}
+
+/// The octets without a backslash at their end.
+fn without_backslash(octets: &[u8]) -> &[u8]
+    ensures { result.now ≡ without_backslash octets.now }
+{
+    if octets.ends_with(b"\\") {
+        let (front, _) = octets.split_at(octets.len() - 1);
+        front
+    } else {
+        octets
+    }
+}
+
+/// Whether what is before the comma of a `data:` URI says that base64 follows.
+fn says_base64(front: &[u8]) -> bool
+    ensures { result ≡ says_base64 front.now }
+{
+    let front = without_backslash(front);
+    if front.len() < 7 {
+        return false;
+    }
+    let (_, word) = front.split_at(front.len() - 7);
+    word.eq_ignore_ascii_case(b";base64")
 }
 
 /// The octets of a `data:` URI that has base64. `None` for any other.
@@ -40,7 +65,7 @@ fn uri_octets(alloc: Global, uri: &[u8]) -> Result<Option<Vec<u8>>, NoMemory>
     ensures { IfOk result (λ found.
         option_map (λ octets. octets.items) found ≡ uri_octets uri.now) }
 {
-    if is_encoded_as(after(before(uri, b','), b':'), b"BASE64") {
+    if says_base64(before(uri, b',')) {
         decoded_octets(alloc, after(uri, b','))
     } else {
         Ok(None)
