@@ -17,9 +17,6 @@ pub(crate) const HEAD_OCTETS: usize = 16_384;
 /// The octets from which a format is known, and among which a card begins.
 const FRONT_OCTETS: usize = 131_072;
 
-/// The most lines among which a header is.
-const HEAD_LINES: u32 = 5;
-
 /// The most cells of a line among which a header is.
 const CELLS_MAX: u64 = 1_000;
 
@@ -99,7 +96,8 @@ impl Texts {
     }
 }
 
-/// The most cells of a line among which a header is, and the most of them that aren't of ASCII.
+/// The most cells of a line of the head, and the most of them that aren't of ASCII. Empty lines are
+/// passed when a header is looked for, so it may be any line.
 fn widest_line(head: &[u8]) -> Texts {
     let mut most = Texts { all: 0, wide: 0 };
     let end = if rows_end_with_returns(head) {
@@ -108,7 +106,10 @@ fn widest_line(head: &[u8]) -> Texts {
         b'\n'
     };
     let mut rest = head;
-    for _line in 0..HEAD_LINES {
+    for _line in 0..head.len() {
+        if rest.is_empty() {
+            break;
+        }
         let (line, after) = split_line(rest, end);
         let cells = Texts::count(line, b",;\t|");
         most.all = most.all.max(cells.all);
