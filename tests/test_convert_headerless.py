@@ -64,11 +64,49 @@ class Headerless(ConvertTest):
 
     def test_an_entry_that_says_so(self):
         octets = b"Wer,Adresse\nAnn,a@x.test\n"
-        for said, names in [(SAID, ["Wer", "Ann"]), (SAID + ",header", ["Ann"]),
-                            ("Header, " + SAID, ["Ann"]), ("Wer=fn,#2=email", ["Ann"])]:
+        for said, names in [(SAID + ",rows", ["Wer", "Ann"]), ("ROWS ," + SAID, ["Wer", "Ann"]),
+                            (SAID + ",rows=comma;cells=2", ["Wer", "Ann"]),
+                            (SAID + ",header", ["Ann"]), ("Header, " + SAID, ["Ann"]),
+                            ("Wer=fn,#2=email", ["Ann"])]:
             with self.subTest(said):
                 ended = self.convert(octets, said=said)
                 self.assertEqual((0, names), (ended.status, self.values(ended, "FN")))
+
+    def test_a_first_row_that_looks_like_a_header(self):
+        """It is neither lost nor made a person until somebody says which it is."""
+        why = ("the first row looks like a header: add the entry 'header', or 'rows' if it is a "
+               "person")
+        told = f"fault device 1: a.csv, --columns: {why}\n"
+        for first, said in [("Wer,Adresse", SAID), ("Wer,Ruf", "#1=fn,#2=tel"),
+                            ("\n\nWer,geboren", "#1=fn,#2=bday")]:
+            octets = f"{first}\nAnn,a@x.test 1\n".encode()
+            with self.subTest(first):
+                ended = self.convert(octets, said=said)
+                self.assertEqual((3, told, b""), (ended.status, ended.err.decode(), ended.out))
+                status, value = self.post(octets, "?columns=" + quote(said))
+                self.assertEqual((422, 35), (status, value["number"]))
+                self.assertIn(why, value["text"])
+        # Nothing in these contradicts its column.
+        for first, said in ("Wer,", SAID), ("Wer,x", "#1=fn,#2=note"), (",a@x.test", SAID):
+            with self.subTest(first):
+                ended = self.convert(f"{first}\nAnn,a@x.test\n".encode(), said=said)
+                self.assertEqual(0, ended.status)
+
+    def test_the_form_of_rows(self):
+        """It is what the entry says, whatever most rows look like."""
+        octets = b"Lee, Ann, Dr.;a@x.test\n"
+        for said, names in [(SAID + ",rows=semicolon;cells=2", ["Lee\\, Ann\\, Dr."]),
+                            (SAID + ",rows=comma;cells=3", ["Lee"])]:
+            with self.subTest(said):
+                self.assertEqual(names, self.values(self.convert(octets, said=said), "FN"))
+        for entry in ("rows=semicolon", "rows=dot;cells=2", "rows=comma;cells=0",
+                      "rows=comma;cells=x"):
+            with self.subTest(entry):
+                ended = self.convert(octets, said=f"{SAID},{entry}")
+                self.assertEqual(3, ended.status)
+                self.assertIn(b"is no property here", ended.err)
+        ended = self.convert(octets, said="#3=fn,rows=semicolon;cells=2")
+        self.assertIn(b"there is no column '#3'", ended.err)
 
     def test_a_suggestion_keeps_the_header(self):
         octets = b'"Mail, alt","Name, ganz"\na@x.test,Ann\n'
@@ -125,16 +163,32 @@ class Headerless(ConvertTest):
         rows = "".join(f"Ann {number},a{number}@x.test,{number}\n" for number in range(3_000))
         rows += "too short\n" + 'Bob,b@x.test,"open\n' + "Cy,c@x.test,\n"
         said = "#1=fn,#2=email,#3=note"
-        more = "&columns=" + quote(said)
+        form = said + ",rows=comma;cells=3"
+        more = "&columns=" + quote(form)
         octets = rows.encode()
         for sizes in [], [20_000], [40_000, 30_001], [len(octets) - 12]:
             with self.subTest(sizes):
                 parts = self.compare(octets, "a.csv", sizes, ["--columns", said], more)
                 self.assertEqual({0}, {part["header"] for part in parts})
-                self.assertEqual({said}, {part["columns"] for part in parts})
+                self.assertEqual({form}, {part["columns"] for part in parts})
+
+    def test_a_later_part_has_the_form_of_the_first(self):
+        """By its own rows alone this one would be cut at its commas, into other columns."""
+        first = self.part(b"Lee, Ann;a@x.test\nRay, Bob;b@x.test\n", "?columns=" + quote(SAID))
+        self.assertEqual(SAID + ",rows=semicolon;cells=2", first["columns"])
+        query = f"?line={first['line']}&card={first['card']}&columns="
+        last = b"Fox, Cy, Dr.;c@x.test\n"
+        part = self.part(last, query + quote(first["columns"]))
+        self.assertIn("FN:Fox\\, Cy\\, Dr.", part["rows"][0]["vcard"])
+        status, value = self.post(last, query + quote(SAID))
+        self.assertEqual((422, 35), (status, value["number"]))
+        self.assertIn("needs the entry rows=", value["text"])
+        # One with a header that is known needs none.
+        self.part(b"Name,Email\nAnn,a@x.test\n", query + quote(SAID))
 
     def test_a_part_that_has_no_whole_row(self):
         """A later part in which no row has all columns is told, and not refused."""
-        part = self.part(b"too short\n", "?line=9&card=9&columns=" + quote(SAID))
+        said = SAID + ",rows=comma;cells=2"
+        part = self.part(b"too short\n", "?line=9&card=9&columns=" + quote(said))
         self.assertEqual((0, 1, [{"card": 9, "line": 9, "text": WIDTH}]),
                          (part["written"], part["not_carried"], part["report"]))
