@@ -2,7 +2,7 @@
 
 use crate::card_sink::SinkFault;
 use base_types::{NoMemory, Text};
-use std::alloc::AllocError;
+use std::alloc::{AllocError, AllocFailed};
 use std::io::{Error, ErrorKind};
 
 /// Why a conversion stopped before the end of its file.
@@ -26,6 +26,12 @@ impl From<NoMemory> for ConversionFault {
 
 impl From<AllocError> for ConversionFault {
     fn from(_error: AllocError) -> ConversionFault {
+        ConversionFault::Memory
+    }
+}
+
+impl<T: Drop> From<AllocFailed<T>> for ConversionFault {
+    fn from(_error: AllocFailed<T>) -> ConversionFault {
         ConversionFault::Memory
     }
 }
