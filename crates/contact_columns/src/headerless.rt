@@ -4,7 +4,7 @@ ghost use Rattle.std.specs.Prelude.{◌≡◌, [], IfOk, false};
 use crate::above::{lines_above, names_delimiter};
 use crate::dates::DateOrder;
 use crate::header::{Header, empty_lines, line_len};
-use crate::row_ends::rows_end_with_returns;
+use crate::row_ends::{first_end_place, rows_end_with_returns};
 use crate::wishes::{RowForm, most_number, wished_form};
 use csv::{ByteRecord, ReaderBuilder};
 use std::alloc::Global;
@@ -56,10 +56,19 @@ fn is_better(one: Form, other: Option<Form>) -> bool {
     }
 }
 
-/// The form that most of the first rows have, of those with at least this number of cells.
-fn form_of(alloc: Global, octets: &[u8], least: usize) -> Result<Option<Form>, NoMemory> {
+/// The form that most of the first rows have, of those with at least this number of cells. `named`
+/// is the delimiter that a line above them names.
+fn form_of(
+    alloc: Global,
+    octets: &[u8],
+    least: usize,
+    named: Option<u8>,
+) -> Result<Option<Form>, NoMemory> {
     let mut found: Option<Form> = None;
     for delimiter in DELIMITERS {
+        if named.is_some() && named != Some(delimiter) {
+            continue;
+        }
         let widths = first_widths(alloc, octets, delimiter)?;
         for width in &widths {
             let width = *width;
@@ -76,23 +85,56 @@ fn form_of(alloc: Global, octets: &[u8], least: usize) -> Result<Option<Form>, N
     Ok(found)
 }
 
-/// The number of octets before the first row, and the number of their lines: empty ones, and one
-/// that names the delimiter.
-fn rows_start(head: &[u8], are_returns: bool) -> (usize, u64) {
-    let (start, lines) = empty_lines(head, are_returns);
-    let rest = head.get(start..).unwrap_or(&[]);
-    if !names_delimiter(rest) {
-        return (start, lines);
-    }
-    let start = start.saturating_add(line_len(rest, are_returns));
-    let (more, empty) = empty_lines(head.get(start..).unwrap_or(&[]), are_returns);
-    let lines = lines.saturating_add(1).saturating_add(empty);
-    (start.saturating_add(more), lines)
+/// What is before the rows.
+#[derive(Clone, Copy)]
+struct RowsStart {
+    octets: usize,
+    lines: u64,
+    /// The delimiter that it names, if it is one that is tried.
+    named: Option<u8>,
 }
 
-/// The form of these rows: the one that is wished, or else the one that most of them have. `None` if
-/// none has all columns that are wished.
-fn rows_form(alloc: Global, rows: &[u8], wished: &str) -> Result<Option<RowForm>, NoMemory> {
+/// The delimiter that a line names, if it is one that is tried.
+fn named_delimiter(line: &[u8]) -> Option<u8> {
+    let text = line.strip_prefix(b"\xEF\xBB\xBF").unwrap_or(line);
+    let text = text.strip_prefix(b"\"").unwrap_or(text);
+    let named = text.get(4).copied()?;
+    if DELIMITERS.iter().any(|delimiter| *delimiter == named) {
+        Some(named)
+    } else {
+        None
+    }
+}
+
+/// The octets up to the end of a line that names the delimiter, perhaps after empty ones. Empty
+/// lines before the first row belong to the rows: else those at the front of a later part of a file
+/// would be none of its lines.
+fn rows_start(head: &[u8], are_returns: bool) -> RowsStart {
+    let (start, lines) = empty_lines(head, are_returns);
+    let rest = head.get(start..).unwrap_or(&[]);
+    if names_delimiter(rest) {
+        RowsStart {
+            octets: start.saturating_add(line_len(rest, are_returns)),
+            lines: lines.saturating_add(1),
+            named: named_delimiter(rest),
+        }
+    } else {
+        RowsStart {
+            octets: 0,
+            lines: 0,
+            named: None,
+        }
+    }
+}
+
+/// The form of these rows: the one that is wished, or else the one that most of them have, with the
+/// delimiter that is named above them. `None` if none has all columns that are wished.
+fn rows_form(
+    alloc: Global,
+    rows: &[u8],
+    wished: &str,
+    named: Option<u8>,
+) -> Result<Option<RowForm>, NoMemory> {
     let least = most_number(wished);
     if let Some(form) = wished_form(wished) {
         return Ok(if least <= form.width {
@@ -101,7 +143,7 @@ fn rows_form(alloc: Global, rows: &[u8], wished: &str) -> Result<Option<RowForm>
             None
         });
     }
-    match form_of(alloc, rows, least)? {
+    match form_of(alloc, rows, least, named)? {
         Some(form) => Ok(Some(RowForm {
             delimiter: form.delimiter,
             width: form.width,
@@ -118,18 +160,18 @@ pub(crate) fn find_rows<'a>(
     wished: &'a str,
 ) -> Result<Option<Header<'a>>, NoMemory> {
     let are_returns = rows_end_with_returns(head);
-    let (start, lines) = rows_start(head, are_returns);
-    let rest = head.get(start..).unwrap_or(&[]);
+    let start = rows_start(head, are_returns);
+    let rest = head.get(start.octets..).unwrap_or(&[]);
     let least = most_number(wished);
-    let (delimiter, width) = match rows_form(alloc, rest, wished)? {
+    let (delimiter, width) = match rows_form(alloc, rest, wished, start.named)? {
         Some(form) => (form.delimiter, form.width),
-        None if !rest.is_empty() && least <= COLUMNS_MAX => (b',', least),
+        None if !rest.is_empty() && least <= COLUMNS_MAX => (start.named.unwrap_or(b','), least),
         None => return Ok(None),
     };
-    let before = head.get(..start).unwrap_or(&[]);
+    let before = head.get(..start.octets).unwrap_or(&[]);
     Ok(Some(Header {
-        start,
-        lines,
+        start: start.octets,
+        lines: start.lines,
         above: lines_above(alloc, before, are_returns, delimiter, width)?,
         delimiter,
         width,
@@ -146,9 +188,9 @@ pub(crate) fn number_names(
     head: &[u8],
     wished: &str,
 ) -> Result<Option<Items<Text>>, NoMemory> {
-    let (start, _) = rows_start(head, rows_end_with_returns(head));
-    let rest = head.get(start..).unwrap_or(&[]);
-    let Some(form) = rows_form(alloc, rest, wished)? else {
+    let start = rows_start(head, rows_end_with_returns(head));
+    let rest = head.get(start.octets..).unwrap_or(&[]);
+    let Some(form) = rows_form(alloc, rest, wished, start.named)? else {
         return Ok(None);
     };
     let mut names = Items::new(alloc);
@@ -164,16 +206,14 @@ fn number_name(alloc: Global, place: usize) -> Result<Text, NoMemory> {
     Ok(Text::new(format!(in alloc; "#{number}")?))
 }
 
-/// The end of the first line of the octets.
+/// The end of the first line of the octets. One in quotes belongs to a cell.
 fn first_line_end(octets: &[u8]) -> &'static [u8] {
     if rows_end_with_returns(octets) {
         return b"\r";
     }
-    let feed = octets.iter().position(|octet| *octet == b'\n').unwrap_or(0);
-    if octets.get(..feed).unwrap_or(&[]).ends_with(b"\r") {
-        b"\r\n"
-    } else {
-        b"\n"
+    match first_end_place(octets) {
+        Some(place) if octets.get(place).copied() == Some(b'\r') => b"\r\n",
+        _ => b"\n",
     }
 }
 

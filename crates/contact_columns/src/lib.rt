@@ -38,7 +38,7 @@ pub use header::{Header, find_header, unknown_columns};
 pub use headerless::made_header;
 pub use mapping::mapped_columns;
 pub use meaning::{Part, component_count};
-pub use row_ends::rows_end_with_returns;
+pub use row_ends::{end_rows, rows_end_with_returns};
 pub use row_scan::{RowEnd, row_end};
 pub use row_text::{BROKEN_ROW, LONG_ROW, RowText};
 pub use slots::{Slot, SlotColumn};

@@ -1,11 +1,38 @@
 //! How the lines of a file of rows end.
 
+/// Whether a quote that begins a cell may stand after this octet.
+fn is_before_cell(octet: u8) -> bool {
+    matches!(
+        octet,
+        b',' | b';' | b'\t' | b'|' | b'\r' | b'\n' | b'"' | b'\xBF'
+    )
+}
+
+/// The place of the first octet that ends a line; of those in cells in quotes only if there is no
+/// other. The last octet of a byte order mark may be before a cell, too.
+pub(crate) fn first_end_place(octets: &[u8]) -> Option<usize> {
+    let mut is_quoted = false;
+    let mut quoted: Option<usize> = None;
+    let mut before = b'\n';
+    for (place, octet) in octets.iter().enumerate() {
+        let octet = *octet;
+        if octet == b'"' {
+            is_quoted = !is_quoted && is_before_cell(before);
+        } else if octet == b'\n' || octet == b'\r' {
+            if !is_quoted {
+                return Some(place);
+            }
+            quoted = quoted.or(Some(place));
+        }
+        before = octet;
+    }
+    quoted
+}
+
 /// Whether the first line ends with a carriage return, and no line feed comes after it. `None` if
-/// the octets don't show it.
+/// the octets don't show it. A line end in quotes belongs to a cell.
 pub(crate) fn first_end(octets: &[u8]) -> Option<bool> {
-    let place = octets
-        .iter()
-        .position(|octet| *octet == b'\n' || *octet == b'\r')?;
+    let place = first_end_place(octets)?;
     let end = octets.get(place..).unwrap_or(&[]);
     let returns = end.iter().position(|octet| *octet != b'\r')?;
     Some(returns > 0 && end.get(returns).copied() != Some(b'\n'))
@@ -17,10 +44,11 @@ pub fn rows_end_with_returns(head: &[u8]) -> bool {
     first_end(head) == Some(true)
 }
 
-/// Makes a line feed of each carriage return that no line feed follows.
-pub(crate) fn end_rows(octets: &mut [u8]) {
+/// Makes a line feed of each carriage return, but not of those of CR LF and CR CR LF.
+pub fn end_rows(octets: &mut [u8]) {
     for place in 0..octets.len() {
-        let is_before_feed = octets.get(place.saturating_add(1)).copied() == Some(b'\n');
+        let rest = octets.get(place..).unwrap_or(&[]);
+        let is_before_feed = rest.starts_with(b"\r\n") || rest.starts_with(b"\r\r\n");
         if let Some(octet) = octets.get_mut(place) {
             if *octet == b'\r' && !is_before_feed {
                 *octet = b'\n';

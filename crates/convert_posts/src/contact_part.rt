@@ -6,7 +6,6 @@ ghost use Rattle.convert_posts.specs.declared.part.Kind.TheVariants as TheKind;
 
 use crate::asked::Asked;
 use crate::card_cut::front;
-use crate::card_part::read_all;
 use crate::content::HEAD_OCTETS;
 use crate::converted::{Converted, convert_rows};
 use crate::cut::{Cut, count_feeds};
@@ -15,9 +14,9 @@ use crate::part::{Dates, Kind, Part};
 use crate::row_cut::{RowKind, cut_rows, header_len};
 use crate::row_list::Origin;
 use base_types::{NoMemory, Text};
-use card_conversion::LineEnds;
 use contact_columns::{
-    DateOrder, RowText, made_header, mapped_columns, read_date_order, rows_end_with_returns,
+    DateOrder, RowText, end_rows, made_header, mapped_columns, read_date_order,
+    rows_end_with_returns,
 };
 use contact_csv::{AboveLine, ContactFault, ContactReader, Header};
 use std::alloc::Global;
@@ -220,11 +219,10 @@ fn cut_body(alloc: Global, body: &[u8], header: Header<'_>, more: bool) -> Resul
     if !rows_end_with_returns(front(body, HEAD_OCTETS)) {
         return cut_text(alloc, body, header, more);
     }
-    let reader = LineEnds {
-        reader: body,
-        are_returns: true,
-    };
-    let text = read_all(alloc, reader)?;
+    // The lines are counted as `RowText` counts them: CR LF in a cell is one end.
+    let mut text = Vec::new(alloc);
+    text.extend_from_slice(body)?;
+    end_rows(text.as_mut_slice());
     let rows = cut_text(alloc, text.as_slice(), header, more)?;
     Ok(RowsCut {
         header: rows.header,

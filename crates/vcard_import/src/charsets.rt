@@ -32,14 +32,21 @@ fn first_unknown(
     Ok(None)
 }
 
+/// The logical lines of the octets. The only `Err` is out of memory.
+pub(crate) fn all_raw_lines(alloc: Global, octets: &[u8]) -> Result<Vec<RawLine>, NoMemory>
+    ensures { IfOk result (λ raws. raws.items ≡ card_raw_lines octets.now) }
+{
+    let lines = without_end(without_bom(octets));
+    read_raw_lines(alloc, lines, folding_of(octets))
+}
+
 /// The logical lines of the octets, if the text of each is known.
 pub(crate) fn card_raw_lines(alloc: Global, octets: &[u8]) -> Result<Vec<RawLine>, ImportFault>
     ensures lines { IfOk result (λ raws. raws.items ≡ card_raw_lines octets.now) }
     ensures refused { IfErr result (λ fault. fault ≢ Memory → HasCharset octets.now fault) }
 {
     let version = version_of(octets);
-    let lines = without_end(without_bom(octets));
-    let raws = read_raw_lines(alloc, lines, folding_of(octets))?;
+    let raws = all_raw_lines(alloc, octets)?;
     match first_unknown(alloc, raws.as_slice(), version)? {
         Some(name) => Err(ImportFault::Charset(name)),
         None => Ok(raws),

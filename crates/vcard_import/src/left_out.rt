@@ -1,13 +1,12 @@
 //! Lines that are left out of a card that would be too long with them.
 ghost use Rattle.std.specs.Prelude.{◌≡◌, ◌&&◌, ◌==◌, IfOk, IsTrue, true};
+ghost use Rattle.std.specs.List.{list_any};
 ghost use Rattle.vcard_import.specs.Conversions.{left_out_lines};
 ghost use Rattle.vcard_import.specs.LeftOut.{is_left_out_at, is_media, says_left_out};
 
 use crate::change::Change;
-use crate::conversion::without_bom;
-use crate::ends::without_end;
-use crate::folds::folding_of;
-use import_text::{RawLine, begins_with_word, is_encoded_as, read_raw_lines};
+use crate::charsets::all_raw_lines;
+use import_text::{RawLine, begins_with_word, is_encoded_as};
 use std::alloc::Global;
 use vcard_property::ChangeKind;
 use vcard_text::{Line, NoMemory};
@@ -43,15 +42,20 @@ fn says_left_out(change: &Change, place: usize) -> bool
     matches!(change.kind, ChangeKind::LeftOut) && change.place == place
 }
 
+/// Whether one of the changes says that the line at the place is left out.
+fn is_told(changes: &[Change], place: usize) -> bool
+    ensures { result ≡ list_any
+        (λ change. says_left_out change.kind && change.place == place) changes.now }
+{
+    changes.iter().any(|change| says_left_out(change, place))
+}
+
 /// Whether the logical line may have a picture or a sound, and one of the changes says that it is
 /// left out.
 fn is_left_out_at(changes: &[Change], raw: &RawLine) -> bool
     ensures { result ≡ is_left_out_at changes.now raw.now }
 {
-    is_media(raw)
-        && changes
-            .iter()
-            .any(|change| says_left_out(change, raw.place))
+    is_media(raw) && is_told(changes, raw.place)
 }
 
 /// The logical lines of a card that the changes of its conversion call left out, in order. It looks
@@ -64,8 +68,7 @@ pub fn left_out_lines(
 ) -> Result<Vec<RawLine>, NoMemory>
     ensures { IfOk result (λ lines. lines.items ≡ left_out_lines octets.now changes.now) }
 {
-    let lines = without_end(without_bom(octets));
-    let mut raws = read_raw_lines(alloc, lines, folding_of(octets))?;
+    let mut raws = all_raw_lines(alloc, octets)?;
     raws.retain(|raw| is_left_out_at(changes, raw));
     Ok(raws)
 }
