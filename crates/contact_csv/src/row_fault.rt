@@ -1,7 +1,7 @@
 //! `RowFault`: why a row isn't converted.
 ghost use Rattle.std.specs.Prelude.{◌≡◌, [], IfSome, IsTrue, get_or, map, true};
 ghost use Rattle.std.specs.List.{list_all};
-ghost use Rattle.std.specs.Str.{trim};
+ghost use Rattle.std.specs.Str.{str_eq_ignore_ascii_case, trim};
 ghost use Rattle.csv.specs.Records.{fields_of};
 ghost use Rattle.contact_columns.specs.Cells.{cell_text, is_void};
 ghost use Rattle.contact_csv.specs.Contacts.{IsFaulty};
@@ -69,23 +69,29 @@ fn has_width(columns: &[Column], row: &ByteRecord) -> bool
     row.len() == columns.len()
 }
 
+/// Whether the column has this name, in any case.
+fn has_name(column: &Column, name: &str) -> bool
+    ensures { result ≡ str_eq_ignore_ascii_case column.now.name name.now }
+{
+    column.name.as_str().eq_ignore_ascii_case(name)
+}
+
 /// Whether a column has this name, in any case.
 fn has_column(columns: &[Column], name: &str) -> bool
     ensures { result ≡ has_column columns.now name.now }
 {
-    columns
-        .iter()
-        .any(|column| column.name.as_str().eq_ignore_ascii_case(name))
+    columns.iter().any(|column| has_name(column, name))
 }
 
 /// Whether the cell at the index has the name of its own column.
+#[tactic(auto, using(std::proofs::lemmas::List::Folds::list_any_at))]
 fn is_own_name(columns: &[Column], place: usize, cell: &str) -> bool
-    ensures { IsTrue result (has_column columns.now (trim cell.now) ≡ true) }
+    ensures { IsTrue result → has_column columns.now (trim cell.now) ≡ true }
 {
-    match columns.get(place) {
-        Some(column) => column.name.as_str().eq_ignore_ascii_case(cell.trim()),
-        None => false,
+    if place >= columns.len() {
+        return false;
     }
+    has_name(&columns[place], cell.trim())
 }
 
 /// Whether the cell at the index has no value, or is the name of a column. Its own column comes
@@ -97,13 +103,15 @@ fn is_name_of(columns: &[Column], place: usize, cell: &str) -> bool
 }
 
 /// Whether each cell that has a value is the name of a column.
+#[tactic(auto, using(std::proofs::lemmas::List::Folds::list_all_more))]
 fn has_names(columns: &[Column], cells: &[Text]) -> bool
     ensures { result ≡ list_all (is_name_of columns.now) cells.now }
 {
-    cells
-        .iter()
-        .enumerate()
-        .all(|(place, cell)| is_name_of(columns, place, cell.as_str()))
+    let mut are_names = true;
+    for place in 0..cells.len() {
+        are_names = are_names && is_name_of(columns, place, cells[place].as_str());
+    }
+    are_names
 }
 
 /// The most cells of a row that are looked for in other columns than their own.
