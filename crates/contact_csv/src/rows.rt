@@ -57,6 +57,11 @@ fn ends_late(header: &ByteRecord, line: u64) -> bool {
     line <= count_feeds(header).saturating_add(1)
 }
 
+/// The number of lines of a header that aren't the file's.
+fn made_lines(header: Header<'_>) -> u64 {
+    if header.is_missing { 1 } else { 0 }
+}
+
 impl<R: Read + Drop> ContactReader<R> {
     /// Reads the header of a file, with which the source begins (see `find_header`, and
     /// `made_header` for a file that has none).
@@ -99,7 +104,7 @@ impl<R: Read + Drop> ContactReader<R> {
                     columns,
                     owners,
                     lines_before: header.lines,
-                    lines_made: if header.is_missing { 1 } else { 0 },
+                    lines_made: made_lines(header),
                     is_late,
                 })
             }
