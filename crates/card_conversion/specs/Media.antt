@@ -1,6 +1,6 @@
 -- What becomes of the pictures and sounds that cards are carried without, because they would be too
 -- long with them. `takes` is what writing octets does to their sink.
-use Rattle.std.specs.Prelude.{ℕ, ◌≡◌, ◌⊎◌, ⊤, ⊥, List, [], ◌∷◌, Option, Some, None}
+use Rattle.std.specs.Prelude.{ℕ, ◌≡◌, ◌⊎◌, ⊤, List, [], ◌∷◌, Option, Some, None}
 use Rattle.import_text.specs.declared.raw_line.RawLine.{RawLine}
 use Rattle.vcard_text.specs.Cards.{uid_of}
 use Rattle.vcard_import.specs.Conversions.{left_out_lines}

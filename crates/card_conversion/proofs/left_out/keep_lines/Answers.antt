@@ -1,7 +1,6 @@
-use Rattle.std.proofs.Common.{[], List, refl, sym, arith, subst}
+use Rattle.std.proofs.Common.{arith, subst}
 use Rattle.std.proofs.lemmas.List.{take_all}
 use Rattle.card_conversion.specs.Media.{PutsLines}
-use Rattle.card_conversion.specs.declared.media_sink.Kept.{Kept}
 use Rattle.card_conversion.proofs.MediaLemmas.{line_step}
 use Rattle.card_conversion.proofs.left_out.keep_lines.Goals as goal
 
