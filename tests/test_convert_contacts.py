@@ -548,6 +548,18 @@ class ConvertContacts(OrderTest):
                 self.assertEqual((len(lines), report), (ended.status, ended.err.decode()))
                 self.assertEqual(names, self.names(ended))
 
+    def test_the_header_again_in_another_order(self):
+        """At most 64 of its names may be in other columns than their own."""
+        for moved in 64, 66:
+            with self.subTest(moved):
+                others = [f"C{place}" for place in range(moved)]
+                rows = [["Name", "Email", *others], ["Name", "Email", *others[::-1]],
+                        ["Ann", "a@x.test", *others[1:], ""]]
+                ended = self.convert("".join(",".join(row) + "\n" for row in rows).encode())
+                again = "row 1, line 2: not carried: it is the header again" in ended.err.decode()
+                self.assertEqual((moved == 64, 1 if again else 0), (again, ended.status))
+                self.assertEqual(["Ann"] if again else ["Name", "Ann"], self.names(ended))
+
     def test_line_ends_in_a_cell(self):
         """Each of CR LF, CR, LF and CR CR LF ends a line, whatever ends the rows."""
         note = "one\r\ntwo\rthree\nfour\r\r\nfive\n\rsix"

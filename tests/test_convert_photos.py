@@ -87,6 +87,7 @@ class ConvertPhotos(OrderTest):
             ("a URI", "3.0", f"item1.PHOTO;VALUE=uri:data:image/jpeg;base64,{text}"),
             ("a URI", "4.0", folded(f"PHOTO:data:image/jpeg;base64,{text}", 75, 74)),
             ("without padding", "4.0", f"photo:DATA:image/jpeg;BASE64,{text.rstrip('=')}"),
+            ("with an escaped comma", "4.0", f"PHOTO:data:image/jpeg;base64\\,{text}"),
         ]:
             with self.subTest(title, version=version):
                 ended = self.convert(card("a", line, version=version))
@@ -144,6 +145,25 @@ class ConvertPhotos(OrderTest):
                 self.assertEqual((1, self.told([line], 1, ", 1 photos not written")),
                                  (ended.status, ended.err.decode()))
                 self.assertEqual({}, self.photos())
+
+    def test_a_uri_that_only_names_base64(self):
+        """RFC 2397: the word is the last one before the comma."""
+        line = f"PHOTO:data:a/b;name=base64.x,{text_of(JPEG)}"
+        ended = self.convert(card("a", line, version="4.0"))
+        wanted = "card 1, line 5: PHOTO left out: its value is no base64 that can be read"
+        self.assertEqual((1, {}), (ended.status, self.photos()))
+        self.assertIn(wanted, ended.err.decode())
+
+    def test_very_many_of_a_card(self):
+        line = binary("PHOTO", GIF[:300])
+        for count, written in (1_000, 1_000), (1_001, 0):
+            with self.subTest(count):
+                ended = self.convert(card("a", *[line] * count), name=f"{count}.vcf")
+                self.assertEqual((0 if written else 1, written), (ended.status, len(self.photos())))
+                too_many = b"PHOTO left out: the card has more than 1,000 of them\n"
+                self.assertEqual(not written, too_many in ended.err, ended.err)
+                for path in (self.folder / "p").iterdir():
+                    path.unlink()
 
     def test_what_stays(self):
         """A card that is short enough keeps its photo, and any card a photo that is elsewhere."""
