@@ -64,8 +64,6 @@ pub trait MediaSink {
 pub struct NoMedia;
 
 impl MediaSink for NoMedia {
-    ghost use Rattle.std.specs.Prelude.{⊥};
-
     ghost takes = { λ _ _ _ _. ⊥ };
 
     fn is_open(&self) -> bool {
