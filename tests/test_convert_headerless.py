@@ -58,6 +58,10 @@ class Headerless(ConvertTest):
         note = "line 1: a line above the header isn't carried\n"
         self.assertEqual((0, ["Ann"]), (ended.status, self.values(ended, "FN")))
         self.assertTrue(ended.err.decode().startswith(note), ended.err)
+        # With the entry `rows` none is one.
+        for entry in "rows", "rows=comma;cells=3":
+            ended = self.convert(octets, said=f"#1=fn,#3=note,{entry}")
+            self.assertEqual((0, ["Name", "Ann"]), (ended.status, self.values(ended, "FN")))
         ended = self.convert(octets, said="#4=fn")
         self.assertEqual(3, ended.status)
         self.assertIn(b"there is no column '#4'; there are: Name, Email, Shoe\n", ended.err)

@@ -6,7 +6,7 @@ use crate::dates::DateOrder;
 use crate::headerless::find_rows;
 use crate::row_ends::rows_end_with_returns;
 use crate::row_scan::mark_len;
-use crate::wishes::{are_numbers, most_number};
+use crate::wishes::{are_numbers, has_rows_entry, most_number};
 use csv::{ByteRecord, ReaderBuilder};
 use std::alloc::Global;
 use vcard_text::{NoMemory, Text};
@@ -150,7 +150,7 @@ fn header_with<'a>(header: Header<'_>, wished: &'a str) -> Header<'a> {
 /// Whether the file has no header: what is wished names each column by its number, and no row among
 /// the first lines is a header that is known. So a person isn't taken for one.
 pub(crate) fn is_missing(alloc: Global, head: &[u8], wished: &str) -> Result<bool, NoMemory> {
-    Ok(are_numbers(wished) && find_written(alloc, head, "")?.is_none())
+    Ok(are_numbers(wished) && (has_rows_entry(wished) || find_written(alloc, head, "")?.is_none()))
 }
 
 /// Finds the header of a file of contacts: in the first line, or after up to four other lines. Its
@@ -166,6 +166,9 @@ pub fn find_header<'a>(
 ) -> Result<Option<Header<'a>>, NoMemory> {
     if !are_numbers(wished) {
         return find_written(alloc, head, wished);
+    }
+    if has_rows_entry(wished) {
+        return find_rows(alloc, head, wished);
     }
     match find_written(alloc, head, "")? {
         Some(known) if most_number(wished) <= known.width => {
