@@ -110,7 +110,7 @@ class Headerless(ConvertTest):
                 self.assertEqual(3, ended.status)
                 self.assertIn(b"is no property here", ended.err)
         ended = self.convert(octets, said="#3=fn,rows=semicolon;cells=2")
-        self.assertIn(b"there is no column '#3'", ended.err)
+        self.assertIn(b"no row has all these columns", ended.err)
 
     def test_a_suggestion_keeps_the_header(self):
         octets = b'"Mail, alt","Name, ganz"\na@x.test,Ann\n'

@@ -160,7 +160,7 @@ class ConvertPhotos(OrderTest):
             with self.subTest(count):
                 ended = self.convert(card("a", *[line] * count), name=f"{count}.vcf")
                 self.assertEqual((0 if written else 1, written), (ended.status, len(self.photos())))
-                too_many = b"PHOTO left out: the card has more than 1,000 of them\n"
+                too_many = b"PHOTO left out: the card has more than 1,000 of them;"
                 self.assertEqual(not written, too_many in ended.err, ended.err)
                 for path in (self.folder / "p").iterdir():
                     path.unlink()
