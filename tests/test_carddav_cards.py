@@ -320,7 +320,7 @@ class States(unittest.TestCase):
                 with mock.patch("gateway.state.FORM", form):
                     state = State(path)
                 self.assertEqual(token, state.token(1))
-                state.apply(1, [Row("a", 1, '"1-x"', "text")], "token")
+                state.apply(1, [Row("a", 1, '"1-x"', "text")], "token", state.epoch)
                 epochs.append(state.epoch)
                 state.close()
             self.assertEqual([True, False, True],

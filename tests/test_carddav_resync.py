@@ -134,7 +134,7 @@ class Restores(RestoreTest):
         self.staff.put(card("a", "Ann"))
         self.stack.back_up()
         self.staff.put(card("a", "Anna"))
-        got = self.dav.ask("GET", STAFF + "a.vcf")
+        got, token = self.dav.ask("GET", STAFF + "a.vcf"), self.dav.sync(STAFF).token
         self.stack.kill_gateway()  # it looks at its books now and then, by itself
         self.stack.restore()
         self.stack.start_server()
@@ -145,9 +145,27 @@ class Restores(RestoreTest):
         reply = self.dav.ask("PUT", STAFF + "a.vcf", edited, If_Match=got.etag)
         self.assertEqual(412, reply.status)
         self.assertIn("the copy isn't the server's", self.stack.logged())
+        self.assertEqual(REFUSED, self.refusal(token))
         self.assertEqual(paths("a", "b"), set(self.dav.sync(STAFF).etags()))
         self.assertIn("FN:Ann\r\n", self.dav.ask("GET", STAFF + "a.vcf").text)
         self.assertIn("FN:Ann", lines_of(self.staff.get("a").text))
+
+    def test_a_server_that_is_behind(self):
+        """Once the gateway has seen fewer changes than before, no token of the lost time is taken,
+        also when there are as many again."""
+        self.staff.put(card("a", "Ann"))
+        self.stack.back_up()
+        self.staff.put(card("a", "Anna"))
+        self.staff.put(card("x", "Lost"))
+        token = self.dav.sync(STAFF).token
+        self.stack.restore()
+        self.stack.start_server()
+        self.assertEqual(paths("a"), set(self.dav.sync(STAFF).etags()))
+        self.assertIn("the copy is newer than the server's book", self.stack.logged())
+        for uid in "bcd":
+            self.staff.put(card(uid, "New"))
+        self.assertEqual(REFUSED, self.refusal(token))
+        self.assertEqual(paths(*"abcd"), set(self.dav.sync(STAFF).etags()))
 
     def test_a_book_of_the_lost_time(self):
         """A book that was made after the backup is gone, and another one has got its number."""

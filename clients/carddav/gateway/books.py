@@ -3,11 +3,15 @@
 Each book has a copy in the State, which is brought up to date before each request as any device
 does it (docs/API.md, "Syncing a device"): one request to the server if nothing is new. A change is
 sent with the version that the client saw, so nobody's edit is overwritten unseen.
+
+If the server's file was put back from a copy without a resync, the server takes tokens of the lost
+time again once its books have as many changes. So as soon as anything shows that the file is
+another one, another epoch begins: no client's token of before is passed on any more, and each
+client lists all cards again.
 """
 
 import threading
 import time
-from contextlib import ExitStack
 from typing import Callable, Collection, Dict, Iterator, List, NamedTuple, Optional, Set, Tuple
 
 from tosculai import Card, InvalidToken, NoSuchBook, Page, lines_of
@@ -16,18 +20,26 @@ from gateway import cards, files, unseen
 from gateway.office import Offices
 from gateway.people import People
 from gateway.photos import Photos
-from gateway.state import Entry, Row, State
+from gateway.state import Entry, Renewed, Row, State
 
 PAGE_MAX = 100  # members of a page, of the server
 PAGE_OCTETS = 4_000_000  # a page is asked to have about this size at most
 ROUNDS = 5  # attempts to read a whole book, if tokens are refused meanwhile
 PROGRESS = 2.0  # seconds between two lines of progress
+# Why the server refuses a token of another file: it is of another book, or newer than the book.
+# One that is too old is of this file, or was before a resync: the server never takes it again.
+ANOTHERS = (2, 3)
+EPOCH = "?names="
 
 Say = Callable[[str], None]
 
 
 class Missing(Exception):
     """There is no such book or card; the message says which."""
+
+
+def missing(name: str) -> Missing:
+    return Missing(f"there is no book {name}")
 
 
 class Changes(NamedTuple):
@@ -47,38 +59,70 @@ class Shelf:
         self.offices, self.state, self.photos, self.say = offices, state, photos, say
         self.country = country
         self._books: Dict[str, "AddressBook"] = {}
-        self._lock = threading.Lock()
+        self._known = state.books()  # numbers by name; another dictionary after each change of it
+        self._counts: Dict[int, int] = {}  # how many changes a book had at least, in this epoch
+        self._lock = threading.Lock()  # for these three; of a book's lock nobody waits within it
 
     def names(self) -> List[str]:
         """The names of all books, as the server has them now.
 
-        A book is never removed, and keeps its number. So if one of before isn't there, another file
-        is served, and each program lists all cards again.
+        A book is never removed, and keeps its number and its changes. So if one of before isn't
+        there, or has fewer changes, another file is served, and each program lists all cards again.
         """
-        known = self.state.books()
-        with self.offices.one() as office:
-            found = {str(it["name"]): int(it["id"]) for it in office.books()}
-        if not known.items() <= found.items():
-            self._start_over()
-        if known != found:
-            self.state.note_books(found)
-        with self._lock:
-            for name, number in found.items():
-                if name not in self._books or self._books[name].number != number:
-                    self._books[name] = AddressBook(self, name, number)
-            for name in set(self._books) - set(found):
-                del self._books[name]
-        return sorted(found)
+        while True:
+            with self._lock:
+                known, counts = self._known, self._counts
+            with self.offices.one() as office:
+                rows = office.books()
+            found = {str(it["name"]): int(it["id"]) for it in rows}
+            now = {int(it["id"]): int(it["number"]) for it in rows}
+            with self._lock:
+                # If something else is known by now, it can't be told which of the two is newer.
+                if known is self._known:
+                    self._take(found, now, counts)
+                    return sorted(found)
 
-    def _start_over(self) -> None:
-        self.say("a book is gone from the server, so its file is another one: all cards anew")
-        books = sorted(self._books.values(), key=lambda it: it.number)
-        with ExitStack() as locks:
-            for book in books:
-                locks.enter_context(book.lock)
-            self.state.start_over()
-            for book in books:
-                book.forget_people()
+    def _take(self, found: Dict[str, int], now: Dict[int, int], counts: Dict[int, int]) -> None:
+        """Takes the books that the server has, and their counts; these were known before it."""
+        stay = dict(self._known.items() & found.items())
+        if stay != self._known:
+            self._renew("a book is gone from the server, so its file is another one", stay)
+        elif any(count > now[number] for number, count in counts.items()):
+            self._renew("a book has lost changes, so the server's file is another one", stay)
+        if found != self._known:
+            self.state.note_books(found)
+            self._known = found
+        self._counts = {number: max(count, self._counts.get(number, 0))
+                        for number, count in now.items()}
+        books = self._books
+        self._books = {name: books[name] if name in books and books[name].number == number
+                       else AddressBook(self, name, number) for name, number in found.items()}
+
+    def start_over(self, why: str, epoch: str) -> None:
+        """Begins another epoch, since the file that was known in this one isn't the server's.
+
+        It is begun once, whoever finds that out at the same time.
+        """
+        with self._lock:
+            if epoch == self.state.epoch:
+                self._renew(why, self._known)
+        self.names()
+
+    def _renew(self, why: str, stay: Dict[str, int]) -> None:
+        self.say(f"{why}: all cards anew")
+        with self.state.changing(durably=True):
+            self.state.start_over(stay.values())
+            self.state.note_books(stay)
+        self._known, self._counts = dict(stay), {}
+
+    def epoch_of(self, book: "AddressBook") -> str:
+        """The epoch, in which this is a book of the server: it may have got another number."""
+        with self._lock:
+            if book.name not in self._books:
+                raise missing(book.name)
+            if self._books[book.name] is not book:
+                raise Renewed
+            return self.state.epoch
 
     def book(self, name: str) -> "AddressBook":
         if name not in self._books:
@@ -86,12 +130,23 @@ class Shelf:
         try:
             return self._books[name]
         except KeyError:
-            raise Missing(f"there is no book {name}") from None
+            raise missing(name) from None
 
     def load(self) -> None:
         """Brings all copies up to date, as the start does it aside."""
         for name in self.names():
             self.book(name).refresh()
+
+    def compare(self) -> None:
+        """Compares all copies with the server's cards.
+
+        A file that was put back may have had as many changes as were lost before anybody looked.
+        """
+        for name in self.names():
+            try:
+                self.book(name).compare()
+            except InvalidToken:
+                pass  # the book forgets meanwhile
 
 
 class AddressBook:
@@ -119,24 +174,37 @@ class AddressBook:
         """
         with self.lock:
             for left in reversed(range(ROUNDS)):
+                epoch = self.shelf.epoch_of(self)
                 try:
-                    token = self._follow(self.state.token(self.number))
+                    token = self._follow(self.state.token(self.number), epoch)
+                    self.state.whole(self.number, epoch)
                     break
-                except InvalidToken:
+                except InvalidToken as refusal:
                     if not left:
                         raise
-                    self.shelf.say(f"{self.name}: the server refuses the copy's token; all cards "
-                                   "anew")
-                    self._restart()
-            self.state.whole(self.number)
-            return wrapped_token(token, self.state.epoch)
+                    self._drop_token(refusal, epoch)
+                except Renewed:
+                    if not left:
+                        raise
+            return wrapped_token(token, epoch)
 
-    def _follow(self, token: str) -> str:
+    def _drop_token(self, refusal: InvalidToken, epoch: str) -> None:
+        """Lets the next round read all cards, since the server refuses the copy's token."""
+        if refusal.cause in ANOTHERS:
+            self.shelf.start_over(f"{self.name}: the copy is newer than the server's book, or "
+                                  "another one's", epoch)
+        else:
+            self.shelf.say(f"{self.name}: the server refuses the copy's token; all cards anew")
+            self.state.drop_token(self.number)
+
+    def _follow(self, token: str, epoch: str) -> str:
         """Brings the copy from this token to the newest one.
 
         Without a token all cards are read. Those that were in the copy before stay until the end,
         since a reply to a program may be reading them: a card that it misses is removed there.
         """
+        if not token:
+            self._people = None  # they may be those of another file
         seen: Optional[Set[str]] = None if token or not self.state.count(self.number) else set()
         loading = None
         for page in self.pages(token):
@@ -146,24 +214,16 @@ class AddressBook:
             if page.members or page.token != token:
                 rows = [row_of(it) for it in page.members]
                 if seen is None:
-                    self.state.apply(self.number, rows, page.token)
+                    self.state.apply(self.number, rows, page.token, epoch)
                 else:
                     seen.update(it.uid for it in rows)
                     self.state.apply(self.number, rows, "" if page.truncated else page.token,
-                                     None if page.truncated else seen)
+                                     epoch, None if page.truncated else seen)
                 self._tell(page.members)
             token = page.token
         if loading:
             loading.end()
         return token
-
-    def _restart(self) -> None:
-        """Lets the next refresh read all cards."""
-        self.state.drop_token(self.number)
-        self.forget_people()
-
-    def forget_people(self) -> None:
-        self._people = None
 
     def _tell(self, members: List[Card]) -> None:
         """Lets the people follow. If this fails, they are read anew."""
@@ -182,7 +242,7 @@ class AddressBook:
                     page = office.book(self.name).page(token, size if left is None
                                                        else min(size, left))
                 except NoSuchBook:
-                    raise Missing(f"there is no book {self.name}") from None
+                    raise missing(self.name) from None
             yield page
             if not page.truncated:
                 return
@@ -194,12 +254,26 @@ class AddressBook:
     def suspect(self, uid: str, old: Optional[Entry]) -> None:
         """After a conflict: a copy in which nothing has changed is that of another file."""
         with self.lock:
-            self.refresh()
+            epoch = epoch_in(self.refresh())
             found = self.state.entry(self.number, uid)
             if (found and found.version) == (old and old.version):
-                self.shelf.say(f"{self.name}: the copy isn't the server's; all cards anew")
-                self._restart()
+                self.shelf.start_over(f"{self.name}: the copy isn't the server's", epoch)
                 self.refresh()
+
+    def compare(self) -> None:
+        """Reads all cards, and starts over if the copy differs though the server takes its token.
+
+        A card that is changed meanwhile says nothing.
+        """
+        with self.lock:
+            epoch, token = epoch_in(self.refresh()), self.state.token(self.number)
+        there = {it.uid: row_of(it).etag for page in self.pages("") for it in page.members}
+        with self.lock:
+            self.refresh()
+            copy = {it.uid: it.etag for it in self.entries()}
+            later = {it.uid for page in self.pages(token) for it in page.members}
+        if any(there.get(it, "") != copy.get(it, "") for it in {*there, *copy} - later):
+            self.shelf.start_over(f"{self.name}: the copy isn't the server's", epoch)
 
     # Reading.
 
@@ -252,17 +326,18 @@ class AddressBook:
 
     # Tokens of clients.
 
-    def _unwrapped(self, wrapped: str) -> str:
-        token, _, epoch = wrapped.rpartition("?names=")
-        if wrapped and (epoch != self.state.epoch or not token):
+    def _unwrapped(self, wrapped: str, epoch: str) -> str:
+        token = wrapped.rpartition(EPOCH)[0]
+        if wrapped and (epoch_in(wrapped) != epoch or not token):
             raise InvalidToken(403, {"fault": "valid-sync-token", "number": 10, "cause": 1})
         return token
 
     def changes(self, wrapped: str, limit: Optional[int] = None) -> Changes:
         """What changed since a client's token, or since ever. Raises InvalidToken."""
-        token, epoch = self._unwrapped(wrapped), self.state.epoch
         with self.lock:
-            now = self.refresh()
+            now = self.refresh()  # first, since it may begin another epoch
+            epoch = epoch_in(now)
+            token = self._unwrapped(wrapped, epoch)
             if not wrapped and limit is None:
                 return Changes(self.entries(), [], now, False)
         if wrapped == now:  # the refresh has asked with this token
@@ -274,7 +349,7 @@ class AddressBook:
             token, truncated = page.token, page.truncated
         with self.lock:  # so that no card is there and gone at once
             self.refresh()  # so the copy is as new as the pages, or newer
-            # If the names were lost meanwhile, the token of before them is refused.
+            # If another epoch has begun meanwhile, the token of before it is refused.
             return self._told(members, bool(wrapped), wrapped_token(token, epoch), truncated)
 
     def _told(self, members: Dict[str, bool], has_token: bool, token: str,
@@ -312,7 +387,11 @@ class Loading:
 
 def wrapped_token(token: str, epoch: str) -> str:
     """A token for clients: that of the server, and the epoch of the names."""
-    return f"{token}?names={epoch}"
+    return f"{token}{EPOCH}{epoch}"
+
+
+def epoch_in(wrapped: str) -> str:
+    return wrapped.rpartition(EPOCH)[2]
 
 
 def row_of(card: Card) -> Row:

@@ -40,6 +40,7 @@ STATE = "/var/lib/tosculai-carddav"
 MEGA = 1_000_000
 DAYS = 30  # for which a photo is kept that no card names
 DAY = 86_400.0  # seconds
+SOON = 60.0  # seconds after the start, which other work takes
 
 
 def main(arguments: List[str]) -> int:
@@ -140,6 +141,7 @@ def serve(given: argparse.Namespace, shelf: Shelf) -> int:
     print(f"listening {where}", flush=True)
     threading.Thread(target=load, args=(shelf, users), daemon=True).start()
     threading.Thread(target=tidy_daily, args=(shelf,), daemon=True).start()
+    threading.Thread(target=compare_daily, args=(shelf,), daemon=True).start()
     signal.signal(signal.SIGTERM, lambda *_: os._exit(0))  # all that was replied to is kept
     try:
         server.serve_forever()
@@ -181,6 +183,18 @@ def tidy_daily(shelf: Shelf) -> None:
         except Exception as fault:
             say(f"photos stay for another day: {fault}")
         time.sleep(DAY)
+
+
+def compare_daily(shelf: Shelf) -> None:
+    """Compares the copies with the server's cards, which are all read for that."""
+    pause = SOON
+    while True:
+        time.sleep(pause)
+        pause = DAY
+        try:
+            shelf.compare()
+        except Exception as fault:
+            say(f"the copies are compared another day: {fault}")
 
 
 # Users.

@@ -13,7 +13,7 @@ from typing import Callable, List, Optional, Tuple
 from tosculai import Conflict, InvalidToken, Refused, lines_of, uid_of
 
 from gateway import categories, edits
-from gateway.books import AddressBook, Changes
+from gateway.books import AddressBook, Changes, epoch_in
 from gateway.cards import BadText, bare_uid
 from gateway.categories import Edit
 from gateway.edits import Conditions, Failed, Sent, Stored, UidInUse
@@ -46,18 +46,19 @@ class CategoryBook(AddressBook):
 
     def refresh(self) -> str:
         with self.lock:
-            number = self._follow()
+            epoch = epoch_in(self.plain.refresh())
+            number = self.shown.follow()
             for wish in self.shown.wishes():
                 self._repair(wish)
                 number = self.shown.follow()
-            return self._token(number)
+            return self._token(number, epoch)
 
     def _follow(self) -> int:
         self.plain.refresh()
         return self.shown.follow()
 
-    def _token(self, number: int) -> str:
-        return f"{TOKEN}{number}{EPOCH}{self.state.epoch}"
+    def _token(self, number: int, epoch: str) -> str:
+        return f"{TOKEN}{number}{EPOCH}{epoch}"
 
     def suspect(self, uid: str, old: Optional[Entry]) -> None:
         self.plain.suspect(uid, old)
@@ -86,8 +87,9 @@ class CategoryBook(AddressBook):
     def changes(self, wrapped: str, limit: Optional[int] = None) -> Changes:
         with self.lock:
             now = self.refresh()
-            last = self._number(now)
-            since = self._number(wrapped) if wrapped else 0
+            epoch = now.rpartition(EPOCH)[2]
+            last = self._number(now, epoch)
+            since = self._number(wrapped, epoch) if wrapped else 0
             if since > last:
                 raise refused()
             rows = self.shown.since(since, -1 if limit is None else limit + 1)
@@ -96,13 +98,13 @@ class CategoryBook(AddressBook):
             found = [self.shown.entry("cards.uid", it.uid) for it in rows if it.is_there]
             old = [it for row in rows for it in self.state.names(self.number, row.uid)]
             gone = [it for it in dict.fromkeys(old) if not self.named(it)] if wrapped else []
-            token = self._token(rows[-1].number) if truncated else now
+            token = self._token(rows[-1].number, epoch) if truncated else now
             return Changes([it for it in found if it], gone, token, truncated)
 
-    def _number(self, wrapped: str) -> int:
-        token, _, epoch = wrapped.rpartition(EPOCH)
+    def _number(self, wrapped: str, epoch: str) -> int:
+        token, _, own = wrapped.rpartition(EPOCH)
         number = token[len(TOKEN):]
-        if not (token.startswith(TOKEN) and epoch == self.state.epoch and number.isdecimal()
+        if not (token.startswith(TOKEN) and own == epoch and number.isdecimal()
                 and len(number) < 16):
             raise refused()
         return int(number)

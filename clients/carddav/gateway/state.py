@@ -8,7 +8,9 @@
 - **Views.** What is shown to programs whose groups are categories (shown.py).
 - **The epoch** is a part of each token for clients. If this file is lost, so are the names; then
   there is another epoch, all tokens are refused, and clients list all names again. So they do
-  once another version of the gateway gives them cards in another form, with other ETags.
+  once another version of the gateway gives them cards in another form, with other ETags, and once
+  the server's file is found to be another one (books.py). What was read of the server in an epoch
+  gets into the copies in that epoch alone.
 
 A commit of names is on the disk when it returns (`synchronous` FULL). One of copies need not be:
 rows and token are in one transaction, so after a power cut an older copy is there, with its token.
@@ -21,6 +23,8 @@ import sqlite3
 import threading
 from contextlib import contextmanager
 from typing import Collection, Dict, Iterable, Iterator, List, NamedTuple, Optional, Tuple
+
+from tosculai import Error
 
 from gateway.cards import FORM
 
@@ -60,6 +64,13 @@ PLAIN = re.compile(r"[A-Za-z0-9_][A-Za-z0-9_@.=+-]{0,99}")
 ENTRIES = ("SELECT names.name, cards.uid, cards.version, cards.etag FROM cards JOIN names"
            " ON names.book = cards.book AND names.uid = cards.uid AND names.old = 0"
            " WHERE cards.book = ?")
+
+
+class Renewed(Error):
+    """Another epoch has begun since the server was asked; as after a 503, ask again."""
+
+    def __init__(self) -> None:
+        super().__init__("the books are read anew: ask again", 503)
 
 
 class Entry(NamedTuple):
@@ -131,20 +142,24 @@ class State:
         with self.changing():
             self._db.executemany(statement, rows)
 
-    def start_over(self) -> None:
+    def start_over(self, stay: Collection[int] = ()) -> None:
         """Drops the copies and begins another epoch, so that each client lists all names again.
 
         So nobody asks for removals of before, and the names of cards that aren't there are dropped
-        once a book is read.
+        once a book is read. Replies may be reading the cards of the books that stay: these are
+        there until their book is read anew.
         """
+        others = f"book NOT IN ({', '.join('?' * len(stay))})"
         with self.changing(durably=True):
-            for table in ("books", "cards", *VIEWS):
-                self._db.execute(f"DELETE FROM {table}")
+            for table in ("cards", *VIEWS):
+                self._db.execute(f"DELETE FROM {table} WHERE {others}", [*stay])
+            self._db.execute("DELETE FROM books")
+            self._db.execute("UPDATE views SET token = ''")
             self.epoch = secrets.token_hex(4)
             self._db.execute("UPDATE facts SET value = ? WHERE name = 'epoch'", (self.epoch,))
             self._db.execute("DELETE FROM facts WHERE name GLOB 'book:*'")
             self._db.execute("INSERT OR IGNORE INTO stale SELECT DISTINCT book FROM names")
-        self._stale = {int(it) for it, in self._db.execute("SELECT book FROM stale")}
+            self._stale = {int(it) for it, in self._db.execute("SELECT book FROM stale")}
 
     def books(self) -> Dict[str, int]:
         """The books that the office is known to have: their numbers by name."""
@@ -156,16 +171,21 @@ class State:
             self._db.executemany("INSERT OR IGNORE INTO facts VALUES (?, ?)",
                                  [(f"book:{name}", str(it)) for name, it in books.items()])
 
-    def whole(self, book: int) -> None:
+    def whole(self, book: int, epoch: str) -> None:
         """Notes that the copy has the whole book, before a client gets a token of it."""
         if book not in self._stale:
             return
         with self.changing(durably=True):
+            self._expect(epoch)
             self._db.execute("DELETE FROM names WHERE book = ? AND (old = 1 OR NOT EXISTS ("
                              "SELECT 1 FROM cards WHERE cards.book = names.book AND"
                              " cards.uid = names.uid))", (book,))
             self._db.execute("DELETE FROM stale WHERE book = ?", (book,))
-        self._stale.discard(book)
+            self._stale.discard(book)
+
+    def _expect(self, epoch: str) -> None:
+        if epoch != self.epoch:
+            raise Renewed
 
     def end(self) -> None:
         """Writes the file anew, so that its octets have nothing of what was deleted; closes it."""
@@ -187,16 +207,18 @@ class State:
             self._db.execute("DELETE FROM books WHERE book = ?", (book,))
             self._db.execute("UPDATE views SET token = '' WHERE book = ?", (book,))
 
-    def apply(self, book: int, rows: List[Row], token: str,
+    def apply(self, book: int, rows: List[Row], token: str, epoch: str,
               only: Optional[Collection[str]] = None) -> None:
         """Puts a page of the server into the copy, and keeps its token, in one transaction.
 
-        If `only` is given, the copy keeps no card but those of these UIDs.
+        It was asked for in this epoch. If `only` is given, the copy keeps no card but those of
+        these UIDs.
         """
         there = [row for row in rows if row.text]
         gone = [(book, row.uid) for row in rows if not row.text]
         self.assign(book, [row.uid for row in there])  # before a client may be told of them
         with self.changing():
+            self._expect(epoch)
             if only is not None:
                 found = self._db.execute("SELECT uid FROM cards WHERE book = ?", (book,))
                 gone += [(book, uid) for uid, in found if uid not in only]
