@@ -161,7 +161,8 @@ class Restores(RestoreTest):
         self.stack.restore()
         self.stack.start_server()
         self.assertEqual(paths("a"), set(self.dav.sync(STAFF).etags()))
-        self.assertIn("the copy is newer than the server's book", self.stack.logged())
+        # By the token of its copy, or by its own look at the books, whichever comes first.
+        self.assertRegex(self.stack.logged(), "(is newer than|has lost changes).*: all cards anew")
         for uid in "bcd":
             self.staff.put(card(uid, "New"))
         self.assertEqual(REFUSED, self.refusal(token))
