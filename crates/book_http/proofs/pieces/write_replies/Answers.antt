@@ -1,3 +1,8 @@
+-- The replies are written by as many calls as it takes; after an error, a front of them is written.
+-- Given here: an induction over the tries so far. The invariant says that the first `count` octets
+-- are written. By the answer of `send`, a try adds some (`wrote_more`), or it was interrupted and
+-- adds none; each try is one call (`leaves_more`).
+-- If another error is tried again, `loop-try-preserved` breaks first.
 use Rattle.std.proofs.Common.{take, refl, arith, inl, inr, ◌∙◌}
 use Rattle.std.proofs.KnownBytes.{Appends-kept, Appends-nil}
 use Rattle.std.specs.IoError.{error_kind}

@@ -1,3 +1,8 @@
+-- A connection is served in turns: a piece is read, its replies are written and flushed, and so on.
+-- Given here: an induction over the pieces so far. The invariant has two parts: what was served and
+-- what is still to be read (`SoFar`, by `ServingLemmas`), and the order of the calls (`LeadsOn`, by
+-- `CallLemmas`). Each return ends both in its own way: at a fault of the reader or the writer, at
+-- the end of the input, at a closed session, or after too many pieces.
 use Rattle.std.proofs.Common.{◌≡◌, refl, arith, inr, ◌∙◌, ◌+◌, Bool, false, subst, sym, take, true}
 use Rattle.std.proofs.lemmas.Bool.{false≢true}
 use Rattle.std.proofs.lemmas.Result.{err_from_is_err_and}

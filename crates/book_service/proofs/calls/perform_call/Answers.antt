@@ -1,3 +1,8 @@
+-- Each command makes its store call, and the reply is what the step of that call gives on the rows.
+-- Given here: for each command a lemma of `CallLemmas` with the law that its call refines
+-- histories, for an error and for an answer. `subst` puts the command's fields in place of the
+-- borrowed texts, `done` and `denied` the command of the match arm in place of the argument. Where
+-- a function of this crate has the clause `step` itself, as `put`, at most its answer is needed.
 use Rattle.std.proofs.Common.{◌≡◌, ℕ, List, Result, Ok, Err, sym, ap, ◌∙◌, subst}
 use Rattle.std.proofs.lemmas.Result.{err_from_is_err_and}
 use Rattle.book_model.specs.declared.answers.Stored.{Stored}
@@ -30,6 +35,8 @@ denied : (limits : Bounds) (old new : Books) (command own : Command) (call_resul
     → CommandOnRows limits old command (reply_to (λ (r : Reply). r) call_result) new
 denied limits old new command own call_result error is same does =
     done limits old new command own (reply_to (λ (r : Reply). r) call_result) is (subst (λ (o : Result Reply Denied). CommandOnRows limits old own (reply_to (λ (r : Reply). r) o) new) (sym same) does)
+
+-- ---- books: create one, list all
 
 pub returns-in_err-id-in-CreateBook-clause-step : goal.returns-in_err-id-in-CreateBook-clause-step
 returns-in_err-id-in-CreateBook-clause-step g c = λ premise.
@@ -67,6 +74,8 @@ returns-in_ok-lines-in-Books-clause-step g c = λ premise.
     done limits old new c.args.command.now ListBooks (reply.Books c.from_vec.result) c.in-Books.is
     (let received = c.in_ok-lines-in-Books.ensures.step premise in
     lists limits old new c.calls_follow_histories.ensures.books c.from_vec.result (c.from_vec.ensures ∙ received.0, received.1))
+
+-- ---- one card: get, put, remove, move
 
 pub returns-in_err-version-in-Get-clause-step : goal.returns-in_err-version-in-Get-clause-step
 returns-in_err-version-in-Get-clause-step g c = λ premise.
@@ -153,6 +162,8 @@ returns-in_ok-numbers-in-MoveCard-clause-step g c = λ premise.
     (subst (λ (to : List ℕ). MatchesStep (Ok c.in_ok-numbers-in-MoveCard.numbers) (move_step limits old c.as_str-in-MoveCard.result.now to c.in-MoveCard.uid c.in-MoveCard.expect) old new) c.as_str-in-MoveCard-2.ensures
     (subst (λ (uid : List ℕ). MatchesStep (Ok c.in_ok-numbers-in-MoveCard.numbers) (move_step limits old c.as_str-in-MoveCard.result.now c.as_str-in-MoveCard-2.result.now uid c.in-MoveCard.expect) old new) c.as_str-in-MoveCard-3.ensures (c.in_ok-numbers-in-MoveCard.ensures.step premise)))))
 
+-- ---- imports and forgetting
+
 pub returns-in_ok-tally-in-Import-clause-step : goal.returns-in_ok-tally-in-Import-clause-step
 returns-in_ok-tally-in-Import-clause-step g c = λ premise.
     let limits = g.S.BookStore.model.limits c.args.store.now in
@@ -179,6 +190,8 @@ returns-in_ok-dropped-in-Forget-clause-step g c = λ premise.
     done limits old new c.args.command.now (Forget c.in-Forget.book c.in-Forget.upto) (reply.Forgot c.in_ok-dropped-in-Forget.dropped c.in-Forget.upto) c.in-Forget.is
     (forgets limits old new c.calls_follow_histories.ensures.forgetting c.in-Forget.book c.in-Forget.upto (Ok c.in_ok-dropped-in-Forget.dropped)
     (subst (λ (book : List ℕ). MatchesStep (Ok c.in_ok-dropped-in-Forget.dropped) (forget_step old book c.in-Forget.upto) old new) c.as_str-in-Forget.ensures (c.in_ok-dropped-in-Forget.ensures.step premise)))
+
+-- ---- what a whole book gives: tally, export, people
 
 pub returns-in_err-tally-in-TallyOf-clause-step : goal.returns-in_err-tally-in-TallyOf-clause-step
 returns-in_err-tally-in-TallyOf-clause-step g c = λ premise.

@@ -1,3 +1,8 @@
+-- An import command replies with the kept answer, the denial of its body, or the store's answer.
+-- Given here: a lemma for each case, by two laws: kept answers and imports refine histories. After
+-- `if let` no answer is kept (`none_is`), so the body counts. Its cards have distinct UIDs
+-- (`are_distinct`), which `import` requires.
+-- If the body is read before the look-up, `body_not` breaks first.
 use Rattle.std.proofs.Common.{◌≡◌, ℕ, List, Option, Some, None, Result, Ok, Err, refl, sym, ap, ◌∙◌, subst}
 use Rattle.std.proofs.lemmas.Result.{err_from_is_err_and}
 use Rattle.vcard_lines.specs.declared.line.Line.{Line}

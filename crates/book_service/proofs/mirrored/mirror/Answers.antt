@@ -1,3 +1,8 @@
+-- A new device asks for page after page; if one isn't truncated, its copy is the live cards.
+-- Given here: an induction over the pages so far. The invariant says that the books are as before,
+-- and that the device made a run of so many truncated pages and is consistent (`IsMirroring`). Each
+-- of them leaves one page size fewer due, so the number of pages is exact (`done_pages`,
+-- `stop_pages`). Each law that the code calls is named here: without the call, that answer breaks.
 use Rattle.std.proofs.Common.{◌≡◌, ◌∙◌, refl, subst, arith, ◌≤◌, sym}
 use Rattle.std.proofs.lemmas.Result.{err_from_is_err_and}
 use Rattle.book_model.specs.Bounds.{Bounds}

@@ -1,3 +1,8 @@
+-- The reply is the expansion of the group among the live cards of its book, or why there is none.
+-- Given here: a case split on the answer of `expand`, whose clauses say in both directions when it
+-- fails: so an expansion also shows that the card is there and is a group. If memory runs out, the
+-- books are kept (`fails`). `as_named` puts the command's fields in place of the borrowed texts.
+-- A new `GroupFault` has no answer here.
 use Rattle.std.proofs.Common.{◌≡◌, ℕ, List, Result, Ok, Err, BTreeMap, String, Global, refl, sym, ap, ◌∙◌, subst}
 use Rattle.std.proofs.lemmas.Result.{err_from_is_err_and}
 use Rattle.base_types.specs.TextMaps.{octet_map}

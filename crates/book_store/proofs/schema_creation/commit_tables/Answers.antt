@@ -1,3 +1,8 @@
+-- The tables are created in one transaction over an empty schema: all of them, or nothing.
+-- Given here: the creation commits nothing (`kept`), so if it fails (`rollback_restores`), or the
+-- commit does (`failed_commit`), the database is as before. A connection that is open afterwards
+-- was open before (`rolled_open`, `committed_open`).
+-- A statement between `create_tables` and `commit` breaks `first`.
 use Rattle.std.proofs.Common.{rules, ◌≡◌, IsTrue, true, sym, subst}
 use Rattle.std.specs.Prelude.{OnErr, OnOk}
 use Rattle.std.proofs.lemmas.Result.{on_ok_weaker}

@@ -1,3 +1,8 @@
+-- Each worked command line has the order that the example says.
+-- Given here: only that both sides are the same once computed (`refl`), with one `refl` for each
+-- line of the clause's definition in `WorkedLines`. The checker may compute what the kit says of a
+-- parser on given arguments, by `unfolding clap_on_literals`.
+-- An order or an option that changes breaks the clause of the lines that use it.
 use Rattle.std.proofs.Common.{refl}
 use Rattle.clap.proofs.OnLiterals.{clap_on_literals}
 use Rattle.cli_args.proofs.laws.worked_lines_are_orders.Goals as goal

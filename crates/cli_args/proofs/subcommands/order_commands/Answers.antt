@@ -1,3 +1,7 @@
+-- The list of commands has all orders, in the sequence of the help text.
+-- Given here: the list before each order is added (`up_to_try` to `up_to_books`). The clause of
+-- `with_command` holds for any list and any order, so each step has to name both.
+-- A new order needs its own list at its place, and all `in_ok-lines` after it are numbered anew.
 use Rattle.std.proofs.Common.{List, [], ◌∷◌, ◌++◌}
 use Rattle.clap.specs.Simple.{Shape}
 use Rattle.cli_args.specs.Subcommands.{book_command, books_command, check_command, convert_command, copy_command, expand_command, export_command, forget_command, import_command, init_command, migrate_command, mirror_command, restore_command, resync_command, run_command, serve_command, tally_command, try_command, verify_command}

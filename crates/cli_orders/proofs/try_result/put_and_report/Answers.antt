@@ -1,3 +1,8 @@
+-- In a new store, the put of a card creates it with version 1, and the report has this card only.
+-- Given here: the histories after each call: no book, the empty book (`with_book`), the book with
+-- the card (`with_card`). Each follows by the law that the call refines histories, under the
+-- standard limits, which every call keeps. There nothing is refused, so an error is lack of memory.
+-- If a limit's standard value changes, `are_standard` breaks first.
 use Rattle.std.proofs.Common.{Ok, Err, None, Result, sym, subst, ◌∙◌, ◌≡◌}
 use Rattle.std.proofs.lemmas.Result.{err_from_is_err_and}
 use Rattle.std.specs.Prelude.{codes, MatchResult}

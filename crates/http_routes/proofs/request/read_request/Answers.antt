@@ -1,3 +1,8 @@
+-- A request has the command that its definition says, or the first fault in the order of the tests.
+-- Given here: at each return, why `requested_command` comes to the same: no route
+-- (`asked-no_route`), no method (`asked-no_method`), or what follows both (`asked-goes`). The code
+-- reads the parts of the path, the definition the whole target; `route-is` and `part-is` say that
+-- they agree. If two tests change places, the answer of the return that now comes first breaks.
 use Rattle.std.proofs.Common.{◌≡◌, ◌∙◌, None, Some, Err, rules, sym}
 use Rattle.http_routes.proofs.OutcomeLemmas.{given-fault, given-value}
 use Rattle.http_routes.proofs.RequestLemmas.{asked-goes, asked-no_method, asked-no_route, book_failed, part-is, route-is, texts_read, uid_failed}

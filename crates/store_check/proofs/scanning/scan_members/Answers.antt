@@ -1,3 +1,8 @@
+-- The members are read one at a time, tested and counted, until one isn't good.
+-- Given here: an induction over the rows so far. The invariant says that the query gave them, that
+-- nothing changed, and that they are good, have rising ids and were counted. At the end they are
+-- all rows of the table (`all_listed`), at a fault some of them (`first_listed`).
+-- If the query gets another text than `all_members_text`, the first two answers break.
 use Rattle.std.proofs.Common.{rules, inl, inr, arith, refl, ap, subst, ◌∙◌, ◌≡◌, [], ◌∷◌, ◌++◌, None, map, IsPermutation}
 use Rattle.sqlite.specs.Effect.{Database}
 use Rattle.sqlite.specs.Held.{state}

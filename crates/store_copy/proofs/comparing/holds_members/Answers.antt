@@ -1,3 +1,8 @@
+-- The members of a table are compared with a list, one row at a time.
+-- Given here: an induction over the rows so far. The invariant says that the query gave them, that
+-- nothing changed, and that they are the first `place` of the list, with their new ids. At the end
+-- they are all rows of the table (`all_listed`), and all of the list if `place` is its length.
+-- If the query gets another text than `all_members_text`, the first two answers break.
 use Rattle.std.proofs.Common.{rules, inl, inr, arith, refl, ap, subst, ◌∙◌, ◌≡◌, [], ◌∷◌, ◌++◌, map, take, length, IsPermutation}
 use Rattle.std.proofs.Math.Seq.{take-length}
 use Rattle.sqlite.specs.Effect.{Database}

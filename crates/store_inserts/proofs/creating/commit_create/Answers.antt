@@ -1,3 +1,8 @@
+-- One transaction creates an empty book, with its row and its keep, or nothing, also after a crash.
+-- Given here: the way through four states, from before the transaction to after its end. The writes
+-- inside commit nothing (`kept`), so a failed commit leaves the tables as they were before. What is
+-- asked of the rows is that no book has the name (`LacksBookRow`).
+-- A write between `insert_book_rows` and `commit` breaks `clean_mid` first.
 use Rattle.std.proofs.Common.{rules, ◌≢◌, IfErr, ◌≡◌, IsTrue, ℕ, true, pos, Err, sym, subst, ◌∙◌, to_z, of_z, w64}
 use Rattle.std.proofs.Math.Facts.{to_z-of_z}
 use Rattle.std.specs.FinMap as finite

@@ -1,3 +1,7 @@
+-- Creating a book in the tables is `create_step` on their books, also after a crash.
+-- Given here: the plan and the write are one step (`CallLemmas`, for calls that read and then
+-- write). The plan says that the name is free, which is what the write asks for. For faults: the
+-- tables accept the new rows, as neither a book nor a keep has the planned id (`accepts_book`).
 use Rattle.std.proofs.Common.{rules, ◌≡◌, ℕ, IsTrue, Result, Ok, Err, sym, ap, subst, arith}
 use Rattle.store_tables.proofs.FailureLemmas.{outside_later}
 use Rattle.store_tables.proofs.SchemaCreationLemmas.{clean_before}

@@ -1,3 +1,8 @@
+-- The rows of a new book and of its keep are inserted; the tables hold one empty book more.
+-- Given here: the first insert spares the table of keeps (`spares_keeps`), so the second finds it
+-- as it was; `rows_created` joins both to `fresh_book`. The second needs a book with its id: the
+-- one just added (`listed`).
+-- A third row of a new book breaks `returns-clause-books_after` first.
 use Rattle.std.proofs.Common.{◌≡◌, pos, to_z, of_z, w64, sym, subst, ◌∙◌, rules, ◌≢◌, ◌∷◌, false, inl, refl, Err, IfErr}
 use Rattle.std.specs.List.{AllByRecursion}
 use Rattle.sqlite.specs.declared.error.Error.TheVariants.{SqliteFailure}

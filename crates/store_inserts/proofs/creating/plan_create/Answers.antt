@@ -1,3 +1,8 @@
+-- The id that is planned for a new book is the model's, and so is a refusal.
+-- Given here: whether the name is found, and the number of books, are all that the model's `new_id`
+-- needs of the rows (`id_planned`, `refusal_planned`). An error of a look-up is a fault, which fits
+-- any answer of the model (`fault_planned`). Reads after reads only read (`reads_then`).
+-- A further look-up breaks the answers for `reads_only`.
 use Rattle.std.proofs.Common.{rules, ◌≡◌, Err, sym, subst, Result, Bool, ℕ}
 use Rattle.book_model.specs.declared.denied.Denied.{Denied}
 use Rattle.store_lookups.proofs.ChangeFaultLemmas.{then_changes}

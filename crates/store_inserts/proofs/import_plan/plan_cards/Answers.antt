@@ -1,3 +1,8 @@
+-- The plan of an import is made card by card, with one look-up for each.
+-- Given here: an induction over the cards so far. The invariant says that the plan is the model's
+-- of the first `i` cards, and that the look-ups changed nothing, so each card is judged by the book
+-- before the import. By `fold_more` one card more is one more step of both folds: of the planned
+-- cards, and of the tombstones that they replace.
 use Rattle.std.proofs.Common.{rules, ◌≡◌, ◌≤◌, ◌+◌, Bool, true, false, [], take, length, sym, ap, subst, ◌∙◌, Result, Err, Option, arith}
 use Rattle.book_model.specs.declared.change.StoreReason.{StoreReason}
 use Rattle.book_model.specs.declared.denied.Denied.{Denied}

@@ -1,3 +1,7 @@
+-- The decision about an import is the model's: the answer that is kept, a new plan, or a refusal.
+-- Given here: the look-up of the key and the plan see the same rows (`over_then`), and together
+-- they are `import_step` (`new_step`, `refused_step`). The case of a kept answer needs nothing.
+-- For faults: the header that was found fits its columns, as the plan asks (`header_faultless`).
 use Rattle.std.proofs.Common.{rules, ◌≡◌, None, Err, sym, subst, ◌∙◌, Result}
 use Rattle.book_model.specs.declared.answers.ImportTally.{ImportTally}
 use Rattle.book_model.specs.declared.denied.Denied.{Denied}

@@ -1,3 +1,8 @@
+-- An import under a new key stores and answers what the model's import does.
+-- Given here: the plan judges each card by the book before the import, the model by the book so
+-- far. For cards with distinct UIDs that is the same: `planned_book` for the rows, `planned_tally`
+-- for the answer, `import_replaces` for the tombstones.
+-- If the cards need not have distinct UIDs, these three break first.
 use Rattle.std.proofs.Common.{rules, ◌≡◌, Err, sym, ap, subst, arith, length, ◌<◌, ◌^◌}
 use Rattle.book_model.specs.BookQueries.{tombstone_count}
 use Rattle.book_model.specs.Books.{live_at}

@@ -1,3 +1,8 @@
+-- An import in the tables is `import_step` on their books, also after a crash.
+-- Given here: the plan and the write are one step (`CallLemmas`, for calls that read and then
+-- write). The clauses of `plan_import` are about any decision; `found` and `found_replaces` narrow
+-- them to a new plan, which also says how many tombstones the cards replace.
+-- If `ImportDecision` gets a third case, that case has no answers here.
 use Rattle.std.proofs.Common.{rules, ◌≡◌, IsTrue, Result, Ok, Err, sym, ap, subst, ◌∙◌}
 use Rattle.store_tables.proofs.FailureLemmas.{outside_later}
 use Rattle.store_tables.proofs.SchemaCreationLemmas.{clean_before}

@@ -1,3 +1,8 @@
+-- An import writes its cards, its kept answer and the book's own row, in this order.
+-- Given here: which book the tables hold before and after the writes (`begun`, `put`, `kept`). The
+-- cards leave the kept answers as they were (`stored_imports`), so the key is still free for the
+-- second write. For faults: each write hands on the constraints and the free ids that the next one
+-- needs. If the order of the writes changes, `put` or `kept` breaks first.
 use Rattle.std.proofs.Common.{IsTrue, List, ℕ, ap, ◌∙◌, length, ◌^◌, arith, sym, subst}
 use Rattle.sqlite.proofs.StateLemmas.{survives_then}
 use Rattle.store_tables.specs.Acceptance.{HasFreeIds}

@@ -1,3 +1,8 @@
+-- The answer of an import is kept under its key.
+-- Given here: each column is the number that was converted (`back_of`), and `kept_as` puts the
+-- numbers in place of the columns of the new row. For faults: all numbers are below 2^63, so no
+-- conversion fails, and the table accepts the row, as its key is unused (`accepts_key`).
+-- A new number of the tally breaks `kept_as` first.
 use Rattle.std.proofs.Common.{◌≡◌, pos, to_z, of_z, w64, refl, arith, subst, sym}
 use Rattle.store_tables.specs.Acceptance.{AcceptsImport}
 use Rattle.store_writes.proofs.TransactionFaults.{error_faults}

@@ -1,3 +1,8 @@
+-- One card of an import is written under the book's next number, but not the book's own row.
+-- Given here: the columns are the numbers of the header (`back_of`), and the member is one change
+-- more in the book that is being written (`put_wrote`). `likely_new` only chooses which statement
+-- is tried first, so nothing here depends on it. For faults: the table accepts the card, as its
+-- number is unused and its rules keep its texts short (`accepts_card`).
 use Rattle.std.proofs.Common.{rules, ◌≡◌, ◌+◌, Some, option_copied, pos, to_z, of_z, w64, sym, ap, subst, arith}
 use Rattle.vcard_text.specs.Cards.{canonical_text}
 use Rattle.store_tables.specs.Acceptance.{AcceptsMember}

@@ -1,3 +1,8 @@
+-- The cards of an import are written one after the other, each as the next change of the book.
+-- Given here: an induction over the cards so far. The invariant says that the tables hold the book
+-- with the first `i` cards, and by `stored_more` one card more makes it the first `i + 1`. Each
+-- card takes at most one id, so `count + i` free ids before the loop leave `count`.
+-- If a clause of `write_next_card` promises less, `loop-card-preserved` breaks first.
 use Rattle.std.proofs.Common.{rules, ◌≡◌, length, take, ap, subst, ◌∙◌, arith, sym, ◌+◌}
 use Rattle.store_tables.specs.Acceptance.{HasFreeIds}
 use Rattle.store_tables.proofs.FailureLemmas.{outside_later}

@@ -1,3 +1,8 @@
+-- A migration plans the keeps from the rows of the first schema, and adds them in one transaction.
+-- Given here: the planning changes nothing, so the transaction finds the tables that were tested
+-- (`first_with`), and what it leaves is the migrated store (`is_migrated`), which is well formed by
+-- the plan. A crash leaves what it could leave before, or the one commit (`survives_migration`).
+-- If the plan is made for other limits than the greatest, `limits` breaks first.
 use Rattle.std.proofs.Common.{subst, ◌∙◌}
 use Rattle.sqlite.specs.Held.{state}
 use Rattle.sqlite.specs.State.{HasCleanDisk}

@@ -1,3 +1,8 @@
+-- The next removal makes a book forget nothing if one more tombstone fits, else up to the oldest.
+-- Given here: `number < keep` is the model's test that one more is at most the keep
+-- (`one_more_fits`), so each branch is one case of `drop_by_next_removal` (`no_drop`, `some_drop`).
+-- The number up to which it forgets is at most the next one, since it is a minimum with that
+-- (`least_within`). If the test becomes `<=`, the first answer breaks.
 use Rattle.std.proofs.Common.{rules, ◌≡◌, ◌≤◌, ◌+◌, ℕ, min, IfSome, nat_le, nat_lt, true, false, sym, ap, ap₂, subst, ◌∙◌, Err, arith, Result, Option, Some}
 use Rattle.book_model.specs.declared.denied.Denied.{Denied}
 use Rattle.store_lookups.proofs.StoreFaultLemmas.{passed_cause}

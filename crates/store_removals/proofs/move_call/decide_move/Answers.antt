@@ -1,3 +1,8 @@
+-- The decision about a move is the model's, on what both books have under the UID.
+-- Given here: each look-up that the code fills in is `found_in_book` of its book (`lookup_is`), so
+-- the answer is the model's `move_answer`. It moves the card of the source's look-up, which is the
+-- one that the last `match` finds (`some`). An accepted move is below the limit of changes in both
+-- books (`move_rooms`), so both next numbers fit.
 use Rattle.std.proofs.Common.{rules, ◌≡◌, Some, IfSome, Ok, Err, refl, sym, ap, ap₂, subst, ◌∙◌, arith}
 use Rattle.store_lookups.specs.MemberStates.{is_tombstone_state, live_card}
 use Rattle.store_lookups.proofs.FindLemmas.{live_state, tombstone_state}

@@ -1,3 +1,7 @@
+-- Two names are looked up: the answer is both books, or that the first or the second is missing.
+-- Given here: the second look-up sees the rows of the first (`over_then`), and the two are the
+-- model's look-ups, one inside the other (`in_none`, `in_book`).
+-- If the names are looked up in the other order, the answers for `finds` break first.
 use Rattle.std.proofs.Common.{rules, ◌≡◌, Ok, Err, sym, subst, Result}
 use Rattle.book_model.specs.declared.denied.Denied.{Denied}
 use Rattle.store_rows.specs.TableBooks.{HeaderRow}

@@ -1,3 +1,8 @@
+-- A move in the tables is `move_step` on their books, also after a crash.
+-- Given here: the plan and the write are one step, of both books (`wrote_changes`). The plan holds
+-- only over right numbers of tombstones, which the caller has (`found_over_counts`). The number
+-- afterwards needs members with different numbers (`own_numbers`): a constraint of the tables,
+-- which `conn.schema()` gives. Without that call `found` breaks first.
 use Rattle.std.proofs.Common.{rules, ◌≡◌, ◌+◌, IsTrue, IfSome, Result, Ok, Err, sym, ap, subst}
 use Rattle.std.specs.FinMap as finite
 use Rattle.book_model.specs.Putting.{found_in_book}

@@ -1,3 +1,8 @@
+-- The plan of a move is the model's: both headers, the card, and what the source forgets.
+-- Given here: three reads in a row see the same rows (`over_then`, `same_then`). The test of the
+-- two names chooses between `SameBook` (`same_among`) and a move between two books (`apart_among`).
+-- `move_drops`: what the source forgets by the plan before the move is what it forgets after it.
+-- If the order of the refusals changes, the answers for `planned` break first.
 use Rattle.std.proofs.Common.{rules, ◌≡◌, false, Err, sym, subst, ◌∙◌, Bool, Result, List}
 use Rattle.std.specs.Prelude.{⊤}
 use Rattle.sqlite.proofs.StateLemmas.{survives_then}
@@ -22,6 +27,8 @@ use Rattle.store_removals.specs.internal.Moves.{IsMovePlanned, moving_between_bo
 use Rattle.store_removals.proofs.MoveLemmas.{apart_among, denied_among, move_drops, moving_back, same_among}
 use Rattle.store_removals.proofs.RemoveLemmas.{same_then}
 use Rattle.store_removals.proofs.move_call.plan_move.Goals as goal
+
+-- ---- the plan, after each read
 
 pub returns-then-eq-clause-planned : goal.returns-then-eq-clause-planned
 returns-then-eq-clause-planned g c rows clean holds sound right =
@@ -84,6 +91,8 @@ returns-clause-planned g c rows clean holds sound right =
       comes_back = over_then old a b _ _ c.in_ok-source.ensures.unchanged c.decide_move.ensures.reads_only.survives c.in_ok-card.ensures.tombstone rows later holds sound to;
     }
 
+-- ---- the numbers of tombstones
+
 pub returns-in_err-plan-clause-counts : goal.returns-in_err-plan-clause-counts
 returns-in_err-plan-clause-counts g c rows clean holds sound right =
     let old = state g.S.Store c.args.conn.now in
@@ -105,6 +114,8 @@ returns-clause-counts g c rows clean holds sound right =
     let early : HasCleanDisk a = clean_before _ a b c.decide_move.ensures.reads_only.survives later in
     let same = same_then old a b _ c.in_ok-source.ensures.unchanged c.decide_move.ensures.reads_only.survives c.in_ok-card.ensures.unchanged in
     over_then old b new _ _ same c.plan_drop.ensures.reads_only.survives c.plan_drop.ensures.counts rows clean holds sound right (c.in_ok-source.ensures.finds rows early holds sound).0
+
+-- ---- reads
 
 pub returns-clause-reads_only : goal.returns-clause-reads_only
 returns-clause-reads_only g c =

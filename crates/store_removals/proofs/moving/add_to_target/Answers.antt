@@ -1,3 +1,8 @@
+-- The card of a move is stored in the target as its next change, with the reason `MoveIn`.
+-- Given here: the columns are the numbers of the header after this change (`back_of`), which is
+-- what the clauses of `write_member` ask for. For faults: the id and the next number fit, by the
+-- premises, so no conversion of a number fails. What is left as a cause is memory, or the cause of
+-- the write.
 use Rattle.std.proofs.Common.{rules, ◌≡◌, ◌+◌, Some, option_copied, pos, to_z, of_z, w64, ap, subst, sym, arith}
 use Rattle.sqlite.specs.Held.{state}
 use Rattle.store_writes.specs.AcceptedChanges.{AcceptsMemberOf}

@@ -1,3 +1,8 @@
+-- One transaction writes a move in both of its books, or nothing.
+-- Given here: the way through the states from before the transaction to after its end. The writes
+-- inside commit nothing (`kept`), so both a failed write (`rollback_restores`) and a failed commit
+-- (`failed_done`) leave the tables as they were before.
+-- A write between `move_rows` and `commit` breaks `clean_mid` first.
 use Rattle.std.proofs.Common.{rules, ◌≡◌, IsTrue, List, ℕ, true, Err, sym, subst}
 use Rattle.store_tables.specs.Failures.{HasOutsideCause}
 use Rattle.store_tables.proofs.FailureLemmas.{outside_later}

@@ -1,3 +1,8 @@
+-- The two halves of a move: the card is stored in the target, then removed from the source.
+-- Given here: the second half runs on the rows that the first left. These still have the source's
+-- row, with the same book, as the ids of the two differ (`from_line`); `rows_moved` joins both
+-- changes. For faults: the first half takes at most one of two free ids (`fewer_ids`), and leaves
+-- the next number of the source unused.
 use Rattle.std.proofs.Common.{◌+◌, ◌^◌, None, Some, pos, refl, sym, subst, arith}
 use Rattle.store_tables.specs.Acceptance.{IsShort}
 use Rattle.store_tables.proofs.KeyedRows.{all_has}

@@ -1,3 +1,7 @@
+-- A moved card leaves the source by its next change, and the source forgets up to a number.
+-- Given here: the columns are the numbers of the header after both, for the reason `MoveOut`
+-- (`back`, `back_of`), which is what the clauses of `write_removal_with_drop` ask for. For faults:
+-- all numbers fit, by the premises, so no conversion of a number fails.
 use Rattle.std.proofs.Common.{rules, ◌≡◌, ◌+◌, pos, to_z, of_z, w64, ap, subst, sym, arith, None}
 use Rattle.sqlite.specs.Held.{state}
 use Rattle.store_writes.specs.AcceptedChanges.{AcceptsMemberOf}

@@ -1,3 +1,8 @@
+-- The plan of a removal is the model's: the header, the number, and what the book forgets.
+-- Given here: three reads in a row see the same rows (`over_then`, `same_then`), so what each says
+-- holds of the rows before the first. `plan_drop` speaks of the book before the removal, the model
+-- of the book after it; `drop_is` says that both forget up to the same number.
+-- A further read breaks the answers for `unchanged` and `reads_only`.
 use Rattle.std.proofs.Common.{rules, ◌≡◌, ℕ, Err, sym, subst, Result}
 use Rattle.std.specs.Prelude.{⊤}
 use Rattle.sqlite.proofs.StateLemmas.{survives_then}
@@ -16,6 +21,8 @@ use Rattle.store_removals.specs.internal.Removals.{IsRemovalPlanned, removal_num
 use Rattle.store_writes.proofs.PlanLemmas.{answer_is_exact}
 use Rattle.store_removals.proofs.RemoveLemmas.{drop_is, fault_removes, same_then}
 use Rattle.store_removals.proofs.remove_call.plan_remove.Goals as goal
+
+-- ---- the plan, after each read
 
 pub returns-in_err-header-clause-planned : goal.returns-in_err-header-clause-planned
 returns-in_err-header-clause-planned g c rows clean holds sound right =
@@ -74,6 +81,8 @@ returns-clause-planned g c rows clean holds sound right =
       tombstones = tombstones;
     }
 
+-- ---- the numbers of tombstones
+
 pub returns-in_err-plan-clause-counts : goal.returns-in_err-plan-clause-counts
 returns-in_err-plan-clause-counts g c rows clean holds sound right =
     let old = state g.S.Store c.args.conn.now in
@@ -95,6 +104,8 @@ returns-clause-counts g c rows clean holds sound right =
     let early : HasCleanDisk a = clean_before _ a b c.decide_removal.ensures.reads_only.survives later in
     let same = same_then old a b _ c.in_ok-header.ensures.unchanged c.decide_removal.ensures.reads_only.survives c.in_ok-number.ensures.unchanged in
     over_then old b new _ _ same c.plan_drop.ensures.reads_only.survives c.plan_drop.ensures.counts rows clean holds sound right (c.in_ok-header.ensures.finds rows early holds sound)
+
+-- ---- reads
 
 pub returns-clause-unchanged : goal.returns-clause-unchanged
 returns-clause-unchanged g c =

@@ -1,3 +1,8 @@
+-- A removal in the tables is `remove_step` on their books, also after a crash.
+-- Given here: the plan and the write are one step of the book that was found (`written_changes`).
+-- The plan holds only over right numbers of tombstones, which the caller has (`found_over_counts`).
+-- The number afterwards (`tombstones_left`) needs members with different numbers: a constraint of
+-- the tables, which `conn.schema()` gives. Without that call `found` breaks first.
 use Rattle.std.proofs.Common.{rules, ◌≡◌, ℕ, IsTrue, IfSome, Result, Ok, Err, sym, ap, subst}
 use Rattle.book_model.specs.Putting.{found_in_book}
 use Rattle.store_tables.proofs.SchemaCreationLemmas.{clean_before}

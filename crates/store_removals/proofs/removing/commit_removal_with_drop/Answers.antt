@@ -1,3 +1,8 @@
+-- One transaction writes a removal that makes its book forget, or nothing, also after a crash.
+-- Given here: the way through four states, from before the transaction to after its end. The writes
+-- inside commit nothing (`kept`), so a failed commit leaves the tables as they were before; and a
+-- crash finds either those, or what the writes left (`crash`).
+-- A write between `write_removal_with_drop` and `commit` breaks `clean_mid` first.
 use Rattle.std.proofs.Common.{rules, ◌≢◌, IfErr, ◌≡◌, ◌+◌, IsTrue, List, ℕ, true, pos, Err, to_z, of_z, w64, sym, subst, ◌∙◌, None}
 use Rattle.std.proofs.Math.Facts.{to_z-of_z}
 use Rattle.std.specs.FinMap as finite

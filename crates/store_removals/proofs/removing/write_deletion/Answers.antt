@@ -1,3 +1,8 @@
+-- A deletion that leaves the horizon of its book is written in one transaction.
+-- Given here: it is `commit_member` without a card, for the change `TakesAway Deletion`, and the
+-- columns are the numbers of the header after that (`back_of`). For faults: the horizon, which no
+-- premise bounds here, fits as the others do (`header_fits`); and the table accepts the tombstone,
+-- as its number is unused (`accepts_member`).
 use Rattle.std.proofs.Common.{rules, ◌≡◌, ◌+◌, pos, to_z, of_z, w64, refl, ap, None, arith, subst, sym}
 use Rattle.store_lookups.proofs.ChangeFaultLemmas.{header_fits}
 use Rattle.store_writes.specs.AcceptedChanges.{AcceptsMemberOf}

@@ -1,3 +1,8 @@
+-- A deletion that makes its book forget up to a number is written in one transaction.
+-- Given here: the columns are the numbers of the header after both (`back`, `back_of`), and
+-- `map_err` keeps the outcome of the transaction (`mapped_atomic`). For faults: all numbers fit, by
+-- the premises and `header_fits`, so no conversion of a number fails; and the table accepts the
+-- tombstone, as its number is unused (`accepts_member`).
 use Rattle.std.proofs.Common.{rules, ◌≡◌, ◌+◌, pos, to_z, of_z, w64, ap, None, arith, subst, sym}
 use Rattle.store_lookups.proofs.ChangeFaultLemmas.{header_fits}
 use Rattle.store_writes.specs.AcceptedChanges.{AcceptsMemberOf}

@@ -1,3 +1,8 @@
+-- A member becomes a tombstone, old ones are deleted, and the book's row gets the new numbers.
+-- Given here: the second statement runs on the members that the first left, the third on the table
+-- of books, which both spare (`spares_books`); `row_dropped` joins all three. None of them commits
+-- (`keeps_commit`).
+-- A fourth statement breaks `returns-clause-books_after` first.
 use Rattle.std.proofs.Common.{◌≡◌, ◌+◌, IsTrue, List, ℕ, None, pos, to_z, of_z, w64, sym, subst, ◌∙◌, rules, ◌≢◌, Err, IfErr}
 use Rattle.sqlite.specs.declared.error.Error.TheVariants.{SqliteFailure}
 use Rattle.sqlite.specs.declared.error.ErrorCode.TheVariants.{OutOfMemory}

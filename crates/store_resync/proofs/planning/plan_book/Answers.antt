@@ -1,3 +1,8 @@
+-- The plan of one book is the model's: its last number, its counts, and the card it renews if full.
+-- Given here: the book that the clause is about is the one of the header that was found, and its
+-- number is the sum of its counts (`sum`). In a full book the cards that were read are its live
+-- cards (`cards_found`), so the first one is the model's (`without_room`).
+-- A new field of `BookPlan` breaks `book_planned` first.
 use Rattle.std.proofs.Common.{rules, ◌≡◌, ◌<◌, ◌≤◌, ◌^◌, IfSome, ℕ, Bool, true, false, Option, Some, None, Result, Ok, Err, sym, ap, subst, ◌∙◌}
 use Rattle.std.specs.List.{slice_get}
 use Rattle.std.specs.FinMap as finite

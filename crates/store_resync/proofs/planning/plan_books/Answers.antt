@@ -1,3 +1,8 @@
+-- All books are planned one after the other; the resync is refused as the first book that is.
+-- Given here: an induction over the books so far. The invariant says that they have plans, in the
+-- order of their names, and that the model accepts them; `entries_more`, `each_more` and
+-- `accepted_more` add one book. If the next one is refused, the model's first refusal is this
+-- (`denied_here`). If a clause of `plan_book` promises less, `loop-line-preserved` breaks first.
 use Rattle.std.proofs.Common.{rules, Vec, ◌≡◌, ◌∙◌, Some, Result, Ok, Err, List, ℕ, length, refl, sym, ap, subst}
 use Rattle.std.specs.List.{AllByRecursion, slice_get}
 use Rattle.std.specs.FinMap as finite

@@ -1,3 +1,7 @@
+-- The plans of a resync are the model's, for all books in the order of their names.
+-- Given here: the lines that were listed are the model's `book_lines`, as `plan_books` asks
+-- (`are`), and both reads see the same rows (`over_then`). An error is that of the list, which
+-- refuses nothing (`lines_denied`), or that of a plan.
 use Rattle.std.proofs.Common.{rules, Vec, ◌≡◌, ℕ, Result, Ok, Err, sym, subst}
 use Rattle.std.specs.FinMap as finite
 use Rattle.sqlite.specs.Held.{state}

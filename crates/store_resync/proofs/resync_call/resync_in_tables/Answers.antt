@@ -1,3 +1,8 @@
+-- A resync in the tables is `resync_step` on their books, also after a crash.
+-- Given here: the plans and their write are one step (`CallLemmas`, for calls that read and then
+-- write). What the plans leave, book by book, are all books after the resync (`resync_holds`), and
+-- there are as many plans as books (`plan_count`). No number of tombstones is kept afterwards, so
+-- none is wrong. If a resync gets another effect, `resync_holds` breaks first.
 use Rattle.std.proofs.Common.{rules, ◌≡◌, IsTrue, List, ℕ, length, Result, Ok, Err, Vec, sym, ap, subst, ◌∙◌}
 use Rattle.std.specs.FinMap as finite
 use Rattle.std.specs.declared.alloc.Global.{Global}

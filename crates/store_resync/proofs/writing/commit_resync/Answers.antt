@@ -1,3 +1,8 @@
+-- One transaction writes a resync of all books, or nothing, also after a crash.
+-- Given here: the way through the states from before the transaction to after its end. The writes
+-- inside commit nothing (`kept`), so both a failed write (`rollback_restores`) and a failed commit
+-- (`failed_done`) leave the tables as they were before.
+-- A write between `write_resync` and `commit` breaks `clean_mid` first.
 use Rattle.std.proofs.Common.{rules, ◌≡◌, IsTrue, true, Err, sym, subst}
 use Rattle.std.specs.Prelude.{⊤}
 use Rattle.sqlite.specs.Held.{state}

@@ -1,3 +1,8 @@
+-- One stage of a resync is written book by book.
+-- Given here: an induction over the plans so far. The invariant says that the stage is written for
+-- their books, and that the rows of the others are as before it; so the next plan still finds its
+-- row (`unwritten`). `stages_next` adds one book.
+-- If a clause of `write_plan` promises less, `loop-plan-preserved` breaks first.
 use Rattle.std.proofs.Common.{rules, ◌≡◌, ◌∙◌, Some, length, refl, subst, arith}
 use Rattle.std.specs.List.{slice_get}
 use Rattle.std.proofs.lemmas.Option.{slice_get_read}

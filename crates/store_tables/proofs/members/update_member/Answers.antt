@@ -1,3 +1,8 @@
+-- The UPDATE changes the row of this member and nothing else, or there is no such row.
+-- Given here: `changes_inside` says what this text does to rows of members; `execute` only says
+-- that the engine runs it. The values that the code binds are its parameters (`card_bound`). For
+-- errors: over rows that accept the change, only memory or an outside cause is left
+-- (`change_fails`). If the statement gets another text than `change_text`, the first answer breaks.
 use Rattle.std.proofs.Common.{option_copied, refl}
 use Rattle.std.proofs.Math.Facts.{to_z-of_z}
 use Rattle.sqlite.specs.Held.{state}

@@ -1,3 +1,8 @@
+-- One transaction forgets a book's tombstones up to a number, or nothing, and returns how many.
+-- Given here: the way through four states, from before the transaction to after its end. The writes
+-- inside commit nothing (`kept`), so a failed commit leaves the tables as they were before; and the
+-- count is of the rows before the transaction (`dropped`).
+-- A write between `forget_rows` and `commit` breaks `clean_mid` first.
 use Rattle.std.proofs.Common.{rules, ◌≢◌, IfErr, ◌≡◌, IsTrue, List, ℕ, true, pos, Err, to_z, of_z, w64, sym, subst, ◌∙◌}
 use Rattle.std.proofs.Math.Facts.{to_z-of_z}
 use Rattle.std.specs.FinMap as finite

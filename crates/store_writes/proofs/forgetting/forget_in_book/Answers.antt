@@ -1,3 +1,8 @@
+-- Forgetting in the tables is `forget_step` on their books, also after a crash.
+-- Given here: the look-up and the write are one step (`CallLemmas`, for calls that find a book and
+-- then write it). The test `may_forget` gives two bounds: the number is at most the book's, so that
+-- its column fits (`forgets_known`), and at least the horizon, as `count_forgotten` asks
+-- (`forgets_later`). If the test allows more, these two break first.
 use Rattle.std.proofs.Common.{rules, ◌≡◌, IsTrue, ℕ, true, false, Result, Ok, Err, IfErr, sym, subst, ◌≤◌}
 use Rattle.store_lookups.proofs.ChangeFaultLemmas.{then_change_faults}
 use Rattle.store_lookups.proofs.StoreFaultLemmas.{passed_cause}
@@ -114,6 +119,8 @@ returns-in_err-dropped-clause-crash g c = crash g (goal.at.returns-in_err-droppe
 
 pub returns-clause-crash : goal.returns-clause-crash
 returns-clause-crash g c = crash g (goal.at.returns-clause-crash g c).After-write_forget
+
+-- ---- faults
 
 pub returns-in_err-header-clause-store_fault : goal.returns-in_err-header-clause-store_fault
 returns-in_err-header-clause-store_fault g c rows clean holds accept free =

@@ -1,3 +1,8 @@
+-- The tombstones of a book up to a number are deleted, and that number becomes its horizon.
+-- Given here: the first statement spares the table of books (`spares_books`), so the second finds
+-- the book's row as it was; `rows_forgotten` joins both to `book_after_forget`. What the first one
+-- counts are rows of `member`, and `deletions_dropped` says that the book loses as many.
+-- A third statement breaks `returns-clause-books_after` first.
 use Rattle.std.proofs.Common.{rules, ◌≡◌, ◌≢◌, Err, IfErr, pos, length, filter, to_z, of_z, w64, sym, subst, ◌∙◌}
 use Rattle.std.proofs.Math.Facts.{to_z-of_z}
 use Rattle.sqlite.specs.Held.{state}

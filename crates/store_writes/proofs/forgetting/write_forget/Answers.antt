@@ -1,3 +1,7 @@
+-- A book's tombstones up to a number are forgotten in one transaction, whose columns are made here.
+-- Given here: each column is the number that was converted (`back`, `back_of`). For faults: numbers
+-- of rows that can be changed fit (`header_fits`), and the horizon is at most the book's number, so
+-- no conversion of a number fails. What is left as a cause is memory, or the transaction's own.
 use Rattle.std.proofs.Common.{rules, ◌≡◌, pos, to_z, of_z, w64, arith}
 use Rattle.sqlite.specs.Held.{state}
 use Rattle.store_lookups.proofs.ChangeFaultLemmas.{header_fits}

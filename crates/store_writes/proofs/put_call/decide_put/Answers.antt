@@ -1,3 +1,8 @@
+-- The decision about a put is the model's, on what the book has under the card's UID.
+-- Given here: the look-up that the code fills in is `found_in_book`. Its live card, and whether
+-- there is a tombstone, come from the state of the member (`live_state`, `tombstone_state`), its
+-- number of cards from the header's counts. A put that stores is below the limit of changes
+-- (`put_room`). A new field of `MemberLookup` breaks `lookup_is` first.
 use Rattle.std.proofs.Common.{rules, ◌≡◌, Bool, Ok, Err, sym, ap, subst, ◌∙◌, arith}
 use Rattle.store_lookups.proofs.FindLemmas.{live_state, tombstone_state}
 use Rattle.store_lookups.proofs.StoreFaultLemmas.{passed_cause}

@@ -1,3 +1,8 @@
+-- A put in the tables is `put_step` on their books, also after a crash.
+-- Given here: the plan and the write are one step (`CallLemmas`, for calls that find a book and
+-- then write it), and `PlanLemmas` says what that step does for the planned answer. For the numbers
+-- of tombstones: a stored card takes the place of at most one (`stored_replace`).
+-- If the effect of `put_step` changes, `stored_put` and `put_holds` of `PlanLemmas` break first.
 use Rattle.std.proofs.Common.{rules, ◌≡◌, ◌+◌, IsTrue, Some, None, Result, Ok, Err, sym, ap, subst, ◌∙◌, IsSome, refl}
 use Rattle.store_lookups.proofs.ChangeFaultLemmas.{then_change_faults}
 use Rattle.store_lookups.proofs.StoreFaultLemmas.{passed_cause}
@@ -133,6 +138,8 @@ returns-in_err-write_put-clause-crash g c = crash g (goal.at.returns-in_err-writ
 
 pub returns-clause-crash : goal.returns-clause-crash
 returns-clause-crash g c = crash g (goal.at.returns-clause-crash g c).After-write_put
+
+-- ---- faults
 
 pub returns-in_err-header-clause-store_fault : goal.returns-in_err-header-clause-store_fault
 returns-in_err-header-clause-store_fault g c rows clean holds accept free =

@@ -1,3 +1,7 @@
+-- One transaction writes a member and its book's numbers: both or nothing, also after a crash.
+-- Given here: the way through four states, from before the transaction to after its end. The writes
+-- inside commit nothing (`kept`), so a failed commit leaves the tables as they were before.
+-- A write between `write_member` and `commit` breaks `clean_mid` first.
 use Rattle.std.proofs.Common.{rules, ◌≢◌, IfErr, ◌≡◌, ◌+◌, IsTrue, List, ℕ, true, option_copied, pos, Err, to_z, of_z, w64, sym, subst, ◌∙◌}
 use Rattle.std.proofs.Math.Facts.{to_z-of_z}
 use Rattle.std.specs.FinMap as finite

@@ -1,3 +1,8 @@
+-- A member is written, then its book's row; the rows are those of the book after one more change.
+-- Given here: the first statement spares the table of books (`spares_books`), so the second finds
+-- the book's row as it was; `row_put` joins both. For errors: an outside cause of the second is one
+-- of both together (`outside_later`).
+-- A third statement breaks `returns-clause-books_after` first.
 use Rattle.std.proofs.Common.{rules, ◌≡◌, ◌≢◌, ◌+◌, ℕ, List, option_copied, pos, Err, IfErr, IsTrue, to_z, of_z, w64, sym, subst, ◌∙◌}
 use Rattle.std.proofs.Math.Facts.{to_z-of_z}
 use Rattle.sqlite.specs.Held.{state}

@@ -1,3 +1,8 @@
+-- A card is written as the next change of its book, in one transaction.
+-- Given here: the columns are the numbers of the header after the change, since `column_of` loses
+-- nothing of a number that fits (`back_of`). For faults: numbers of rows that can be changed fit
+-- (`header_fits`), and the table accepts the member, as its number is unused and the rules of a
+-- card keep its UID and its text short (`accepts_member`).
 use Rattle.std.proofs.Common.{rules, ◌≡◌, ◌+◌, Some, option_copied, pos, to_z, of_z, w64, ap, arith, subst, sym}
 use Rattle.vcard_text.specs.Cards.{canonical_text, uid_of}
 use Rattle.store_lookups.proofs.ChangeFaultLemmas.{header_fits}

@@ -1,3 +1,8 @@
+-- Listing the rows of a store leaves its invariant, its limits and its books.
+-- Given here: `list_tables` only reads, so what holds of the connection holds afterwards
+-- (`still_store`, `still_counts`, `still_books`). The clauses speak of the view of the store, and
+-- `view_is` leads there from its fields. It is given twice, for rows and for an error.
+-- All of it rests on the clause `reads_only` of `list_tables`.
 use Rattle.std.proofs.Common.{refl, subst}
 use Rattle.store_lookups.specs.StoredBooks.{IsOpenOnHonestDisk}
 use Rattle.sqlite.specs.Held.{state}

@@ -1,3 +1,8 @@
+-- Octets of a head are consumed until it ends, the piece ends, or the bound is reached.
+-- Given here: what `scan` says of the held octets in these cases: they end a head (`scan_ends`),
+-- are a shorter part of one (`beginning_more`), or are exactly as long as the bound (`bound_stop`):
+-- not less by the last test, and not more by the room that `scan` got.
+-- The bound is written as 16384 here: a new `HEAD_OCTETS_MAX` breaks all three.
 use Rattle.std.proofs.Common.{◌≡◌, ◌∙◌, ◌<◌, ◌-◌, ◌≢◌, ◌+◌, ℕ, List, length, sym, ap, refl, subst, [], ◌++◌, take, arith, true}
 use Rattle.std.proofs.lemmas.List.{append-nil, length-append, length-take}
 use Rattle.http_requests.specs.declared.head_state.HeadState.TheVariants.{Ended}

@@ -1,3 +1,8 @@
+-- A piece is consumed step by step, until nothing is left or the session closes.
+-- Given here: an induction over the octets so far. The invariant says that what was held, with
+-- them, is a run of complete requests and what is held now (`SoFar`), and that a head whose body is
+-- awaited was admitted, or was held before the piece (`asked_step`). The loop ends, since `advance`
+-- consumes something: its measure is the length of the rest.
 use Rattle.std.proofs.Common.{◌∙◌, sym, length}
 use Rattle.std.proofs.lemmas.Bool.{eqb-true}
 use Rattle.http_requests.specs.internal.Progress.{IsOpen}

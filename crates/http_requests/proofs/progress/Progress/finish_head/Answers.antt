@@ -1,3 +1,8 @@
+-- A head that has ended is handled at once, kept until its body comes, or refused.
+-- Given here: a case split on the answer of `read_head`. By what it says of the held octets, a head
+-- without a body is a complete request (`head_whole`), one with a body is waited for (`waiting`),
+-- and each refusal ends the session as the definition says (`fault_stop`, `screened_stop`,
+-- `unreadable_stop`). A new `ParsedHead` has no answer here.
 use Rattle.std.proofs.Common.{sym, refl, [], arith, inl}
 use Rattle.std.proofs.lemmas.List.{append-nil}
 use Rattle.http_requests.specs.declared.head_fault.HeadFault.TheVariants.{BadHead}
