@@ -438,4 +438,25 @@ KNOWN_HEADERS = [
             "RELATED;TYPE=spouse;VALUE=text:Bo",
         ],
     ),
+    (
+        "a whole name beside its parts, in German",
+        "Name;Vorname;Nachname;E-Mail\nJ\u00f6rg M\u00fcller;J\u00f6rg;M\u00fcller;a@x.test\n",
+        ["EMAIL:a@x.test", "FN:J\u00f6rg M\u00fcller", "N:M\u00fcller;J\u00f6rg;;;"],
+    ),
+    (
+        "family names that are called names",
+        "Name,First Name,Email\nLee,Ann,a@x.test\n",
+        ["EMAIL:a@x.test", "FN:Ann Lee", "N:Lee;Ann;;;"],
+    ),
+    (
+        "given names that are called names",
+        "Surname,Name,Email\nLee,Ann,a@x.test\n",
+        ["EMAIL:a@x.test", "FN:Ann Lee", "N:Lee;Ann;;;"],
+    ),
+    (
+        "a place beside cities, in the German of Outlook",
+        "Vorname,Nachname,Stra\u00dfe gesch\u00e4ftlich,Ort gesch\u00e4ftlich,Ort,"
+        "Telefon gesch\u00e4ftlich\nAnn,Lee,Weg 1,Stadt,Raum 3,1\n",
+        ["ADR;TYPE=work:;;Weg 1;Stadt;;;", "FN:Ann Lee", "N:Lee;Ann;;;", "TEL;TYPE=work:1"],
+    ),
 ]

@@ -578,4 +578,12 @@ CARDS = [
          "ANNIVERSARY:19800415T10-0500"],
         [],
     ),
+    Converted(
+        "lines of a text that goes on without a fold are no properties",
+        card("3.0", "UID:a", "FN:Ann", "line three: with colon", "Gru\u00df: x", "- item: y",
+             "TEL=19:20"),
+        ["UID:a", "FN:Ann", "X-UNREADABLE:line three: with colon", "X-UNREADABLE:Gru\u00df: x",
+         "X-UNREADABLE:- item: y", "X-UNREADABLE:TEL=19:20"],
+        [f"line {line}: kept as X-UNREADABLE" for line in (5, 6, 7, 8)],
+    ),
 ]

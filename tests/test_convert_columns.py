@@ -54,6 +54,36 @@ CELLS = [
          "Birth Day kept as X-BIRTH-DAY"],
     ),
     (
+        "a whole name beside a given name",
+        "Name,First Name,Email\nAnn Lee,Ann,a@x.test\n",
+        ["EMAIL:a@x.test", "FN:Ann Lee", "N:;Ann;;;", "X-NAME:Ann Lee"],
+        ["Name kept as X-NAME"],
+    ),
+    (
+        "a whole name beside a family name",
+        "Name,Surname,Email\n\"Lee, Ann\",Lee,a@x.test\n",
+        ["EMAIL:a@x.test", "FN:Lee\\, Ann", "N:Lee;;;;", "X-NAME:Lee\\, Ann"],
+        ["Name kept as X-NAME"],
+    ),
+    (
+        "several addresses in a cell",
+        "Name,Email\nAnn,a@x.test; b@x.test\n",
+        ["EMAIL:a@x.test", "EMAIL:b@x.test", "FN:Ann", "X-EMAIL:a@x.test\\; b@x.test"],
+        ["Email kept as X-EMAIL"],
+    ),
+    (
+        "several addresses in a cell of two lines",
+        "Name,Email\nAnn,\"a@x.test\nb@x.test\"\n",
+        ["EMAIL:a@x.test", "EMAIL:b@x.test", "FN:Ann", "X-EMAIL:a@x.test\\nb@x.test"],
+        ["Email kept as X-EMAIL"],
+    ),
+    (
+        "what is neither an address nor a number",
+        "Name,Email,Phone\nAnn,NULL,#N/A\n",
+        ["FN:Ann", "X-EMAIL:NULL", "X-PHONE:#N/A"],
+        ["Email kept as X-EMAIL", "Phone kept as X-PHONE"],
+    ),
+    (
         "a year alone",
         "Name,Primary Email,Birth Year,Birth Month,Birth Day\nAnn,a@x.test,1980,,\n",
         ["EMAIL:a@x.test", "FN:Ann", "X-BIRTH-YEAR:1980"],
@@ -115,6 +145,8 @@ class ConvertColumns(OrderTest):
         numbers are known."""
         self.refused("Name,Phone,Mail (work)\nAnn,1,a@x.test\n", "Mail (work)",
                      "Mail (work)=email")
+        self.refused("Name,Phonetic First Name,E-mail privat\nAnn,An,a@x.test\n", "E-mail privat",
+                     "E-mail privat=email")
         ended = self.convert("Name,Phone,Mailing City\nAnn,1,Town\n")
         self.assertEqual((0, ["FN:Ann", "TEL:1", "X-MAILING-CITY:Town"]),
                          (ended.status, self.lines(ended)))

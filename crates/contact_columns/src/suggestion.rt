@@ -70,6 +70,9 @@ const GUESSES: &[(&str, &str)] = &[
 /// What a column of this name may become.
 fn guess(alloc: Global, name: &str) -> Result<Option<&'static str>, NoMemory> {
     let name = folded(alloc, name)?;
+    if name.as_str().contains("phonet") {
+        return Ok(None);
+    }
     let is_other = is_other(name.as_str());
     for (part, word) in GUESSES {
         let is_reach = word.starts_with("email") || word.starts_with("tel");
