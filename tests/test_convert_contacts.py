@@ -96,7 +96,7 @@ OUTLOOK_REPORT = digest([
     "row 1, line 2: the cell of Birthday rewritten",
     "row 1, line 2: the cell of Sensitivity kept as X-SENSITIVITY",
     "row 4, line 6: an earlier row has the same cells",
-    "row 5, line 8: not carried: the row has more or fewer cells than the header",
+    "row 5, line 8: not carried: the row has more or fewer cells than there are columns",
 ], 2, 1, 1)
 
 
@@ -392,8 +392,8 @@ class ConvertContacts(OrderTest):
     def test_faults_of_rows(self):
         header = "First Name,E-mail Address,Notes\r\n"
         for title, row, why in [
-            ("more cells", "Ann,a@x.test,,\r\n", "the row has more or fewer cells than the header"),
-            ("fewer cells", "Ann,a@x.test\r\n", "the row has more or fewer cells than the header"),
+            ("more cells", "Ann,a@x.test,,\r\n", "the row has more or fewer cells than there are columns"),
+            ("fewer cells", "Ann,a@x.test\r\n", "the row has more or fewer cells than there are columns"),
             ("a NUL", "Ann,a@x.test,a\0b\r\n", "the cell of Notes has a NUL"),
         ]:
             with self.subTest(title):

@@ -15,7 +15,7 @@ from program import run
 from test_convert_posts import ConvertTest
 
 SAID = "#1=fn,#2=email"
-WIDTH = "not carried: the row has more or fewer cells than the header"
+WIDTH = "not carried: the row has more or fewer cells than there are columns"
 
 
 class Headerless(ConvertTest):
@@ -32,6 +32,17 @@ class Headerless(ConvertTest):
         """The values of the lines of this name, in order."""
         lines = [line for _, card in self.cards(ended) for line in card]
         return [line[len(name) + 1:] for line in lines if line.startswith(name + ":")]
+
+    def test_a_quote_in_the_first_row_that_is_not_closed(self):
+        """The file's lines end as the line of the quote does, whatever is in cells after it."""
+        for end in "\n", "\r\n", "\r":
+            for other in "\n", "\r":
+                with self.subTest(end=end, other=other):
+                    rows = ['"Ann,a@x.test,n', f'Bob,b@x.test,"n{other}m"', "Cy,c@x.test,n", ""]
+                    ended = self.convert(end.join(rows).encode(), said="#1=fn,#2=email,#3=note")
+                    self.assertEqual((1, ["Bob", "Cy"]), (ended.status, self.values(ended, "FN")))
+                    told = "row 1, line 1: not carried: a quote isn't closed in its row\n"
+                    self.assertTrue(ended.err.decode().startswith(told), ended.err)
 
     def test_each_row_is_a_person(self):
         for above, count in ("", 0), ("sep=,\n\n", 2), ("\n\n", 2), ("\ufeff", 0):
@@ -96,6 +107,20 @@ class Headerless(ConvertTest):
                 ended = self.convert(f"{first}\nAnn,a@x.test\n".encode(), said=said)
                 self.assertEqual(0, ended.status)
 
+    def test_a_fault_comes_before_the_doubt(self):
+        """So the cell of a column is read once, however many entries are about it."""
+        octets = b"Wer,Adresse\nAnn,a@x.test\n"
+        for said, why in [("#1=fn,#2=email,#2=email", "'#2' is given more than once"),
+                          ("#2=email,#1=email,#1=fn", "'#1' is given more than once"),
+                          ("#2=email,#1=fn,#3=fn", "there is no column '#3'; the number of columns "
+                                                   "is 2")]:
+            with self.subTest(said):
+                ended = self.convert(octets, said=said)
+                told = f"fault device 1: a.csv, --columns: {why}\n"
+                self.assertEqual((3, told), (ended.status, ended.err.decode()))
+        ended = self.convert(b"uid,vcard\n", said="#1=fn,#2=email")
+        self.assertIn(b"--columns: the file has cards, and no columns\n", ended.err)
+
     def test_the_form_of_rows(self):
         """It is what the entry says, whatever most rows look like."""
         octets = b"Lee, Ann, Dr.;a@x.test\n"
@@ -110,7 +135,7 @@ class Headerless(ConvertTest):
                 self.assertEqual(3, ended.status)
                 self.assertIn(b"is no property here", ended.err)
         ended = self.convert(octets, said="#3=fn,rows=semicolon;cells=2")
-        self.assertIn(b"no row has all these columns", ended.err)
+        self.assertIn(b"there is no column '#3'; the number of columns is 2\n", ended.err)
 
     def test_a_suggestion_keeps_the_header(self):
         octets = b'"Mail, alt","Name, ganz"\na@x.test,Ann\n'
@@ -151,9 +176,12 @@ class Headerless(ConvertTest):
         self.assertEqual(["42"], self.values(ended, "X--3"))
 
     def test_a_column_that_no_row_has(self):
-        for said, column in ("#1=fn,#3=email", "#3"), ("#1=fn,#0=email", "#0"):
+        """The cells of a person are no names to be told."""
+        for said, why in [("#1=fn,#3=email", "there is no column '#3'; the number of columns is 2"),
+                          ("#4=fn,rows", "there is no column '#4'; the number of columns is 2"),
+                          ("#1=fn,#0=email", "there is no column '#0': columns are counted from 1")]:
             ended = self.convert(b"Ann,a@x.test\nBob,b@x.test\n", said=said)
-            why = f"there is no column '{column}'; there are: Ann, a@x.test\n"
+            why += "\n"
             self.assertEqual((3, f"fault device 1: a.csv, --columns: {why}", b""),
                              (ended.status, ended.err.decode(), ended.out))
 
@@ -189,6 +217,22 @@ class Headerless(ConvertTest):
         self.assertIn("needs the entry rows=", value["text"])
         # One with a header that is known needs none.
         self.part(b"Name,Email\nAnn,a@x.test\n", query + quote(SAID))
+
+    def test_a_part_that_begins_with_a_line_feed(self):
+        """It was cut between the octets of a CR LF. Its rows are told with their own lines."""
+        form = SAID + ",rows=comma;cells=2"
+        octets = b"Ann,a@x.test\r\nBob\r\nCy,c@x.test\r\n"
+        query = "?columns=" + quote(form)
+        for end in 13, 14, 18, 19:
+            with self.subTest(end):
+                first = self.part(octets[:end], query)
+                self.assertEqual(end, first["taken"])
+                more = f"{query}&line={first['line']}&card={first['card']}"
+                second = self.part(octets[end:], more)
+                parts = first, second
+                rows = [(row["card"], row["line"]) for part in parts for row in part["rows"]]
+                told = [(it["card"], it["line"]) for part in parts for it in part["report"]]
+                self.assertEqual(([(1, 1), (3, 3)], [(2, 2)]), (rows, told))
 
     def test_a_part_that_has_no_whole_row(self):
         """A later part in which no row has all columns is told, and not refused."""

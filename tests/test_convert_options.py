@@ -215,8 +215,8 @@ class ConvertOptions(OrderTest):
             ("Wer=fn,", "'' isn't COLUMN=PROPERTY"),
             ("=fn", "'=fn' isn't COLUMN=PROPERTY"),
             ("Wer=fn,Fax=tel", "there is no column 'Fax'; there are: Wer, Mail, Tel"),
-            ("#4=fn", "there is no column '#4'; there are: Wer, Mail, Tel"),
-            ("#0=fn", "there is no column '#0'; there are: Wer, Mail, Tel"),
+            ("#4=fn", "there is no column '#4'; the number of columns is 3"),
+            ("#0=fn", "there is no column '#0': columns are counted from 1"),
             ("Wer=fn,Mail=email;work",
              "';work' after 'Mail=email' isn't ;type=WORD, once for each type"),
             ("Wer=fn,Mail=email;type=a b",
@@ -449,7 +449,7 @@ class ConvertOptions(OrderTest):
         ended = self.convert(octets, "--report", "r.txt")
         lines = ["row 1, line 2: the cell of Shoe kept as X-SHOE",
                  "row 1, line 2: the cell of Birthday rewritten",
-                 "row 2, line 3: not carried: the row has more or fewer cells than the header"]
+                 "row 2, line 3: not carried: the row has more or fewer cells than there are columns"]
         self.assertEqual((1, digest(lines, 1, 1, 1)), (ended.status, ended.err.decode()))
         self.assertEqual(ended, self.convert(octets))
         listed = "".join(line + "\n" for line in lines)

@@ -17,6 +17,8 @@ JPEG = b"\xff\xd8\xff\xe0" + bytes(range(256)) * 900
 PNG = b"\x89PNG\r\n" + bytes(range(255, -1, -1)) * 900
 GIF = b"GIF89a" + b"\x00\x01\x02" * 80_000
 WEBP = b"RIFF\x00\x00\x00\x00WEBP" + b"\x07\x00" * 120_000
+BMP = b"BM" + b"\x09\x00" * 120_000
+TEXT = b"<svg>" + b"\x0a\x00" * 120_000
 WAVE = b"RIFF\x00\x00\x00\x00WAVE" + b"\x08\x00" * 120_000
 
 
@@ -66,11 +68,12 @@ class ConvertPhotos(OrderTest):
         return digest(lines, written, len(lines), refused)[:-1] + media + "\n"
 
     def test_each_format(self):
-        for octets, ending in [(JPEG, "jpg"), (PNG, "png"), (GIF, "gif"), (WEBP, "bin")]:
+        for octets, ending in [(JPEG, "jpg"), (PNG, "png"), (GIF, "gif"), (WEBP, "webp"),
+                               (BMP, "bmp"), (WAVE, "bin"), (TEXT, "bin")]:
             with self.subTest(ending):
                 ended = self.convert(card("a", binary("PHOTO", octets), "TITLE:t"))
                 wanted = f"card 1, line 5: PHOTO written to p/a-photo.{ending}"
-                self.assertEqual((0, self.told([wanted], 1, ", 1 photos written")),
+                self.assertEqual((0, self.told([wanted], 1, ", 1 pictures and sounds written")),
                                  (ended.status, ended.err.decode()))
                 self.assertEqual({f"a-photo.{ending}": octets}, self.photos())
                 [(uid, lines)] = self.cards(ended)
@@ -93,7 +96,7 @@ class ConvertPhotos(OrderTest):
                 ended = self.convert(card("a", line, version=version))
                 self.assertEqual(0, ended.status, ended.err)
                 self.assertEqual({"a-photo.jpg": JPEG}, self.photos())
-                self.assertTrue(ended.err.endswith(b", 1 photos written\n"), ended.err)
+                self.assertTrue(ended.err.endswith(b", 1 pictures and sounds written\n"), ended.err)
                 (self.folder / "p/a-photo.jpg").unlink()
 
     def test_several_of_a_card(self):
@@ -103,7 +106,7 @@ class ConvertPhotos(OrderTest):
         self.assertEqual(dict(zip(names, (line[1] for line in lines))), self.photos())
         told = [f"card 1, line {place}: {line[0]} written to p/{name}"
                 for place, (line, name) in enumerate(zip(lines, names), 5)]
-        report = digest(told, 1, 1, 0)[:-1] + ", 5 photos written\n"
+        report = digest(told, 1, 1, 0)[:-1] + ", 5 pictures and sounds written\n"
         self.assertEqual((0, report), (ended.status, ended.err.decode()))
 
     def test_names(self):
@@ -126,12 +129,62 @@ class ConvertPhotos(OrderTest):
         name = uid[len("urn:uuid:"):] + "-photo.jpg"
         self.assertEqual((0, {name: JPEG}), (ended.status, self.photos()))
 
+    def test_cards_that_differ_in_what_is_left_out(self):
+        """The second one is another card under the same UID, and what it has is written, too."""
+        same = [binary("PHOTO", JPEG), binary("SOUND", WAVE)]
+        for other in ([binary("PHOTO", PNG), same[1]], [same[0], binary("SOUND", WAVE[:-2])],
+                      same[:1], [binary("LOGO", JPEG), same[1]], same[::-1]):
+            with self.subTest([line[:40] for line in other]):
+                for option in [], ["--to", "d"]:
+                    (self.folder / "d").mkdir(exist_ok=True)
+                    ended = self.convert(card("a", *same) + card("a", *other), *option)
+                    told = ended.err.decode()
+                    self.assertEqual(0, ended.status, told)
+                    self.assertIn("\ncard 2, line 8: an earlier card has the same UID; kept under "
+                                  "urn:uuid:", "\n" + told)
+                    self.assertRegex(told, "2 cards written, 2 changed, .*, "
+                                     f"{2 + len(other)} pictures and sounds written\n$")
+                    wanted = sorted(base64.b64decode(line.partition(":")[2])
+                                    for line in same + other)
+                    self.assertEqual(wanted, sorted(self.photos().values()))
+                    for path in [*(self.folder / "p").iterdir(), *(self.folder / "d").iterdir()]:
+                        path.unlink()
+
+    def test_the_same_card_twice(self):
+        """With the same photo it is passed, however its lines end or are folded."""
+        line = binary("PHOTO", JPEG)
+        first = card("a", line)
+        for second in first, first.replace("\r\n", "\n"), card("a", folded(line, 75, 74)):
+            with self.subTest(second[:60]):
+                ended = self.convert(first + second)
+                self.assertEqual(0, ended.status, ended.err)
+                self.assertIn(b"1 card the same as an earlier one isn't written again\n", ended.err)
+                self.assertEqual(["a"], [uid for uid, _ in self.cards(ended)])
+                self.assertEqual({"a-photo.jpg": JPEG}, self.photos())
+                (self.folder / "p/a-photo.jpg").unlink()
+
+    def test_many_in_each_of_two_cards(self):
+        """Of more than 1,000 none is written, but the card isn't taken for the same one."""
+        lines = [binary("PHOTO", GIF[:300])] * 1_001
+        first, second = card("a", *lines), card("a", *lines[1:], binary("PHOTO", GIF[:303]))
+        for text, written in (first + second, 2), (first + first, 1):
+            ended = self.convert(text)
+            self.assertEqual((1, written), (ended.status, len(self.cards(ended))), ended.err)
+
+    def test_a_card_that_is_too_large_all_the_same(self):
+        """What isn't base64 after an ENCODING is no photo. It is told which line it is."""
+        ended = self.convert(card("a", "TITLE:t", "PHOTO;ENCODING=b:" + 300_000 * "*"))
+        wanted = ("card 1, line 1: not carried: the text is too long; its longest line is line 6, "
+                  "PHOTO")
+        self.assertEqual((1, digest([wanted], 0, 0, 1)), (ended.status, ended.err.decode()))
+        self.assertEqual({}, self.photos())
+
     def test_a_file_that_is_there(self):
         """It stays as it is, and the status is 1. The card is carried."""
         (self.folder / "p/a-photo.jpg").write_bytes(b"mine")
         ended = self.convert(card("a", binary("PHOTO", JPEG)))
         line = "card 1, line 5: PHOTO left out: the file p/a-photo.jpg exists"
-        self.assertEqual((1, self.told([line], 1, ", 1 photos not written")),
+        self.assertEqual((1, self.told([line], 1, ", 1 pictures and sounds not written")),
                          (ended.status, ended.err.decode()))
         self.assertEqual({"a-photo.jpg": b"mine"}, self.photos())
         self.assertEqual(["a"], [uid for uid, _ in self.cards(ended)])
@@ -142,7 +195,7 @@ class ConvertPhotos(OrderTest):
                 value = f"data:{front}{300_000 * octet}"
                 ended = self.convert(card("a", f"PHOTO:{value}", version="4.0"))
                 line = "card 1, line 5: PHOTO left out: its value is no base64 that can be read"
-                self.assertEqual((1, self.told([line], 1, ", 1 photos not written")),
+                self.assertEqual((1, self.told([line], 1, ", 1 pictures and sounds not written")),
                                  (ended.status, ended.err.decode()))
                 self.assertEqual({}, self.photos())
 

@@ -352,6 +352,41 @@ class Refused(ConvertTest):
         part = self.part(wide, "?columns=" + quote(",".join(f"{name}=-" for name in names[:70])))
         self.assertEqual(1, part["written"])
 
+    def test_wide_lines_after_the_header(self):
+        """They don't matter, nor where the header is known by what is said alone."""
+        note = b'Ann,a@x.test,"' + b"a, " * 1_500 + b'"\n'
+        for header, query in [(b"Name,Email,Notes\n", ""), (b"List\n\nName,Email,Notes\n", ""),
+                              (b"Wer,Wo,Was\n", "?columns=" + quote("Wer=fn,Wo=email,Was=note"))]:
+            for end in b"\n", b"\r":
+                with self.subTest(header, end=end):
+                    octets = (header + note + b"Bob,b@x.test,n\n").replace(b"\n", end)
+                    part = self.part(octets, query)
+                    self.assertEqual(("contacts", 2, len(octets)),
+                                     (part["kind"], part["written"], part["taken"]))
+        # Of a file without a header the form of the rows is enough.
+        query = "?line=9&card=9&columns=" + quote("#1=fn,#2=email,#3=note,rows=comma;cells=3")
+        self.assertEqual(1, self.part(note, query)["written"])
+        # A header after such a line isn't looked for.
+        status, value = self.post(note + b"Name,Email,Notes\n" + note)
+        self.assertEqual((422, 35), (status, value["number"]))
+        self.assertIn("a header of more than 1,000 cells", value["text"])
+
+    def test_headers_that_go_on_after_the_first_octets(self):
+        """They are counted whole."""
+        long = b'Name,Email,"' + b"x" * 16_400 + b'"'
+        for cells, status in (900, 200), (997, 200), (998, 422), (110_000, 422):
+            with self.subTest(cells):
+                row = b"\nAnn,a@x.test" + b"," * (cells + 1) + b"\n"
+                found, value = self.post(long + b",a" * cells + row)
+                self.assertEqual(status, found, value)
+                if status == 200:
+                    self.assertEqual(1, value["written"])
+                else:
+                    self.assertIn("a header of more than 1,000 cells", value["text"])
+        status, value = self.post(b'Name,Email,"' + b"x" * 600_000 + b'"\nAnn,a@x.test,\n')
+        self.assertEqual(422, status)
+        self.assertIn("a header of more than 524,288 octets", value["text"])
+
     def test_wrong_queries(self):
         for query in ["?more=2", "?more=", "?line=0", "?card=0", "?line=x", "?line=1&line=2",
                       "?dates=year", "?charset=latin1", "?a=b", "?card=1234567890123456"]:
@@ -416,6 +451,9 @@ WORST = {
         b"Name,Phone 1 - Value" + b",c" * 900 + b"\n" + (b"A,1" + b",v" * 900 + b"\n") * 4_000,
     "many values": GOOGLE.encode() + b"A," + b"a ::: " * 1_000_000 + b",,,\n",
     "a long header": b"a," * 4_000_000 + b"\n",
+    "a header that goes on": b'Name,Email,"' + b"x" * 16_400 + b'"' + b",a" * 110_000 + b"\nA,a@x\n",
+    "a header of several lines": b'Name,Email,"\n",' + b'",\n",' * 5_000 + b"\n",
+    "a header without an end": b'Name,Email,"' + b"x" * 600_000 + b'"' + b",a" * 3_000_000,
     "a wide header": b",".join(b"Phone %d - Value" % n for n in range(900)) + b",Name\n",
     "nothing but text": b"hello, world\n" * 600_000,
 }

@@ -16,7 +16,7 @@ use Rattle.card_conversion.proofs.ProgressLemmas.{more_written}
 both_have : (uids : List (List ℕ)) (first then : List Entry) → HaveFates uids first → HaveFates (uids ++ uids_of first) then → HaveFates uids (first ++ then)
 both_have uids [] then have more = subst (λ all. HaveFates all then) (append-nil uids) more
 both_have uids (e ∷ es) then have more =
-    (have.0, both_have (uids ++ uids_of_fate e.fate) es then have.1 (subst (λ all. HaveFates all then) (sym (append_assoc uids (uids_of_fate e.fate) (uids_of es))) more))
+    (have.0, both_have (uids ++ uids_of_fate e.octets e.fate) es then have.1 (subst (λ all. HaveFates all then) (sym (append_assoc uids (uids_of_fate e.octets e.fate) (uids_of es))) more))
 
 module _ {A : Type 0} (writes : List Line → A → A → Type 0) (uids : List (List ℕ)) where
   -- nothing is converted yet
@@ -31,7 +31,7 @@ module _ {A : Type 0} (writes : List Line → A → A → Type 0) (uids : List (
         record { octets = octets; fate = fate } ∷ [],
         record {
           fates = (taken.0, tt);
-          known = subst (λ all. HasUids new.uids (uids ++ all)) (sym (append-nil (uids_of_fate fate))) taken.1;
+          known = subst (λ all. HasUids new.uids (uids ++ all)) (sym (append-nil (uids_of_fate octets fate))) taken.1;
           written = subst (λ cards. WritesInTurn writes cards before after) (sym (append-nil (cards_of_fate fate))) taken.2;
           counts = counts;
         },
@@ -47,7 +47,7 @@ joined writes uids old course new before at after (es, first) more =
       es ++ fs,
       record {
         fates = both_have uids es fs first.fates then.1.fates;
-        known = subst (HasUids new.uids) (append_assoc uids (uids_of es) (uids_of fs) ∙ ap (λ all. uids ++ all) (sym (flat_map-append (λ (e : Entry). uids_of_fate e.fate) es fs))) then.1.known;
+        known = subst (HasUids new.uids) (append_assoc uids (uids_of es) (uids_of fs) ∙ ap (λ all. uids ++ all) (sym (flat_map-append (λ (e : Entry). uids_of_fate e.octets e.fate) es fs))) then.1.known;
         written = subst (λ cards. WritesInTurn writes cards before after) (sym (flat_map-append (λ (e : Entry). cards_of_fate e.fate) es fs))
             (more_written writes (cards_of es) (cards_of fs) before at after first.written then.1.written);
         counts = then.1.counts ∙ ap (λ s. summary_after s fs) first.counts ∙ sym (fold-append (λ (s : Summary) (e : Entry). counted s e.fate) (counts_of old) es fs);

@@ -5,11 +5,11 @@ use Rattle.std.proofs.lemmas.List.{take_more}
 use Rattle.import_text.specs.declared.raw_line.RawLine.{RawLine}
 use Rattle.vcard_property.specs.Media.{media_octets}
 use Rattle.card_conversion.specs.Media.{PutsLine, PutsLines}
-use Rattle.card_conversion.specs.declared.media_sink.Kept.{Kept}
+use Rattle.card_conversion.specs.declared.media_sink.MediaDelivery.{MediaDelivery}
 
 module _ {A : Type 0} (takes : List ℕ → A → A → Type 0) where
   -- what one more line has in it was put after that of others
-  one_more_line : (lines : List RawLine) (all : List Kept) (line : RawLine) (is : Kept) (a b c : A) → PutsLines takes lines all a b → PutsLine takes (media_octets line.octets) is b c
+  one_more_line : (lines : List RawLine) (all : List MediaDelivery) (line : RawLine) (is : MediaDelivery) (a b c : A) → PutsLines takes lines all a b → PutsLine takes (media_octets line.octets) is b c
       → PutsLines takes (lines ++ line ∷ []) (all ++ is ∷ []) a c
   one_more_line [] [] line is a b c same put = (c, subst (λ x. PutsLine takes (media_octets line.octets) is x c) same put, refl)
   one_more_line [] (other ∷ all) line is a b c never put = absurd never
@@ -17,7 +17,7 @@ module _ {A : Type 0} (takes : List ℕ → A → A → Type 0) where
   one_more_line (other ∷ lines) (that ∷ all) line is a b c first put = (first.0, first.1, one_more_line lines all line is first.0 b c first.2 put)
 
   -- what the line at a place has in it was put, after that of those before it
-  pub line_step : (lines : List RawLine) (i : ℕ) (line : RawLine) (old new : List Kept) (is : Kept) (a b c : A) → i < length lines → line ≡ get_or lines i line → new ≡ old ++ is ∷ []
+  pub line_step : (lines : List RawLine) (i : ℕ) (line : RawLine) (old new : List MediaDelivery) (is : MediaDelivery) (a b c : A) → i < length lines → line ≡ get_or lines i line → new ≡ old ++ is ∷ []
       → PutsLines takes (take i lines) old a b → PutsLine takes (media_octets line.octets) is b c → PutsLines takes (take (i + 1) lines) new a c
   line_step lines i line old new is a b c within at grows first put =
       subst (λ all. PutsLines takes all new a c) (sym (take_more lines i line within ∙ ap (λ e. take i lines ++ e ∷ []) (sym at)))

@@ -1,5 +1,5 @@
 -- A card under a UID of its own.
-use Rattle.std.proofs.Common.{◌≡◌, ◌+◌, arith, ◌∷◌, [], ℕ, Bool, true, false, List, refl, sym, ap, subst, ◌∙◌, codes, cond}
+use Rattle.std.proofs.Common.{◌≡◌, ◌+◌, ◌++◌, arith, ◌∷◌, [], ℕ, Bool, true, false, List, refl, sym, ap, subst, ◌∙◌, codes, cond}
 use Rattle.std.specs.List.{AllByRecursion}
 use Rattle.std.specs.Str.{str_to_ascii_uppercase}
 use Rattle.vcard_lines.specs.declared.line.Line.{Line}
@@ -11,7 +11,8 @@ use Rattle.vcard_text.specs.Cards.{IsCard, IsProperLine, line_is_named, uid_of}
 use Rattle.vcard_text.specs.Making.{upper_line, upper_lines}
 use Rattle.vcard_text.specs.Cards.{canonical_text}
 use Rattle.vcard_import.specs.DerivedUid.{derived_uid}
-use Rattle.card_conversion.specs.Moved.{line_under, lines_under, own_uid}
+use Rattle.vcard_import.specs.declared.conversion.Conversion.{Conversion}
+use Rattle.card_conversion.specs.Moved.{left_out_text, line_under, lines_under, own_uid}
 
 upper_stays : (line : Line) → line.name ≡ str_to_ascii_uppercase line.name → upper_line line ≡ line
 upper_stays line upper = ap (λ name. record { group = line.group; name = name; params = line.params; value = line.value }) (sym upper)
@@ -33,9 +34,9 @@ lines_stay uid (line ∷ lines) all =
     ap (λ l. l ∷ upper_lines (lines_under uid lines)) (line_stays uid line all.0.upper)
     ∙ ap (λ ls. line_under uid line ∷ ls) (lines_stay uid lines all.1)
 
-pub is_own : (card : List Line) (text : List ℕ) → text ≡ canonical_text card → derived_uid text ≡ own_uid card
+pub is_own : (octets : List ℕ) (made : Conversion) (text : List ℕ) → text ≡ canonical_text made.card ++ left_out_text octets made.changes → derived_uid text ≡ own_uid octets made
 unfolding own_uid
-is_own card text is = ap derived_uid is
+is_own octets made text is = ap derived_uid is
 
 -- a card that is under a UID has it
 pub has_uid : (uid : List ℕ) (lines : List Line) → count_by (line_is_named (codes "UID")) lines ≡ 1 → uid_of (lines_under uid lines) ≡ uid

@@ -34,8 +34,8 @@ entry_of octets fate = record { octets = octets; fate = fate }
 more_octets : (entries : List Entry) (octets : List ℕ) (fate : Fate) → octets_of (entries ++ entry_of octets fate ∷ []) ≡ octets_of entries ++ octets
 more_octets entries octets fate = sym (flat_map_more (λ (e : Entry). e.octets) [] entries (entry_of octets fate))
 
-more_uids : (entries : List Entry) (octets : List ℕ) (fate : Fate) → uids_of (entries ++ entry_of octets fate ∷ []) ≡ uids_of entries ++ uids_of_fate fate
-more_uids entries octets fate = sym (flat_map_more (λ (e : Entry). uids_of_fate e.fate) [] entries (entry_of octets fate))
+more_uids : (entries : List Entry) (octets : List ℕ) (fate : Fate) → uids_of (entries ++ entry_of octets fate ∷ []) ≡ uids_of entries ++ uids_of_fate octets fate
+more_uids entries octets fate = sym (flat_map_more (λ (e : Entry). uids_of_fate e.octets e.fate) [] entries (entry_of octets fate))
 
 more_cards : (entries : List Entry) (octets : List ℕ) (fate : Fate) → cards_of (entries ++ entry_of octets fate ∷ []) ≡ cards_of entries ++ cards_of_fate fate
 more_cards entries octets fate = sym (flat_map_more (λ (e : Entry). cards_of_fate e.fate) [] entries (entry_of octets fate))
@@ -47,7 +47,7 @@ more_counts start entries octets fate = fold-append (λ (s : Summary) (e : Entry
 more_fates : (uids : List (List ℕ)) (entries : List Entry) (octets : List ℕ) (fate : Fate) → HaveFates uids entries → IsFate (uids ++ uids_of entries) octets fate → HaveFates uids (entries ++ entry_of octets fate ∷ [])
 more_fates uids [] octets fate have is = (subst (λ all. IsFate all octets fate) (append-nil uids) is, tt)
 more_fates uids (e ∷ es) octets fate have is =
-    (have.0, more_fates (uids ++ uids_of_fate e.fate) es octets fate have.1 (subst (λ all. IsFate all octets fate) (sym (append_assoc uids (uids_of_fate e.fate) (uids_of es))) is))
+    (have.0, more_fates (uids ++ uids_of_fate e.octets e.fate) es octets fate have.1 (subst (λ all. IsFate all octets fate) (sym (append_assoc uids (uids_of_fate e.octets e.fate) (uids_of es))) is))
 
 -- what was read up to the end is the whole
 whole_read : (a b c : Option (List ℕ)) (octets : List ℕ) → Consumes a b octets → Consumes b c [] → IsAtEnd c → IfSome a (λ input. input ≡ octets)
@@ -83,19 +83,19 @@ apart : (uids : List (List ℕ)) (entries : List Entry) → HaveFates uids entri
 apart uids [] have = λ k d small. absurd (omega (arith, small))
 apart uids (e ∷ es) have =
     with_card (λ uid. Contains uids uid → ⊥) (cards_of es) uids e.octets e.fate have.0 (λ uid new. new)
-    (λ k d small had. apart (uids ++ uids_of_fate e.fate) es have.1 k d small (Contains-append_left uids (uids_of_fate e.fate) (get_or (map uid_of (cards_of es)) k d) had))
+    (λ k d small had. apart (uids ++ uids_of_fate e.octets e.fate) es have.1 k d small (Contains-append_left uids (uids_of_fate e.octets e.fate) (get_or (map uid_of (cards_of es)) k d) had))
 
 first_has : (x : List ℕ) (others : List (List ℕ)) → Contains (x ∷ others) x
 first_has x others = (0, omega arith, refl)
 
 -- a card with a UID that none of the others has
-with_pair : (uids : List (List ℕ)) (made : Conversion) (rest : List (List Line)) → All (λ uid. Contains (uids ++ uid_of made.card ∷ own_uid made.card ∷ []) uid → ⊥) (map uid_of rest) → AllPairs (λ a b. a ≢ b) (map uid_of rest) → AllPairs (λ a b. a ≢ b) (uid_of made.card ∷ map uid_of rest)
-with_pair uids made rest all pairs =
+with_pair : (uids : List (List ℕ)) (octets : List ℕ) (made : Conversion) (rest : List (List Line)) → All (λ uid. Contains (uids ++ uid_of made.card ∷ own_uid octets made ∷ []) uid → ⊥) (map uid_of rest) → AllPairs (λ a b. a ≢ b) (map uid_of rest) → AllPairs (λ a b. a ≢ b) (uid_of made.card ∷ map uid_of rest)
+with_pair uids octets made rest all pairs =
     AllPairs-cons (λ a b. a ≢ b) (uid_of made.card) (map uid_of rest)
-    (λ k d small same. all k d small (subst (Contains (uids ++ uid_of made.card ∷ own_uid made.card ∷ [])) same (Contains-append_right uids (uid_of made.card ∷ own_uid made.card ∷ []) (uid_of made.card) (first_has (uid_of made.card) (own_uid made.card ∷ [])))))
+    (λ k d small same. all k d small (subst (Contains (uids ++ uid_of made.card ∷ own_uid octets made ∷ [])) same (Contains-append_right uids (uid_of made.card ∷ own_uid octets made ∷ []) (uid_of made.card) (first_has (uid_of made.card) (own_uid octets made ∷ [])))))
     pairs
 
-with_pairs : (uids : List (List ℕ)) (octets : List ℕ) (fate : Fate) (rest : List (List Line)) → All (λ uid. Contains (uids ++ uids_of_fate fate) uid → ⊥) (map uid_of rest) → AllPairs (λ a b. a ≢ b) (map uid_of rest) → AllPairs (λ a b. a ≢ b) (map uid_of (cards_of_fate fate ++ rest))
+with_pairs : (uids : List (List ℕ)) (octets : List ℕ) (fate : Fate) (rest : List (List Line)) → All (λ uid. Contains (uids ++ uids_of_fate octets fate) uid → ⊥) (map uid_of rest) → AllPairs (λ a b. a ≢ b) (map uid_of rest) → AllPairs (λ a b. a ≢ b) (map uid_of (cards_of_fate fate ++ rest))
 with_pairs uids octets Blank rest all pairs = pairs
 with_pairs uids octets Other rest all pairs = pairs
 with_pairs uids octets Long rest all pairs = pairs
@@ -104,13 +104,13 @@ with_pairs uids octets (Refused fault) rest all pairs = pairs
 with_pairs uids octets (Repeated made) rest all pairs = pairs
 with_pairs uids octets (Crowded made) rest all pairs = pairs
 with_pairs uids octets (Declined made words) rest all pairs = pairs
-with_pairs uids octets (Written made) rest all pairs = with_pair uids made rest all pairs
-with_pairs uids octets (Moved made) rest all pairs = with_pair uids made rest all pairs
+with_pairs uids octets (Written made) rest all pairs = with_pair uids octets made rest all pairs
+with_pairs uids octets (Moved made) rest all pairs = with_pair uids octets made rest all pairs
 
 apart_each : (uids : List (List ℕ)) (entries : List Entry) → HaveFates uids entries → AllPairs (λ a b. a ≢ b) (map uid_of (cards_of entries))
 apart_each uids [] have = λ i j d below small. absurd (omega (arith, small))
 apart_each uids (e ∷ es) have =
-    with_pairs uids e.octets e.fate (cards_of es) (apart (uids ++ uids_of_fate e.fate) es have.1) (apart_each (uids ++ uids_of_fate e.fate) es have.1)
+    with_pairs uids e.octets e.fate (cards_of es) (apart (uids ++ uids_of_fate e.octets e.fate) es have.1) (apart_each (uids ++ uids_of_fate e.octets e.fate) es have.1)
 
 with_rules : (uids : List (List ℕ)) (octets : List ℕ) (fate : Fate) (rest : List (List Line)) → IsFate uids octets fate → AllByRecursion IsCard rest → AllByRecursion IsCard (cards_of_fate fate ++ rest)
 with_rules uids octets Blank rest is all = all
@@ -126,13 +126,13 @@ with_rules uids octets (Moved made) rest is all = (is.0.moved.card, all)
 
 each_card : (uids : List (List ℕ)) (entries : List Entry) → HaveFates uids entries → AllByRecursion IsCard (cards_of entries)
 each_card uids [] have = tt
-each_card uids (e ∷ es) have = with_rules uids e.octets e.fate (cards_of es) have.0 (each_card (uids ++ uids_of_fate e.fate) es have.1)
+each_card uids (e ∷ es) have = with_rules uids e.octets e.fate (cards_of es) have.0 (each_card (uids ++ uids_of_fate e.octets e.fate) es have.1)
 
 -- ---- the same, with other cards after them
 
 -- what is no UID of these and the later entries, in the order of the entries
-later : (P : List (List ℕ) → Type 0) (uids : List (List ℕ)) (e : Entry) (es : List Entry) → P (uids ++ uids_of (e ∷ es)) → P ((uids ++ uids_of_fate e.fate) ++ uids_of es)
-later P uids e es = subst P (sym (append_assoc uids (uids_of_fate e.fate) (uids_of es)))
+later : (P : List (List ℕ) → Type 0) (uids : List (List ℕ)) (e : Entry) (es : List Entry) → P (uids ++ uids_of (e ∷ es)) → P ((uids ++ uids_of_fate e.octets e.fate) ++ uids_of es)
+later P uids e es = subst P (sym (append_assoc uids (uids_of_fate e.octets e.fate) (uids_of es)))
 
 abbrev NoneOf : List (List Line) → List (List ℕ) → Type 0
 NoneOf rest uids = All (λ uid. Contains uids uid → ⊥) (map uid_of rest)
@@ -142,20 +142,20 @@ apart_then uids [] rest have all = subst (NoneOf rest) (append-nil uids) all
 apart_then uids (e ∷ es) rest have all =
     subst (λ cards. NoneOf cards uids) (sym (append_assoc (cards_of_fate e.fate) (cards_of es) rest))
     (with_card (λ uid. Contains uids uid → ⊥) (cards_of es ++ rest) uids e.octets e.fate have.0 (λ uid new. new)
-    (λ k d small had. apart_then (uids ++ uids_of_fate e.fate) es rest have.1 (later (NoneOf rest) uids e es all) k d small (Contains-append_left uids (uids_of_fate e.fate) (get_or (map uid_of (cards_of es ++ rest)) k d) had)))
+    (λ k d small had. apart_then (uids ++ uids_of_fate e.octets e.fate) es rest have.1 (later (NoneOf rest) uids e es all) k d small (Contains-append_left uids (uids_of_fate e.octets e.fate) (get_or (map uid_of (cards_of es ++ rest)) k d) had)))
 
 pub pairs_then : (uids : List (List ℕ)) (entries : List Entry) (rest : List (List Line)) → HaveFates uids entries → NoneOf rest (uids ++ uids_of entries) → AllPairs (λ a b. a ≢ b) (map uid_of rest) → AllPairs (λ a b. a ≢ b) (map uid_of (cards_of entries ++ rest))
 pairs_then uids [] rest have all pairs = pairs
 pairs_then uids (e ∷ es) rest have all pairs =
     let after = later (NoneOf rest) uids e es all in
     subst (λ cards. AllPairs (λ a b. a ≢ b) (map uid_of cards)) (sym (append_assoc (cards_of_fate e.fate) (cards_of es) rest))
-    (with_pairs uids e.octets e.fate (cards_of es ++ rest) (apart_then (uids ++ uids_of_fate e.fate) es rest have.1 after) (pairs_then (uids ++ uids_of_fate e.fate) es rest have.1 after pairs))
+    (with_pairs uids e.octets e.fate (cards_of es ++ rest) (apart_then (uids ++ uids_of_fate e.octets e.fate) es rest have.1 after) (pairs_then (uids ++ uids_of_fate e.octets e.fate) es rest have.1 after pairs))
 
 pub cards_then : (uids : List (List ℕ)) (entries : List Entry) (rest : List (List Line)) → HaveFates uids entries → AllByRecursion IsCard rest → AllByRecursion IsCard (cards_of entries ++ rest)
 cards_then uids [] rest have all = all
 cards_then uids (e ∷ es) rest have all =
     subst (AllByRecursion IsCard) (sym (append_assoc (cards_of_fate e.fate) (cards_of es) rest))
-    (with_rules uids e.octets e.fate (cards_of es ++ rest) have.0 (cards_then (uids ++ uids_of_fate e.fate) es rest have.1 all))
+    (with_rules uids e.octets e.fate (cards_of es ++ rest) have.0 (cards_then (uids ++ uids_of_fate e.octets e.fate) es rest have.1 all))
 
 -- no UID is known yet
 pub none_known : HasUids finite.empty []
@@ -206,7 +206,7 @@ module _ {A : Type 0} (writes : List Line → A → A → Type 0) where
           ended = ended;
           fates = more_fates uids p.entries octets fate p.fates taken.0;
           known = subst (λ all. HasUids after (uids ++ all)) (sym (more_uids p.entries octets fate))
-              (subst (HasUids after) (append_assoc uids (uids_of p.entries) (uids_of_fate fate)) taken.1);
+              (subst (HasUids after) (append_assoc uids (uids_of p.entries) (uids_of_fate octets fate)) taken.1);
           written = subst (λ cards. WritesInTurn writes cards before then) (sym (more_cards p.entries octets fate))
               (more_written (cards_of p.entries) (cards_of_fate fate) before now then p.written taken.2);
           counts = counts ∙ ap (λ s. counted s fate) p.counts ∙ sym (more_counts start p.entries octets fate);

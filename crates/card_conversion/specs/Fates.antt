@@ -57,8 +57,8 @@ pub record IsApart (uids : List (List ℕ)) (octets : List ℕ) (made : Conversi
   pub first : Conversion
   pub converted : IsConversion octets first
   pub taken : Contains uids (uid_of first.card)
-  pub another : Contains uids (own_uid first.card) → ⊥
-  pub moved : IsMoved first made
+  pub another : Contains uids (own_uid octets first) → ⊥
+  pub moved : IsMoved octets first made
 
 -- The fate of a piece after pieces whose cards had these UIDs. The UIDs are also those that cards
 -- which were written would have of their own.
@@ -69,10 +69,10 @@ IsFate uids octets Long = 8388608 ≤ length octets
 IsFate uids octets Overfull = is_overfull octets ≡ true
 IsFate uids octets (Refused fault) = IsRefused octets fault
 IsFate uids octets (Repeated made) = IsConversion octets made
-    × Contains uids (uid_of made.card) × Contains uids (own_uid made.card)
+    × Contains uids (uid_of made.card) × Contains uids (own_uid octets made)
 IsFate uids octets (Crowded made) = IsConversion octets made
-    × Contains uids (uid_of made.card) × (Contains uids (own_uid made.card) → ⊥)
-    × (IsCard (lines_under (own_uid made.card) made.card) → ⊥)
+    × Contains uids (uid_of made.card) × (Contains uids (own_uid octets made) → ⊥)
+    × (IsCard (lines_under (own_uid octets made) made.card) → ⊥)
 IsFate uids octets (Declined made words) = (IsConversion octets made ⊎ IsApart uids octets made)
     × (Contains uids (uid_of made.card) → ⊥)
 IsFate uids octets (Written made) =
@@ -80,18 +80,19 @@ IsFate uids octets (Written made) =
 IsFate uids octets (Moved made) =
     IsApart uids octets made × (Contains uids (uid_of made.card) → ⊥)
 
--- the UID of a card that came to the sink, and of one that was written also the one of its own
-abbrev pub uids_of_fate : Fate → List (List ℕ)
-uids_of_fate Blank = []
-uids_of_fate Other = []
-uids_of_fate Long = []
-uids_of_fate Overfull = []
-uids_of_fate (Refused fault) = []
-uids_of_fate (Repeated made) = []
-uids_of_fate (Crowded made) = []
-uids_of_fate (Declined made words) = uid_of made.card ∷ []
-uids_of_fate (Written made) = uid_of made.card ∷ own_uid made.card ∷ []
-uids_of_fate (Moved made) = uid_of made.card ∷ own_uid made.card ∷ []
+-- the UID of a card that was made of the octets and came to the sink, and of one that was written
+-- also the one of its own
+abbrev pub uids_of_fate : List ℕ → Fate → List (List ℕ)
+uids_of_fate octets Blank = []
+uids_of_fate octets Other = []
+uids_of_fate octets Long = []
+uids_of_fate octets Overfull = []
+uids_of_fate octets (Refused fault) = []
+uids_of_fate octets (Repeated made) = []
+uids_of_fate octets (Crowded made) = []
+uids_of_fate octets (Declined made words) = uid_of made.card ∷ []
+uids_of_fate octets (Written made) = uid_of made.card ∷ own_uid octets made ∷ []
+uids_of_fate octets (Moved made) = uid_of made.card ∷ own_uid octets made ∷ []
 
 -- the card that was written
 abbrev pub cards_of_fate : Fate → List (List Line)
@@ -124,10 +125,10 @@ cards_of entries = flat_map (λ entry. cards_of_fate entry.fate) entries
 -- the UIDs of the cards that came to the sink, and those that cards which were written would have
 -- of their own, in order
 abbrev pub uids_of : List Entry → List (List ℕ)
-uids_of entries = flat_map (λ entry. uids_of_fate entry.fate) entries
+uids_of entries = flat_map (λ entry. uids_of_fate entry.octets entry.fate) entries
 
 -- Each piece has its fate after those before it, of which the first come after these UIDs.
 abbrev pub HaveFates : List (List ℕ) → List Entry → Type 0
 HaveFates uids [] = Unit {0}
 HaveFates uids (entry ∷ entries) = IsFate uids entry.octets entry.fate
-    × HaveFates (uids ++ uids_of_fate entry.fate) entries
+    × HaveFates (uids ++ uids_of_fate entry.octets entry.fate) entries

@@ -11,23 +11,23 @@ use Rattle.card_conversion.specs.declared.fate.Fate.TheVariants.{Blank, Other, L
 use Rattle.card_conversion.specs.declared.fate.Fate.TheVariants.{Refused, Repeated, Crowded}
 use Rattle.card_conversion.specs.declared.fate.Fate.TheVariants.{Declined}
 use Rattle.card_conversion.specs.declared.fate.Fate.TheVariants as fate
-use Rattle.card_conversion.specs.declared.media_sink.Kept.{Kept}
-use Rattle.card_conversion.specs.declared.media_sink.Kept.TheVariants as kept
+use Rattle.card_conversion.specs.declared.media_sink.MediaDelivery.{MediaDelivery}
+use Rattle.card_conversion.specs.declared.media_sink.MediaDelivery.TheVariants as delivery
 
 -- what became of one: it was written, or it was refused and the sink is unchanged
-abbrev pub Puts : {A : Type 0} → (A → A → Type 0) → Kept → A → A → Type 0
-Puts takes (kept.Written name) before after = takes before after
-Puts takes (kept.Refused words) before after = after ≡ before
+abbrev pub Puts : {A : Type 0} → (A → A → Type 0) → MediaDelivery → A → A → Type 0
+Puts takes (delivery.Written name) before after = takes before after
+Puts takes (delivery.Refused words) before after = after ≡ before
 
 -- The octets of a logical line were written or refused. A line without any was refused.
-abbrev pub PutsLine : {A : Type 0} → (List ℕ → A → A → Type 0) → Option (List ℕ) → Kept → A → A
-    → Type 0
+abbrev pub PutsLine : {A : Type 0} → (List ℕ → A → A → Type 0) → Option (List ℕ) → MediaDelivery
+    → A → A → Type 0
 PutsLine takes None is before after = Puts (λ _ _. ⊥) is before after
 PutsLine takes (Some octets) is before after = Puts (takes octets) is before after
 
 -- what became of the octets that each of the lines encodes, in order
-abbrev pub PutsLines : {A : Type 0} → (List ℕ → A → A → Type 0) → List RawLine → List Kept → A → A
-    → Type 0
+abbrev pub PutsLines : {A : Type 0} → (List ℕ → A → A → Type 0) → List RawLine
+    → List MediaDelivery → A → A → Type 0
 PutsLines takes [] [] before after = after ≡ before
 PutsLines takes [] (is ∷ all) before after = ⊥
 PutsLines takes (line ∷ lines) [] before after = ⊥
@@ -36,22 +36,22 @@ PutsLines {A} takes (line ∷ lines) (is ∷ all) before after =
     × PutsLines takes lines all between after
 
 -- none was written
-abbrev pub AreRefused : List Kept → Type 0
+abbrev pub AreRefused : List MediaDelivery → Type 0
 AreRefused [] = ⊤
-AreRefused (kept.Written name ∷ all) = ⊥
-AreRefused (kept.Refused words ∷ all) = AreRefused all
+AreRefused (delivery.Written name ∷ all) = ⊥
+AreRefused (delivery.Refused words ∷ all) = AreRefused all
 
 -- The pictures and sounds of a card, which the changes of its conversion call left out: each was
 -- written or refused, in order, or none was written.
-abbrev pub PutsMedia : {A : Type 0} → (List ℕ → A → A → Type 0) → List ℕ → List Change → List Kept
-    → A → A → Type 0
+abbrev pub PutsMedia : {A : Type 0} → (List ℕ → A → A → Type 0) → List ℕ → List Change
+    → List MediaDelivery → A → A → Type 0
 PutsMedia takes octets changes all before after =
     PutsLines takes (left_out_lines octets changes) all before after
     ⊎ (AreRefused all × (after ≡ before))
 
 -- Those of a card that was written, under its UID. Nothing was written of any other piece.
 abbrev pub PutsOfFate : {A : Type 0} → (List ℕ → List ℕ → A → A → Type 0) → List ℕ → Fate
-    → List Kept → A → A → Type 0
+    → List MediaDelivery → A → A → Type 0
 PutsOfFate takes octets Blank all before after = after ≡ before
 PutsOfFate takes octets Other all before after = after ≡ before
 PutsOfFate takes octets Long all before after = after ≡ before

@@ -1,14 +1,33 @@
 -- A card under a UID of its own, where an earlier card of its file has the same UID.
-use Rattle.std.specs.Prelude.{ℕ, ◌≡◌, List, map, codes, if◌then◌else◌}
+use Rattle.std.specs.Prelude.{ℕ, ◌≡◌, ◌++◌, List, [], ◌∷◌, map, flat_map, codes, count_by, nat_lt}
+use Rattle.std.specs.Prelude.{if◌then◌else◌}
+use Rattle.base_types.specs.Octets.{line_feed}
+use Rattle.import_text.specs.declared.raw_line.RawLine.{RawLine}
+use Rattle.vcard_import.specs.Conversions.{left_out_lines}
+use Rattle.vcard_import.specs.LeftOut.{has_left_out, is_left_out}
+use Rattle.vcard_import.specs.declared.change.Change.{Change}
 use Rattle.vcard_lines.specs.declared.line.Line.{Line}
 use Rattle.vcard_text.specs.Cards.{IsCard, canonical_text, line_is_named}
 use Rattle.vcard_import.specs.DerivedUid.{derived_uid}
 use Rattle.vcard_import.specs.declared.conversion.Conversion.{Conversion}
 
--- The UID of its own that a card gets: that of its canonical text. So two cards have the same one
--- only if they have the same lines, but for a collision of SHA-1.
-unfoldable pub own_uid : List Line → List ℕ
-own_uid card = derived_uid (canonical_text card)
+-- the logical lines, with a line feed after each
+abbrev pub ended_lines : List RawLine → List ℕ
+ended_lines lines = flat_map (λ line. line.octets ++ line_feed ∷ []) lines
+
+-- What a card is carried without: the logical lines of its octets that the changes call left out.
+-- If they are more than 1,000, all its octets stand for them.
+abbrev pub left_out_text : List ℕ → List Change → List ℕ
+left_out_text octets changes =
+    if has_left_out changes then (if nat_lt 1000 (count_by is_left_out changes) then octets
+    else ended_lines (left_out_lines octets changes)) else []
+
+-- The UID of its own that a card gets that was made of the octets: that of its canonical text, with
+-- what it is carried without after it. So two cards have the same one only if they have the same
+-- lines, and are carried without the same, but for a collision of SHA-1.
+unfoldable pub own_uid : List ℕ → Conversion → List ℕ
+own_uid octets made =
+    derived_uid (canonical_text made.card ++ left_out_text octets made.changes)
 
 -- the line; if it is the UID, with this value
 abbrev pub line_under : List ℕ → Line → Line
@@ -21,8 +40,9 @@ line_under uid line =
 abbrev pub lines_under : List ℕ → List Line → List Line
 lines_under uid card = map (line_under uid) card
 
--- The card is the first one under a UID of its own, and otherwise the same.
-pub record IsMoved (first made : Conversion) : Type 0 where
+-- The card, which was made of the octets, is the first one under a UID of its own, and otherwise
+-- the same.
+pub record IsMoved (octets : List ℕ) (first made : Conversion) : Type 0 where
   pub card : IsCard made.card
-  pub card_is : made.card ≡ lines_under (own_uid first.card) first.card
+  pub card_is : made.card ≡ lines_under (own_uid octets first) first.card
   pub changes_are : made.changes ≡ first.changes

@@ -1,5 +1,5 @@
-//! Converts a file of cards of any version of vCard, one card at a time, or the contacts that Google
-//! and Outlook export as CSV, one row at a time, and reports each change.
+//! Converts a file of cards of any version of vCard, one card at a time, or the contacts that
+//! Google and Outlook export as CSV, one row at a time, and reports each change.
 #![tactic(auto)]
 
 mod card_sink;
@@ -43,7 +43,7 @@ pub use file::{convert_file, convert_more_file};
 pub use foreign::foreign_format;
 pub use ledger::Summary;
 pub use line_ends::{LineEnds, ends_with_returns};
-pub use media_sink::{Kept, MediaKind, MediaOwner, MediaSink, NoMedia};
+pub use media_sink::{MediaDelivery, MediaKind, MediaOwner, MediaSink, NoMedia};
 pub use reporting::Report;
 pub use rows::{header_text, row_text};
 pub use rows_order::convert_to_rows;

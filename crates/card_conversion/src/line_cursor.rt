@@ -39,6 +39,35 @@ impl<'a> PieceLines<'a> {
     }
 }
 
+/// Whether a physical line goes on with the one before it: it begins with white space, or has no
+/// colon, as lines of base64 that weren't folded.
+fn goes_on(line: &[u8]) -> bool {
+    line.starts_with(b" ") || line.starts_with(b"\t") || !line.contains(&b':')
+}
+
+/// The first of the longest lines of a piece, each with those that go on with it: the number of
+/// lines before it, and its first physical line.
+pub(crate) fn longest_line(piece: &[u8]) -> (u64, &[u8]) {
+    let mut longest: (u64, &[u8]) = (0, &[]);
+    let mut most: usize = 0;
+    let mut begun: (u64, &[u8]) = (0, &[]);
+    let mut len: usize = 0;
+    let mut place: u64 = 0;
+    for line in piece.split(|octet| *octet == b'\n') {
+        if !goes_on(line) {
+            begun = (place, line);
+            len = 0;
+        }
+        len = len.saturating_add(line.len());
+        if len > most {
+            most = len;
+            longest = begun;
+        }
+        place = place.saturating_add(1);
+    }
+    longest
+}
+
 /// The name of the first of the lines that has one of the two names, and the lines after it.
 pub(crate) fn find_name<'a>(
     lines: &'a [Line],

@@ -5,8 +5,8 @@ ghost use Rattle.card_conversion.specs.LineEnds.{line_end};
 use std::io;
 use std::io::Read;
 
-/// Whether the first line of a text ends with a carriage return alone, and not with one or two and a
-/// line feed.
+/// Whether the first line of a text ends with a carriage return alone, and not with one or two and
+/// a line feed.
 pub fn ends_with_returns(head: &[u8]) -> bool {
     let place = head
         .iter()

@@ -32,7 +32,7 @@ pub struct MediaOwner<'a> {
 
 /// What became of a picture or a sound.
 #[derive(Drop)]
-pub enum Kept {
+pub enum MediaDelivery {
     /// It was written to the place of this name.
     Written(Text),
     /// It wasn't, for a reason in words.
@@ -54,9 +54,9 @@ pub trait MediaSink {
         alloc: Global,
         owner: MediaOwner<'_>,
         octets: &[u8],
-    ) -> Result<Kept, SinkFault>
-        ensures { IfOk result (λ kept.
-            Puts (takes owner.entry.uid.now octets.now) kept self.old self.new) };
+    ) -> Result<MediaDelivery, SinkFault>
+        ensures { IfOk result (λ delivery.
+            Puts (takes owner.entry.uid.now octets.now) delivery self.old self.new) };
 }
 
 /// Wants no pictures and sounds.
@@ -75,7 +75,7 @@ impl MediaSink for NoMedia {
         alloc: Global,
         _owner: MediaOwner<'_>,
         _octets: &[u8],
-    ) -> Result<Kept, SinkFault> {
-        Ok(Kept::Refused(Text::copy_of(alloc, "it isn't wanted")?))
+    ) -> Result<MediaDelivery, SinkFault> {
+        Ok(MediaDelivery::Refused(Text::copy_of(alloc, "it isn't wanted")?))
     }
 }

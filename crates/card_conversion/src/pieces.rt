@@ -1,5 +1,5 @@
 //! What a piece of a file is, and what becomes of it.
-ghost use Rattle.std.specs.Prelude.{◌≡◌, IfOk, MatchResult, ℕ, List, count_by, length, string_bytes};
+ghost use Rattle.std.specs.Prelude.{◌≡◌, IfOk, MatchResult, ℕ, List, count_by, length};
 ghost use Rattle.std.specs.List.{Contains};
 ghost use Rattle.vcard_text.specs.Cards.{uid_of};
 ghost use Rattle.card_conversion.specs.Deliveries.{HasUids};
@@ -20,7 +20,6 @@ use base_types::{NoMemory, TextMap};
 use import_text::begins_with_word;
 use std::alloc::Global;
 use vcard_import::{Conversion, ImportFault, convert_card};
-use vcard_text::Card;
 
 /// The octets without a byte order mark of UTF-8.
 fn without_bom(octets: &[u8]) -> &[u8]
@@ -63,7 +62,8 @@ fn is_card(piece: &[u8]) -> bool
     begins_with_word(line, b"BEGIN:VCARD") && are_white(&line[11..])
 }
 
-/// The most semicolons of a card. Each may begin a parameter, which takes some 400 octets of memory.
+/// The most semicolons of a card. Each may begin a parameter, which takes some 400 octets of
+/// memory.
 const SEMICOLONS_MAX: usize = 65_536;
 
 fn is_semicolon(octet: &u8) -> bool
@@ -85,22 +85,23 @@ fn is_overfull(piece: &[u8]) -> bool
     count_semicolons(piece) > SEMICOLONS_MAX
 }
 
-/// Writes a card, and remembers its UID. Of one that was written it remembers the UID of its own,
-/// too.
+/// Writes the card that a piece became, and remembers its UID. Of one that was written it remembers
+/// the UID of its own, too.
 fn write_new<O: CardSink>(
     alloc: Global,
     uids: &mut TextMap<()>,
     number: u64,
-    card: &Card,
+    piece: &[u8],
+    made: &Conversion,
     sink: &mut O,
 ) -> Result<Delivery, ConversionFault>
     ensures { (known : List (List ℕ)) → HasUids uids.old known
-        → IfOk result (DeliversNew O.writes known card.now uids.new sink.old sink.new) }
+        → IfOk result (DeliversNew O.writes known piece.now made.now uids.new sink.old sink.new) }
 {
-    let uid = String::from_str(alloc, card.uid())?;
-    let own = own_uid(alloc, card)?;
+    let uid = String::from_str(alloc, made.card.uid())?;
+    let own = own_uid(alloc, piece, made)?;
     uids.insert(uid, ())?;
-    match sink.put(alloc, number, card)? {
+    match sink.put(alloc, number, &made.card)? {
         Delivery::Written => {
             uids.insert(own, ())?;
             Ok(Delivery::Written)
@@ -114,61 +115,71 @@ fn write_moved<O: CardSink>(
     alloc: Global,
     uids: &mut TextMap<()>,
     number: u64,
+    piece: &[u8],
     moved: Conversion,
     sink: &mut O,
 ) -> Result<Fate, ConversionFault>
-    ensures { (octets : List ℕ) → (known : List (List ℕ)) → HasUids uids.old known
-        → IsApart known octets moved → (Contains known (uid_of moved.card) → ⊥)
-        → IfOk result (TakesAfter O.writes octets known uids.new sink.old sink.new) }
+    ensures { (known : List (List ℕ)) → HasUids uids.old known
+        → IsApart known piece.now moved → (Contains known (uid_of moved.card) → ⊥)
+        → IfOk result (TakesAfter O.writes piece.now known uids.new sink.old sink.new) }
 {
-    match write_new(alloc, uids, number, &moved.card, sink)? {
+    match write_new(alloc, uids, number, piece, &moved, sink)? {
         Delivery::Written => Ok(Fate::Moved(moved)),
         Delivery::Refused(words) => Ok(Fate::Declined(moved, words)),
     }
 }
 
-/// What becomes of a card with the UID of an earlier one: the same card is passed, and another one
-/// is written under a UID of its own.
+/// What becomes of a card with the UID of an earlier one: the same card is passed, if it is carried
+/// without the same, and another one is written under a UID of its own.
 fn take_again<O: CardSink>(
     alloc: Global,
     uids: &mut TextMap<()>,
     number: u64,
+    piece: &[u8],
     conversion: Conversion,
     sink: &mut O,
 ) -> Result<Fate, ConversionFault>
-    ensures { (octets : List ℕ) → (known : List (List ℕ)) → HasUids uids.old known
-        → Contains known (uid_of conversion.card) → IsConversion octets conversion
-        → IfOk result (TakesAfter O.writes octets known uids.new sink.old sink.new) }
+    ensures { (known : List (List ℕ)) → HasUids uids.old known
+        → Contains known (uid_of conversion.card) → IsConversion piece.now conversion
+        → IfOk result (TakesAfter O.writes piece.now known uids.new sink.old sink.new) }
 {
-    let own = own_uid(alloc, &conversion.card)?;
+    let own = own_uid(alloc, piece, &conversion)?;
     if uids.get(own.as_str()).is_some() {
         return Ok(Fate::Repeated(conversion));
     }
     match card_under(alloc, &conversion.card, own.as_str())? {
         Some(card) => {
             let Conversion { card: _, changes } = conversion;
-            write_moved(alloc, uids, number, Conversion { card, changes }, sink)
+            write_moved(
+                alloc,
+                uids,
+                number,
+                piece,
+                Conversion { card, changes },
+                sink,
+            )
         }
         None => Ok(Fate::Crowded(conversion)),
     }
 }
 
-/// Writes a card that was converted, under a UID of its own if another card has the same. The same
-/// card is passed.
+/// Writes the card that a piece became, under a UID of its own if another card has the same. The
+/// same card is passed.
 fn deliver_piece<O: CardSink>(
     alloc: Global,
     uids: &mut TextMap<()>,
     number: u64,
+    piece: &[u8],
     conversion: Conversion,
     sink: &mut O,
 ) -> Result<Fate, ConversionFault>
-    ensures { (octets : List ℕ) → IsConversion octets conversion
-        → IfOk result (TakesPiece O.writes octets uids.old uids.new sink.old sink.new) }
+    ensures { IsConversion piece.now conversion
+        → IfOk result (TakesPiece O.writes piece.now uids.old uids.new sink.old sink.new) }
 {
     if uids.get(conversion.card.uid()).is_some() {
-        return take_again(alloc, uids, number, conversion, sink);
+        return take_again(alloc, uids, number, piece, conversion, sink);
     }
-    match write_new(alloc, uids, number, &conversion.card, sink)? {
+    match write_new(alloc, uids, number, piece, &conversion, sink)? {
         Delivery::Written => Ok(Fate::Written(conversion)),
         Delivery::Refused(words) => Ok(Fate::Declined(conversion, words)),
     }
@@ -216,7 +227,7 @@ pub(crate) fn take_piece<O: CardSink>(
         return Ok(Fate::Overfull);
     }
     match convert(alloc, piece)? {
-        Ok(conversion) => deliver_piece(alloc, uids, number, conversion, sink),
+        Ok(conversion) => deliver_piece(alloc, uids, number, piece, conversion, sink),
         Err(fault) => Ok(Fate::Refused(fault)),
     }
 }

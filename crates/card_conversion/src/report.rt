@@ -4,16 +4,16 @@
 use crate::fate::Fate;
 use crate::fault::ConversionFault;
 use crate::form_changes::FormKind;
-use crate::line_cursor::{PieceLines, find_name};
+use crate::line_cursor::{PieceLines, find_name, longest_line};
 use crate::line_names::{extension_name, is_empty_name, name_of};
-use crate::media_sink::Kept;
+use crate::media_sink::MediaDelivery;
 use crate::parts::{Parts, lost_words};
 use crate::reporting::{Report, Weight};
 use base_types::NoMemory;
 use import_text::{is_card, is_word_line};
 use std::alloc::Global;
 use std::io::Write;
-use vcard_import::{Change, ChangeKind, Conversion};
+use vcard_import::{Change, ChangeKind, Conversion, ImportFault};
 use vcard_text::Line;
 
 /// Where a card or a line is in the file, both counted from 1.
@@ -48,7 +48,7 @@ struct Reported<'a> {
     added: &'a [Line],
     /// What became of the pictures and sounds that are left out from here on; empty if they aren't
     /// wanted.
-    kept: &'a [Kept],
+    media: &'a [MediaDelivery],
     /// Whether the card has a name.
     has_name: bool,
 }
@@ -105,18 +105,18 @@ fn left_out_words(
     at: &mut Reported<'_>,
     name: &str,
 ) -> Result<(Said, String), NoMemory> {
-    let Some((kept, rest)) = at.kept.split_first() else {
+    let Some((delivery, rest)) = at.media.split_first() else {
         let words = format!(in alloc; "{name} left out")?;
         return Ok((Said::Content(Weight::Lost), words));
     };
-    at.kept = rest;
-    match kept {
-        Kept::Written(path) => {
+    at.media = rest;
+    match delivery {
+        MediaDelivery::Written(path) => {
             let path = path.as_str();
             let words = format!(in alloc; "{name} written to {path}")?;
             Ok((Said::Content(Weight::Moved), words))
         }
-        Kept::Refused(why) => {
+        MediaDelivery::Refused(why) => {
             let why = why.as_str();
             let words = format!(in alloc; "{name} left out: {why}")?;
             Ok((Said::Content(Weight::Lost), words))
@@ -329,7 +329,7 @@ fn report_changes<E: Write, T: Write>(
     place: Place,
     piece: &[u8],
     conversion: &Conversion,
-    kept: &[Kept],
+    media: &[MediaDelivery],
     parts: &mut Parts,
     report: &mut Report<E, T>,
 ) -> Result<(), ConversionFault> {
@@ -339,7 +339,7 @@ fn report_changes<E: Write, T: Write>(
         piece: PieceLines::new(piece),
         lines,
         added: added_lines(conversion),
-        kept,
+        media,
         has_name: lines.iter().any(is_name),
     };
     for change in changes {
@@ -360,13 +360,13 @@ fn report_written<E: Write, T: Write>(
     piece: &[u8],
     conversion: &Conversion,
     fields: RowFields<'_>,
-    kept: &[Kept],
+    media: &[MediaDelivery],
     report: &mut Report<E, T>,
 ) -> Result<(), ConversionFault> {
     let mut parts = Parts::new(alloc);
     let uid = conversion.card.uid();
     report_fields(alloc, place, fields, uid, &mut parts, report)?;
-    report_changes(alloc, place, piece, conversion, kept, &mut parts, report)
+    report_changes(alloc, place, piece, conversion, media, &mut parts, report)
 }
 
 /// Reports a card that was written under a UID of its own. So the UID that it had isn't compared
@@ -377,7 +377,7 @@ fn report_moved<E: Write, T: Write>(
     piece: &[u8],
     conversion: &Conversion,
     fields: RowFields<'_>,
-    kept: &[Kept],
+    media: &[MediaDelivery],
     report: &mut Report<E, T>,
 ) -> Result<(), ConversionFault> {
     let uid = conversion.card.uid();
@@ -391,7 +391,7 @@ fn report_moved<E: Write, T: Write>(
         format!(in alloc; "line {line}: {words}")?.as_str(),
     )?;
     report_fields(alloc, place, fields, fields.uid, &mut parts, report)?;
-    report_changes(alloc, place, piece, conversion, kept, &mut parts, report)
+    report_changes(alloc, place, piece, conversion, media, &mut parts, report)
 }
 
 /// Reports a card that is the same as an earlier one.
@@ -429,6 +429,21 @@ fn report_refused<E: Write, T: Write>(
     report.tell_all(alloc, Weight::NotCarried, line.as_str())
 }
 
+/// Reports a card that would be too long, and which of its lines is the longest.
+fn report_too_long<E: Write, T: Write>(
+    alloc: Global,
+    place: Place,
+    piece: &[u8],
+    report: &mut Report<E, T>,
+) -> Result<(), ConversionFault> {
+    let fault = ImportFault::TooLong;
+    let (before, octets) = longest_line(piece);
+    let name = name_of(alloc, octets)?;
+    let line = place.line.saturating_add(before);
+    let why = format!(in alloc; "{fault}; its longest line is line {line}, {name}")?;
+    report_refused(alloc, place, why.as_str(), report)
+}
+
 /// Reports a text that is no card.
 fn report_other<E: Write, T: Write>(
     alloc: Global,
@@ -440,15 +455,15 @@ fn report_other<E: Write, T: Write>(
     report.tell_all(alloc, Weight::NotCarried, text.as_str())
 }
 
-/// Reports what became of a piece at the place. `fields` are those of its row, and `kept` says what
-/// became of the pictures and sounds that its card is carried without.
+/// Reports what became of a piece at the place. `fields` are those of its row, and `media` says
+/// what became of the pictures and sounds that its card is carried without.
 pub(crate) fn report_piece<E: Write, T: Write>(
     alloc: Global,
     place: Place,
     piece: &[u8],
     fate: &Fate,
     fields: RowFields<'_>,
-    kept: &[Kept],
+    media: &[MediaDelivery],
     report: &mut Report<E, T>,
 ) -> Result<(), ConversionFault> {
     match fate {
@@ -470,6 +485,7 @@ pub(crate) fn report_piece<E: Write, T: Write>(
                 report,
             )
         }
+        Fate::Refused(ImportFault::TooLong) => report_too_long(alloc, place, piece, report),
         Fate::Refused(fault) => {
             let why = format!(in alloc; "{fault}")?;
             report_refused(alloc, place, why.as_str(), report)
@@ -485,10 +501,10 @@ pub(crate) fn report_piece<E: Write, T: Write>(
         }
         Fate::Declined(_, why) => report_refused(alloc, place, why.as_str(), report),
         Fate::Written(conversion) => {
-            report_written(alloc, place, piece, conversion, fields, kept, report)
+            report_written(alloc, place, piece, conversion, fields, media, report)
         }
         Fate::Moved(conversion) => {
-            report_moved(alloc, place, piece, conversion, fields, kept, report)
+            report_moved(alloc, place, piece, conversion, fields, media, report)
         }
     }
 }

@@ -3,7 +3,7 @@
 use crate::fault::ConversionFault;
 use crate::form_changes::{FormChanges, FormKind};
 use crate::ledger::Summary;
-use crate::media_sink::Kept;
+use crate::media_sink::MediaDelivery;
 use base_types::{NoMemory, Text};
 use std::alloc::Global;
 use std::io;
@@ -184,11 +184,11 @@ impl<E: Write, T: Write> Report<E, T> {
     }
 
     /// Counts the pictures and sounds that a card is carried without.
-    pub(crate) fn count_kept(&mut self, kept: &[Kept]) {
-        for each in kept {
+    pub(crate) fn count_media(&mut self, deliveries: &[MediaDelivery]) {
+        for each in deliveries {
             match each {
-                Kept::Written(_) => self.media = self.media.saturating_add(1),
-                Kept::Refused(_) => self.lost_media = self.lost_media.saturating_add(1),
+                MediaDelivery::Written(_) => self.media = self.media.saturating_add(1),
+                MediaDelivery::Refused(_) => self.lost_media = self.lost_media.saturating_add(1),
             }
         }
     }
@@ -203,11 +203,11 @@ impl<E: Write, T: Write> Report<E, T> {
         let mut text = String::new(alloc);
         let media = self.media;
         if media > 0 {
-            text.push_str(format!(in alloc; ", {media} photos written")?.as_str())?;
+            text.push_str(format!(in alloc; ", {media} pictures and sounds written")?.as_str())?;
         }
         let lost = self.lost_media;
         if lost > 0 {
-            text.push_str(format!(in alloc; ", {lost} photos not written")?.as_str())?;
+            text.push_str(format!(in alloc; ", {lost} pictures and sounds not written")?.as_str())?;
         }
         Ok(text)
     }

@@ -3,7 +3,7 @@ ghost use Rattle.std.specs.Prelude.{ℕ, List, IfOk, OnOk};
 ghost use Rattle.card_conversion.specs.Accounts.{ConvertsAll};
 ghost use Rattle.card_conversion.specs.Courses.{ConvertsPieces, Knows};
 ghost use Rattle.card_conversion.specs.Media.{PutsOfFate};
-ghost use Rattle.card_conversion.specs.declared.media_sink.Kept.{Kept as TheKept};
+ghost use Rattle.card_conversion.specs.declared.media_sink.MediaDelivery.{MediaDelivery};
 ghost use Rattle.card_conversion.specs.internal.States.{TakesPiece};
 
 use crate::card_sink::CardSink;
@@ -11,7 +11,7 @@ use crate::course::Course;
 use crate::fate::Fate;
 use crate::fault::ConversionFault;
 use crate::ledger::Summary;
-use crate::left_out::keep_media;
+use crate::left_out::put_media;
 use crate::media_sink::{MediaSink, NoMedia};
 use crate::piece_reader::PieceReader;
 use crate::pieces::take_piece;
@@ -32,12 +32,20 @@ fn tell_piece<P: MediaSink, E: Write, T: Write>(
     media: &mut P,
     report: &mut Report<E, T>,
 ) -> Result<(), ConversionFault>
-    ensures { OnOk result ((all : List TheKept)
+    ensures { OnOk result ((all : List MediaDelivery)
         × PutsOfFate P.takes piece.now fate.now all media.old media.new) }
 {
-    let kept = keep_media(alloc, place.card, piece, fate, media)?;
-    report.count_kept(kept.as_slice());
-    report_piece(alloc, place, piece, fate, fields, kept.as_slice(), report)
+    let deliveries = put_media(alloc, place.card, piece, fate, media)?;
+    report.count_media(deliveries.as_slice());
+    report_piece(
+        alloc,
+        place,
+        piece,
+        fate,
+        fields,
+        deliveries.as_slice(),
+        report,
+    )
 }
 
 /// Converts a piece if it is a card, writes the card to the sink, and reports what became of it.
@@ -58,7 +66,7 @@ pub(crate) fn convert_piece<O: CardSink, P: MediaSink, E: Write, T: Write>(
 
     // Each picture and each sound that the written card is carried without was written for its UID,
     // with the octets that its line encodes, or was refused, in order; or none was written.
-    ensures kept { IfOk result (λ fate. (all : List TheKept)
+    ensures media { IfOk result (λ fate. (all : List MediaDelivery)
         × PutsOfFate P.takes piece.now fate all media.old media.new) }
 {
     let fate = take_piece(alloc, uids, place.card, piece, sink)?;

@@ -8,8 +8,8 @@ use Rattle.card_conversion.specs.Deliveries.{WritesInTurn}
 use Rattle.card_conversion.specs.declared.ledger.Summary.{Summary}
 use Rattle.cli_convert.specs.declared.options.ConvertOptions.{ConvertOptions}
 
--- The exit status of a conversion that didn't stop: 0 if all was carried, and 1 if something wasn't,
--- or if a photo was lost that was to be written beside its card.
+-- The exit status of a conversion that didn't stop: 0 if all was carried, and 1 if something
+-- wasn't, or if a photo was lost that was to be written beside its card.
 abbrev pub status_of : Bool → Summary → ℕ
 status_of lost summary = if summary.refused == 0 && not lost then 0 else 1
 

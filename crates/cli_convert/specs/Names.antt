@@ -44,14 +44,21 @@ kind_word Photo = codes "-photo"
 kind_word Logo = codes "-logo"
 kind_word Sound = codes "-sound"
 
--- the ending by the first octets: those of JPEG, PNG and GIF, whose fields are 255 216 255, 137 PNG
--- and GIF8
+-- RIFF, four octets and WEBP
+abbrev pub is_webp : List ℕ → Bool
+is_webp octets =
+    starts_with nat_eq octets (codes "RIFF") && starts_with nat_eq (drop 8 octets) (codes "WEBP")
+
+-- the ending by the first octets: those of JPEG, PNG, GIF, WebP and BMP, which are 255 216 255, 137
+-- PNG, GIF8, those of `is_webp`, and BM
 abbrev pub ending_of : List ℕ → List ℕ
 ending_of octets =
     if starts_with nat_eq octets (255 ∷ 216 ∷ 255 ∷ []) then codes ".jpg"
     else (if starts_with nat_eq octets (137 ∷ codes "PNG") then codes ".png"
     else (if starts_with nat_eq octets (codes "GIF8") then codes ".gif"
-    else codes ".bin"))
+    else (if is_webp octets then codes ".webp"
+    else (if starts_with nat_eq octets (codes "BM") then codes ".bmp"
+    else codes ".bin"))))
 
 -- a hyphen and the number before the ending, from the second one of a kind on
 abbrev pub numbered : ℕ → List ℕ → List ℕ

@@ -3,7 +3,7 @@
 use crate::create::write_new;
 use crate::names::media_path;
 use base_types::Text;
-use card_conversion::{Kept, MediaOwner, MediaSink, SinkFault};
+use card_conversion::{MediaDelivery, MediaOwner, MediaSink, SinkFault};
 use std::alloc::Global;
 use std::fs::Files;
 
@@ -28,16 +28,16 @@ impl<'a, F: Files> MediaSink for MediaFiles<'a, F> {
         alloc: Global,
         owner: MediaOwner<'_>,
         octets: &[u8],
-    ) -> Result<Kept, SinkFault> {
+    ) -> Result<MediaDelivery, SinkFault> {
         let Some(folder) = self.folder else {
-            return Ok(Kept::Refused(Text::copy_of(alloc, "no folder is given")?));
+            return Ok(MediaDelivery::Refused(Text::copy_of(alloc, "no folder is given")?));
         };
         let path = media_path(alloc, folder, owner, octets)?;
         if write_new(alloc, self.files, path.as_str(), octets)? {
-            return Ok(Kept::Written(path));
+            return Ok(MediaDelivery::Written(path));
         }
         let name = path.as_str();
         let words = format!(in alloc; "the file {name} exists")?;
-        Ok(Kept::Refused(Text::new(words)))
+        Ok(MediaDelivery::Refused(Text::new(words)))
     }
 }

@@ -1,8 +1,9 @@
 //! The names of the files that are written.
 ghost use Rattle.std.specs.Prelude.{◌≡◌, IfOk, codes, nat_eq};
 ghost use Rattle.std.specs.List.{ends_with, list_all};
-ghost use Rattle.cli_convert.specs.Names.{bare_uid, card_name, is_name_octet, is_safe_name};
-ghost use Rattle.cli_convert.specs.Names.{card_front, ending_of, kind_word, media_name, path_in};
+ghost use Rattle.cli_convert.specs.Names.{bare_uid, card_front, card_name, ending_of};
+ghost use Rattle.cli_convert.specs.Names.{is_name_octet, is_safe_name, is_webp, kind_word};
+ghost use Rattle.cli_convert.specs.Names.{media_name, path_in};
 
 use base_types::{NoMemory, Text};
 use card_conversion::{MediaKind, MediaOwner};
@@ -100,6 +101,13 @@ fn kind_word(kind: MediaKind) -> &'static str
     }
 }
 
+/// Whether the octets begin as a picture of WebP.
+fn is_webp(octets: &[u8]) -> bool
+    ensures { result ≡ is_webp octets.now }
+{
+    octets.starts_with(b"RIFF") && octets.len() >= 8 && octets[8..].starts_with(b"WEBP")
+}
+
 /// The ending of a name, by the first octets of what the file has.
 fn ending_of(octets: &[u8]) -> &'static str
     ensures { result.now ≡ ending_of octets.now }
@@ -110,6 +118,10 @@ fn ending_of(octets: &[u8]) -> &'static str
         ".png"
     } else if octets.starts_with(b"GIF8") {
         ".gif"
+    } else if is_webp(octets) {
+        ".webp"
+    } else if octets.starts_with(b"BM") {
+        ".bmp"
     } else {
         ".bin"
     }

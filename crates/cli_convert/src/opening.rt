@@ -171,22 +171,8 @@ fn file_dates<F: Files>(
     dates_in(alloc, path, text, header)
 }
 
-/// The header with this order of day and month.
-fn header_with(header: Header<'_>, dates: DateOrder) -> Header<'_> {
-    Header {
-        start: header.start,
-        lines: header.lines,
-        above: header.above,
-        delimiter: header.delimiter,
-        width: header.width,
-        dates,
-        wished: header.wished,
-        is_missing: header.is_missing,
-    }
-}
-
-/// What the file has. If it has contacts, with the order of day and month in its dates: the one that
-/// is wanted, or else the one that they show, if the file can be read twice.
+/// What the file has. If it has contacts, with the order of day and month in its dates: the one
+/// that is wanted, or else the one that they show, if the file can be read twice.
 pub(crate) fn with_dates<'a, F: Files>(
     alloc: Global,
     files: &F,
@@ -197,11 +183,11 @@ pub(crate) fn with_dates<'a, F: Files>(
         return Ok(content);
     };
     if let Some(dates) = wanted.dates {
-        return Ok(Content::Contacts(header_with(header, dates)));
+        return Ok(Content::Contacts(header.with_dates(dates)));
     }
     if !is_file(files, wanted.file) {
         return Ok(content);
     }
     let dates = file_dates(alloc, files, wanted, header)?;
-    Ok(Content::Contacts(header_with(header, dates)))
+    Ok(Content::Contacts(header.with_dates(dates)))
 }

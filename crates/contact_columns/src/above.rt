@@ -22,11 +22,23 @@ pub enum AboveLine {
     Row,
 }
 
+/// The word that is before the delimiter in a line that names it.
+const SEPARATOR_WORD: &[u8] = b"sep=";
+
+/// The line without a byte order mark and a quote before it.
+fn bare_line(line: &[u8]) -> &[u8] {
+    let text = line.strip_prefix(b"\xEF\xBB\xBF").unwrap_or(line);
+    text.strip_prefix(b"\"").unwrap_or(text)
+}
+
 /// Whether a line names the delimiter of the file, perhaps after a byte order mark.
 pub(crate) fn names_delimiter(line: &[u8]) -> bool {
-    let text = line.strip_prefix(b"\xEF\xBB\xBF").unwrap_or(line);
-    let text = text.strip_prefix(b"\"").unwrap_or(text);
-    begins_with_word(text, b"sep=")
+    begins_with_word(bare_line(line), SEPARATOR_WORD)
+}
+
+/// The octet that such a line names.
+pub(crate) fn named_octet(line: &[u8]) -> Option<u8> {
+    bare_line(line).get(SEPARATOR_WORD.len()).copied()
 }
 
 /// Whether no cell of a row has a value.

@@ -44,8 +44,8 @@ fn clean_text(alloc: Global, text: &str) -> Result<String, NoMemory>
     Ok(clean)
 }
 
-/// The text of a cell, as `read_text` reads it. Line feeds are its only line ends, one for each CR LF,
-/// CR or LF, and each other control character but the tab is a space. The only `Err` is out of
+/// The text of a cell, as `read_text` reads it. Line feeds are its only line ends, one for each CR
+/// LF, CR or LF, and each other control character but the tab is a space. The only `Err` is out of
 /// memory.
 #[tactic(auto, unfolding(crate::specs::Cells::cell_text))]
 pub fn cell_text(alloc: Global, octets: &[u8]) -> Result<Text, NoMemory>

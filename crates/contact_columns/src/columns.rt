@@ -24,8 +24,8 @@ use vcard_text::{Items, NoMemory, Text};
 pub struct Column {
     /// The name, as the header has it.
     pub name: Text,
-    /// The name that Google or Outlook has for it in English, or the user's word for what it becomes.
-    /// The name itself if none is known.
+    /// The name that Google or Outlook has for it in English, or the user's word for what it
+    /// becomes. The name itself if none is known.
     pub known: Text,
     /// The name of the property that holds its cells. `X-ABLABEL` for labels, which become types
     /// where vCard 4.0 has them. Empty for a column that has no property.
@@ -244,8 +244,8 @@ pub(crate) fn columns_of(
 /// addresses of electronic mail, telephones or categories. `None` for any other row, and if all
 /// columns that should have addresses or numbers by their names have no property.
 ///
-/// `wished` says what columns become, as `Name=fn,#7=-`, and may be empty. If it isn't, any row with
-/// these columns names them, and the others are known by their names. The only `Err` is out of
+/// `wished` says what columns become, as `Name=fn,#7=-`, and may be empty. If it isn't, any row
+/// with these columns names them, and the others are known by their names. The only `Err` is out of
 /// memory.
 pub fn read_columns(
     alloc: Global,

@@ -57,9 +57,9 @@ fn places_in_header<R: Read>(
     }
 }
 
-/// Whether the day or the month comes first in the dates of a file, by all its rows. `source` begins
-/// with the header. `None` if there are dates that may be two, and none says which they are, or some
-/// say the one and some the other. The only `Err` is out of memory.
+/// Whether the day or the month comes first in the dates of a file, by all its rows. `source`
+/// begins with the header. `None` if there are dates that may be two, and none says which they are,
+/// or some say the one and some the other. The only `Err` is out of memory.
 pub fn read_date_order<R: Read + Drop>(
     alloc: Global,
     source: R,

@@ -1,4 +1,5 @@
-//! Whether the first row of a file looks like a header, though its columns are given by number alone.
+//! Whether the first row of a file looks like a header, though its columns are given by number
+//! alone.
 
 use crate::cell::cell_text;
 use crate::fields::row_field;

@@ -36,7 +36,7 @@ pub struct Header<'a> {
 }
 
 /// The delimiters between cells that are tried.
-pub(crate) const DELIMITERS: [u8; 4] = [b',', b';', b'\t', b'|'];
+pub(crate) const DELIMITERS: [u8; 4] = [b',', b';', b'|', b'\t'];
 
 /// The lines among which the header is looked for.
 const LINES_MAX: u64 = 5;
@@ -132,6 +132,22 @@ fn find_written<'a>(
         start = start.saturating_add(line_len(rest, are_returns));
     }
     Ok(None)
+}
+
+impl<'a> Header<'a> {
+    /// The same, with this order of day and month.
+    pub fn with_dates(self, dates: DateOrder) -> Header<'a> {
+        Header {
+            start: self.start,
+            lines: self.lines,
+            above: self.above,
+            delimiter: self.delimiter,
+            width: self.width,
+            dates,
+            wished: self.wished,
+            is_missing: self.is_missing,
+        }
+    }
 }
 
 /// The header, of whose columns this is said.

@@ -1,23 +1,17 @@
 //! Files of contacts without a header, whose columns the user names by their numbers alone.
 ghost use Rattle.std.specs.Prelude.{◌≡◌, [], IfOk, false};
 
-use crate::above::{lines_above, names_delimiter};
+use crate::above::{lines_above, named_octet, names_delimiter};
 use crate::dates::DateOrder;
-use crate::header::{Header, empty_lines, line_len};
+use crate::header::{DELIMITERS, Header, empty_lines, line_len};
 use crate::row_ends::{first_end_place, rows_end_with_returns};
-use crate::wishes::{RowForm, most_number, wished_form};
+use crate::wishes::{CELLS_MAX, RowForm, most_number, wished_form};
 use csv::{ByteRecord, ReaderBuilder};
 use std::alloc::Global;
 use vcard_text::{Items, NoMemory, Text};
 
 /// The rows from which the delimiter and the number of cells are known.
 const ROWS_TRIED: usize = 10;
-
-/// The most columns of a file of which no row is known that has all of them.
-const COLUMNS_MAX: usize = 1_000;
-
-/// The delimiters that are tried. A comma comes last, since it is in many names and addresses.
-const DELIMITERS: [u8; 4] = [b'\t', b'|', b';', b','];
 
 /// The form of rows: the delimiter, the number of cells, and how many of the first rows have it.
 #[derive(Clone, Copy)]
@@ -57,7 +51,8 @@ fn is_better(one: Form, other: Option<Form>) -> bool {
 }
 
 /// The form that most of the first rows have, of those with at least this number of cells. `named`
-/// is the delimiter that a line above them names.
+/// is the delimiter that a line above them names. A comma is tried last, since it is in many names
+/// and addresses.
 fn form_of(
     alloc: Global,
     octets: &[u8],
@@ -65,7 +60,8 @@ fn form_of(
     named: Option<u8>,
 ) -> Result<Option<Form>, NoMemory> {
     let mut found: Option<Form> = None;
-    for delimiter in DELIMITERS {
+    for delimiter in DELIMITERS.iter().rev() {
+        let delimiter = *delimiter;
         if named.is_some() && named != Some(delimiter) {
             continue;
         }
@@ -96,9 +92,7 @@ struct RowsStart {
 
 /// The delimiter that a line names, if it is one that is tried.
 fn named_delimiter(line: &[u8]) -> Option<u8> {
-    let text = line.strip_prefix(b"\xEF\xBB\xBF").unwrap_or(line);
-    let text = text.strip_prefix(b"\"").unwrap_or(text);
-    let named = text.get(4).copied()?;
+    let named = named_octet(line)?;
     if DELIMITERS.iter().any(|delimiter| *delimiter == named) {
         Some(named)
     } else {
@@ -165,7 +159,7 @@ pub(crate) fn find_rows<'a>(
     let least = most_number(wished);
     let (delimiter, width) = match rows_form(alloc, rest, wished, start.named)? {
         Some(form) => (form.delimiter, form.width),
-        None if !rest.is_empty() && least <= COLUMNS_MAX => (start.named.unwrap_or(b','), least),
+        None if !rest.is_empty() && least <= CELLS_MAX => (start.named.unwrap_or(b','), least),
         None => return Ok(None),
     };
     let before = head.get(..start.octets).unwrap_or(&[]);
@@ -198,6 +192,18 @@ pub(crate) fn number_names(
         names.push(number_name(alloc, place)?)?;
     }
     Ok(Some(names))
+}
+
+/// The number of columns of a file without a header: that of the form that is wished, or else of
+/// the one that most of its first rows have. 0 if it has no rows.
+pub(crate) fn row_width(alloc: Global, head: &[u8], wished: &str) -> Result<usize, NoMemory> {
+    if let Some(form) = wished_form(wished) {
+        return Ok(form.width);
+    }
+    let start = rows_start(head, rows_end_with_returns(head));
+    let rest = head.get(start.octets..).unwrap_or(&[]);
+    let form = form_of(alloc, rest, 0, start.named)?;
+    Ok(form.map_or(0, |it| it.width))
 }
 
 /// The name of the column at the index: its number, counted from 1.

@@ -8,16 +8,27 @@ fn is_before_cell(octet: u8) -> bool {
     )
 }
 
-/// The place of the first octet that ends a line; of those in cells in quotes only if there is no
-/// other. The last octet of a byte order mark may be before a cell, too.
+/// The place of the first octet that ends a line. One in a cell in quotes counts only if the quote
+/// isn't closed, or not before the end of its cell. The last octet of a byte order mark may be
+/// before a cell, too.
 pub(crate) fn first_end_place(octets: &[u8]) -> Option<usize> {
     let mut is_quoted = false;
     let mut quoted: Option<usize> = None;
     let mut before = b'\n';
     for (place, octet) in octets.iter().enumerate() {
         let octet = *octet;
-        if octet == b'"' {
-            is_quoted = !is_quoted && is_before_cell(before);
+        if octet == b'"' && is_quoted {
+            let after = octets.get(place.saturating_add(1)).copied();
+            if quoted.is_some() && !is_before_cell(after.unwrap_or(b'\n')) {
+                return quoted;
+            }
+            is_quoted = false;
+        } else if octet == b'"' && is_before_cell(before) {
+            is_quoted = true;
+            // The second of two quotes is one of the cell's own.
+            if before != b'"' {
+                quoted = None;
+            }
         } else if octet == b'\n' || octet == b'\r' {
             if !is_quoted {
                 return Some(place);

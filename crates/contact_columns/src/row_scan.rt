@@ -46,7 +46,8 @@ pub enum RowEnd {
     /// A cell in quotes has more than 200 lines, or its quote isn't closed. The line in which the
     /// quote stands has this many octets.
     Long(usize),
-    /// A quote isn't closed so far. If it stays so, the line in which it stands has this many octets.
+    /// A quote isn't closed so far. If it stays so, the line in which it stands has this many
+    /// octets.
     Open(usize),
     /// A quote isn't closed, or not before text, and no line ends after it; or one ends with a
     /// carriage return, which is the last octet.

@@ -3,11 +3,12 @@
 use crate::columns::{column_names, columns_of};
 use crate::doubts::is_doubtful;
 use crate::header::{find_header, first_row, is_missing};
-use crate::headerless::number_names;
+use crate::headerless::{number_names, row_width};
 use crate::suggestion::first_names;
 use crate::targets::{TARGET_WORDS, target_of};
 use crate::wishes::{
-    Wish, chosen_wishes, entry_parts, has_column, read_wishes, says_header, says_rows, types_in,
+    Wish, chosen_wishes, entry_parts, has_column, is_zero, read_wishes, says_header, says_rows,
+    types_in,
 };
 use std::alloc::Global;
 use vcard_text::{Items, NoMemory, Text};
@@ -21,6 +22,10 @@ fn entry_fault(alloc: Global, entry: &str) -> Result<Option<Text>, NoMemory> {
         let words = format!(in alloc; "'{entry}' isn't COLUMN=PROPERTY")?;
         return Ok(Some(Text::new(words)));
     };
+    if is_zero(column) {
+        let words = format!(in alloc; "there is no column '{column}': columns are counted from 1")?;
+        return Ok(Some(Text::new(words)));
+    }
     let Some(target) = target_of(word) else {
         let words = format!(in alloc; "'{word}' is no property here; there are {TARGET_WORDS}")?;
         return Ok(Some(Text::new(words)));
@@ -97,6 +102,27 @@ fn missing_column(
     Ok(Some(Text::new(words)))
 }
 
+/// The words for the first column of a wish that rows with so many cells don't have. The file has
+/// no header, so its cells are no names to be told.
+fn missing_number(
+    alloc: Global,
+    wishes: &[Wish<'_>],
+    width: usize,
+) -> Result<Option<Text>, NoMemory> {
+    let count = width as u64;
+    for wish in wishes {
+        if !wish.place().is_some_and(|place| place < width) {
+            let column = wish.column;
+            let words = format!(in alloc;
+                "there is no column '{column}'; the number of columns is {count}"
+            )?;
+            return Ok(Some(Text::new(words)));
+        }
+    }
+    let words = format!(in alloc; "the file has no rows")?;
+    Ok(Some(Text::new(words)))
+}
+
 /// The words for the first wish about columns that earlier ones are about.
 fn second_wish(
     alloc: Global,
@@ -151,24 +177,37 @@ const DOUBT: &str =
     "the first row looks like a header: add the entry 'header', or 'rows' if it is a \
      person";
 
+/// What is wrong with entries that can be read: a column that there isn't, a column with two
+/// entries, or two columns for one value.
+fn fault_of_wishes(alloc: Global, head: &[u8], wished: &str) -> Result<Option<Text>, NoMemory> {
+    let wishes = read_wishes(alloc, wished)?;
+    let wishes = wishes.as_slice();
+    if let Some(names) = wished_names(alloc, head, wished)? {
+        return doubled(alloc, wishes, names.as_slice());
+    }
+    if is_missing(alloc, head, wished)? {
+        return missing_number(alloc, wishes, row_width(alloc, head, wished)?);
+    }
+    let names = first_names(alloc, head)?;
+    missing_column(alloc, wishes, names.as_slice())
+}
+
 /// What is wrong with what the user says of the columns of a file, in words: an entry that can't be
 /// read, a column that no row among the first lines has, a column with two entries, two columns for
 /// one value, or that each is given by its number though the first row looks like a header. `None`
 /// if nothing is. `head` is the beginning of the file. The only `Err` is out of memory.
+///
+/// The doubt comes last: for it the cell of each entry is read, and each entry has a column of its
+/// own then.
 pub fn wish_fault(alloc: Global, head: &[u8], wished: &str) -> Result<Option<Text>, NoMemory> {
     if let Some(words) = first_fault(alloc, wished)? {
+        return Ok(Some(words));
+    }
+    if let Some(words) = fault_of_wishes(alloc, head, wished)? {
         return Ok(Some(words));
     }
     if is_doubtful(alloc, head, wished)? {
         return Ok(Some(Text::copy_of(alloc, DOUBT)?));
     }
-    let wishes = read_wishes(alloc, wished)?;
-    let wishes = wishes.as_slice();
-    match wished_names(alloc, head, wished)? {
-        Some(names) => doubled(alloc, wishes, names.as_slice()),
-        None => {
-            let names = first_names(alloc, head)?;
-            missing_column(alloc, wishes, names.as_slice())
-        }
-    }
+    Ok(None)
 }

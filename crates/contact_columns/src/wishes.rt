@@ -151,6 +151,11 @@ fn number_in(column: &str) -> Option<u64> {
     }
 }
 
+/// Whether the column is named by the number 0. There is none.
+pub(crate) fn is_zero(column: &str) -> bool {
+    number_in(column) == Some(0)
+}
+
 /// Whether the wish is about the column of this name at the index.
 fn is_about(alloc: Global, wish: &Wish<'_>, place: usize, name: &str) -> Result<bool, NoMemory> {
     if let Some(number) = number_in(wish.column) {
@@ -180,8 +185,8 @@ pub(crate) struct RowForm {
     pub(crate) width: usize,
 }
 
-/// The most cells of rows whose form is given.
-const CELLS_MAX: usize = 1_000;
+/// The most cells of rows of which nothing but numbers of columns is known.
+pub(crate) const CELLS_MAX: usize = 1_000;
 
 /// The delimiter with this word.
 fn delimiter_named(word: &str) -> Option<u8> {
@@ -236,8 +241,8 @@ pub(crate) fn wished_form(wished: &str) -> Option<RowForm> {
     wished.split(',').find_map(entry_form)
 }
 
-/// Whether an entry gives the form of the rows of a file without a header, as the reply to its first
-/// part does.
+/// Whether an entry gives the form of the rows of a file without a header, as the reply to its
+/// first part does.
 pub fn has_row_form(wished: &str) -> bool {
     wished_form(wished).is_some()
 }

@@ -37,8 +37,8 @@ is_uid_column column = not column.is_left_out && bytes_eq column.property (codes
 abbrev pub is_id_column : Column → Bool
 is_id_column column = not column.is_left_out && bytes_eq column.known (codes "Id")
 
--- The UID that the cell of the column gives to its row: its text in a column of UIDs; or the UUID of
--- the name of the column and the cell, if it has a value, in a column that tells contacts apart.
+-- The UID that the cell of the column gives to its row: its text in a column of UIDs; or the UUID
+-- of the name of the column and the cell, if it has a value, in a column that tells contacts apart.
 pub data IsOwnUid (column : Column) (text uid : List ℕ) : Type 0 where
   of_text : is_uid_column column ≡ true → uid ≡ text → IsOwnUid column text uid
   of_identifier : is_id_column column ≡ true → is_void text ≡ false

@@ -75,14 +75,14 @@ fn contact_lines(
 
 /// Converts a row of a file of contacts to a card of vCard 4.0.
 ///
-/// `may_own` says whether the card may have the UID that the row has of its own; if not, or if it has
-/// none, the UID is computed from its cells.
+/// `may_own` says whether the card may have the UID that the row has of its own; if not, or if it
+/// has none, the UID is computed from its cells.
 ///
 /// Each cell's text is in the card, or a change has the cell's index, from 0, as its `place`. Only
 /// tested: there are no other changes, and they are in the order of their cells, but for those of
 /// control characters, which come last. `Rewritten` is a date in another form or a cell with a
-/// control character, which is a space in the card; and `KeptAside` a cell that is kept under a name
-/// that begins with `X-`.
+/// control character, which is a space in the card; and `KeptAside` a cell that is kept under a
+/// name that begins with `X-`.
 ///
 /// An `Err` is the first fault of such lines, by the tests `NoName` if no cell of the row has a
 /// value, and else mostly `TooLong`, if the card has more than 262,144 octets. `Memory` may replace

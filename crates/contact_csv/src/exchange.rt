@@ -32,7 +32,8 @@ fn is_smtp_address(text: &str) -> bool {
     }
 }
 
-/// The address in parentheses at the end of a name that is shown, as in `Pat Lee (pat@example.com)`.
+/// The address in parentheses at the end of a name that is shown, as in `Pat Lee
+/// (pat@example.com)`.
 fn smtp_address(text: &str) -> Option<&str> {
     let (_, rest) = text.rsplit_once('(')?;
     let address = rest.trim_end().strip_suffix(")")?;
@@ -43,8 +44,8 @@ fn smtp_address(text: &str) -> Option<&str> {
     }
 }
 
-/// The address of SMTP in the name that is shown for the address at the index. Outlook has it in one
-/// of the next two columns, in each language.
+/// The address of SMTP in the name that is shown for the address at the index. Outlook has it in
+/// one of the next two columns, in each language.
 fn shown_address(cells: &[Text], place: usize) -> Option<&str> {
     let after = place.saturating_add(1);
     for cell in cells.get(after..).unwrap_or(&[]).iter().take(2) {

@@ -70,8 +70,8 @@ fn extension_line(alloc: Global, column: &str, text: &str) -> Result<Line, NoMem
 }
 
 /// Whether a void text (see `is_void`) stands for no value in a column of the property, which is
-/// empty if it isn't known: Google's `* ` does in one of labels, and Outlook's `0/0/00` and `0.0.00`
-/// do in one of dates.
+/// empty if it isn't known: Google's `* ` does in one of labels, and Outlook's `0/0/00` and
+/// `0.0.00` do in one of dates.
 fn is_no_value(property: &str, text: &str) -> bool {
     match text {
         "* " => matches!(property, "" | "X-ABLABEL"),

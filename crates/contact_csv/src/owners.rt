@@ -34,8 +34,8 @@ impl Owners {
         }
     }
 
-    /// Whether the row may have its own UID: it has as many cells as columns, and no earlier row with
-    /// other cells has the UID. Notes the row.
+    /// Whether the row may have its own UID: it has as many cells as columns, and no earlier row
+    /// with other cells has the UID. Notes the row.
     pub(crate) fn admit(
         &mut self,
         alloc: Global,

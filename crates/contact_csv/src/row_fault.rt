@@ -23,8 +23,8 @@ pub enum RowFault {
     Nul(usize),
     /// It has more or fewer cells than the header.
     Width,
-    /// Its cells are the names of the columns, at most 64 of them in other columns than their own: it
-    /// is the header again.
+    /// Its cells are the names of the columns, at most 64 of them in other columns than their own:
+    /// it is the header again.
     Header,
     /// Its contact is no card.
     Card(CardFault),

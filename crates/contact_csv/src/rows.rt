@@ -117,8 +117,9 @@ impl<R: Read + Drop> ContactReader<R> {
         &self.columns
     }
 
-    /// The number of the physical line after the last row, counted from 1. Rows end with LF or CR LF,
-    /// all alike; only that which stands for a broken row ends with LF in any case (see `RowText`).
+    /// The number of the physical line after the last row, counted from 1. Rows end with LF or CR
+    /// LF, all alike; only that which stands for a broken row ends with LF in any case (see
+    /// `RowText`).
     pub fn end_line(&self) -> u64 {
         let line = self
             .rows

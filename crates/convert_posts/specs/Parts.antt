@@ -70,9 +70,9 @@ pub record IsPassed (part : Part) : Type 0 where
   pub report : part.report ≡ line ∷ []
   pub rows : part.rows ≡ []
 
--- What became of the octets that were taken: the rows are those of cards that a conversion wrote. Of
--- vCards it converted exactly these octets, of which perhaps each carriage return ends a line. Or
--- nothing was taken; or one card or row, which isn't carried.
+-- What became of the octets that were taken: the rows are those of cards that a conversion wrote.
+-- Of vCards it converted exactly these octets, of which perhaps each carriage return ends a line.
+-- Or nothing was taken; or one card or row, which isn't carried.
 pub data AreConverted (body : List ℕ) (part : Part) : Type 0 where
   of_cards : (returns : Bool) → part.kind ≡ Cards
       → IsOfPieces (Some (with_line_feeds returns (take part.taken body))) part.summary part.rows

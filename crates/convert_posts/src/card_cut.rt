@@ -66,8 +66,8 @@ fn take_card(text: &[u8], more: bool, len: usize, cut: &mut Cut) -> Result<usize
     }
 }
 
-/// The number of octets that are converted at once of a text of cards, and their pieces. `more` says
-/// that the text goes on. The only `Err` is out of memory.
+/// The number of octets that are converted at once of a text of cards, and their pieces. `more`
+/// says that the text goes on. The only `Err` is out of memory.
 pub(crate) fn cut_cards(alloc: Global, text: &[u8], more: bool) -> Result<(usize, Cut), NoMemory>
     ensures { IfOk result (λ cut. cut.0 ≤ length text.now) }
 {

@@ -22,20 +22,6 @@ use contact_csv::{AboveLine, ContactFault, ContactReader, Header};
 use std::alloc::Global;
 use std::io::{Chain, Read};
 
-/// The header with this order of day and month.
-fn header_with(header: Header<'_>, dates: DateOrder) -> Header<'_> {
-    Header {
-        start: header.start,
-        lines: header.lines,
-        above: header.above,
-        delimiter: header.delimiter,
-        width: header.width,
-        dates,
-        wished: header.wished,
-        is_missing: header.is_missing,
-    }
-}
-
 /// What is known of the order of day and month: what is said, or else what the dates of the text
 /// show, which begins with the header, or comes after `above`.
 fn dates_in(
@@ -130,9 +116,11 @@ fn convert_contacts_in(
     ensures { IfOk result (λ done. IfSome done (λ it.
         IsOfContacts it.converted.summary it.converted.rows)) }
 {
-    let made = made_header(alloc, header, text)?;
+    // The part before may have ended between the octets of a CR LF. Its LF is no line of this part.
+    let rows = text.strip_prefix(b"\n").unwrap_or(text);
+    let made = made_header(alloc, header, rows)?;
     let dates = dates_in(alloc, asked, made.as_slice(), text, header)?;
-    let header = header_with(header, order_of(dates));
+    let header = header.with_dates(order_of(dates));
     let Some(contacts) = read_contacts(alloc, made.as_slice(), text, header)? else {
         return Ok(None);
     };
@@ -195,6 +183,23 @@ fn written_len(kind: RowKind, text: &[u8], header: Header<'_>) -> usize {
     } else {
         header_len(kind, text.get(header.start..).unwrap_or(&[]))
     }
+}
+
+/// The octets of the header in the front of a body; none if the file has none.
+pub(crate) fn header_octets<'b>(
+    alloc: Global,
+    body: &'b [u8],
+    header: Header<'_>,
+) -> Result<&'b [u8], NoMemory> {
+    let kind = RowKind::Contacts(header.delimiter, header.width);
+    let rows = body.get(header.start..).unwrap_or(&[]);
+    if !rows_end_with_returns(front(body, HEAD_OCTETS)) {
+        return Ok(front(rows, written_len(kind, body, header)));
+    }
+    let mut text = Vec::new(alloc);
+    text.extend_from_slice(body)?;
+    end_rows(text.as_mut_slice());
+    Ok(front(rows, written_len(kind, text.as_slice(), header)))
 }
 
 /// The front of a text of contacts whose lines end with line feeds.

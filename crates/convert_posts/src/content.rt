@@ -2,6 +2,8 @@
 
 use crate::asked::Asked;
 use crate::card_cut::front;
+use crate::contact_part::header_octets;
+use crate::cut::PIECE_OCTETS_MAX;
 use crate::unconverted::Unconverted;
 use base_types::NoMemory;
 use card_conversion::foreign_format;
@@ -17,8 +19,11 @@ pub(crate) const HEAD_OCTETS: usize = 16_384;
 /// The octets from which a format is known, and among which a card begins.
 const FRONT_OCTETS: usize = 131_072;
 
-/// The most cells of a line among which a header is.
+/// The most cells of a header, and of each line above it.
 const CELLS_MAX: u64 = 1_000;
+
+/// The lines among which a header is. So many times the cells of one may be looked at in all.
+const LINES_MAX: u64 = 5;
 
 /// The most columns of which something is said.
 const ENTRIES_MAX: u64 = 256;
@@ -96,45 +101,92 @@ impl Texts {
     }
 }
 
-/// The most cells of a line of the head, and the most of them that aren't of ASCII. Empty lines are
-/// passed when a header is looked for, so it may be any line.
-fn widest_line(head: &[u8]) -> Texts {
-    let mut most = Texts { all: 0, wide: 0 };
+/// Whether too many names are compared, if there are so many lines of so many cells.
+fn are_too_many(cells: Texts, entries: Texts, lines: u64) -> bool {
+    let compared = cells.all.saturating_mul(entries.all);
+    let wide = cells.wide.saturating_mul(entries.wide);
+    compared > COMPARED_MAX.saturating_mul(lines) || wide > WIDE_COMPARED_MAX.saturating_mul(lines)
+}
+
+/// Why a line of so many cells is no header here: to compare its names with the columns of which
+/// something is said would take too long.
+fn line_fault(cells: Texts, entries: Texts) -> Option<&'static str> {
+    if cells.all > CELLS_MAX {
+        Some("a header of more than 1,000 cells; convert it by `contacts convert`")
+    } else if are_too_many(cells, entries, 1) {
+        Some("--columns: it names too many columns for so wide a header; name only some")
+    } else {
+        None
+    }
+}
+
+/// The columns of which something is said.
+fn entries_of(columns: &str) -> Texts {
+    Texts::count(columns.as_bytes(), b",")
+}
+
+/// Where a header is looked for.
+#[derive(Clone, Copy)]
+struct View<'b> {
+    /// The first lines of the file.
+    lines: &'b [u8],
+    /// Why the next line isn't among them, if it is too wide.
+    fault: Option<&'static str>,
+}
+
+/// The lines of the head up to the first one that is too wide for a header. What comes after a
+/// header doesn't matter: a note may have any number of commas.
+///
+/// The work stays bounded for any octets. A row may have several lines, if cells in quotes have
+/// them, so all lines together have no more cells than five that aren't too wide; and a header is
+/// looked for in five places, with four delimiters.
+fn header_view<'b>(head: &'b [u8], columns: &str) -> View<'b> {
+    let entries = entries_of(columns);
     let end = if rows_end_with_returns(head) {
         b'\r'
     } else {
         b'\n'
     };
-    let mut rest = head;
+    let mut all = Texts { all: 0, wide: 0 };
+    let mut len: usize = 0;
     for _line in 0..head.len() {
-        if rest.is_empty() {
-            break;
-        }
-        let (line, after) = split_line(rest, end);
+        let (line, _) = split_line(head.get(len..).unwrap_or(&[]), end);
         let cells = Texts::count(line, b",;\t|");
-        most.all = most.all.max(cells.all);
-        most.wide = most.wide.max(cells.wide);
-        rest = after;
+        let fault = line_fault(cells, entries);
+        // A line without a delimiter counts as none: a header may be after any number of empty
+        // ones.
+        all.all = all.all.saturating_add(cells.all.saturating_sub(1));
+        all.wide = all.wide.saturating_add(cells.wide);
+        let is_over = all.all > CELLS_MAX.saturating_mul(LINES_MAX)
+            || are_too_many(all, entries, LINES_MAX);
+        if line.is_empty() || fault.is_some() || is_over {
+            return View {
+                lines: front(head, len),
+                fault,
+            };
+        }
+        len = len.saturating_add(line.len());
     }
-    most
+    View {
+        lines: head,
+        fault: None,
+    }
 }
 
-/// Why no header is looked for: it would take too long.
-fn header_bound(head: &[u8], columns: &str) -> Option<&'static str> {
-    let cells = widest_line(head);
-    let entries = Texts::count(columns.as_bytes(), b",");
-    let compared = cells.all.saturating_mul(entries.all);
-    if cells.all > CELLS_MAX {
-        Some("a header of more than 1,000 cells; convert it by `contacts convert`")
-    } else if entries.all > ENTRIES_MAX {
-        Some("--columns: it names more than 256 columns; name only some")
-    } else if compared > COMPARED_MAX
-        || cells.wide.saturating_mul(entries.wide) > WIDE_COMPARED_MAX
-    {
-        Some("--columns: it names too many columns for so wide a header; name only some")
-    } else {
-        None
+/// Why a header that was found isn't read: it may go on after the head.
+fn header_fault(
+    alloc: Global,
+    body: &[u8],
+    header: Header<'_>,
+) -> Result<Option<&'static str>, NoMemory> {
+    let window = front(body, PIECE_OCTETS_MAX);
+    let octets = header_octets(alloc, window, header)?;
+    let end = header.start.saturating_add(octets.len());
+    if end >= window.len() && window.len() < body.len() {
+        return Ok(Some("a header of more than 524,288 octets; convert it by `contacts convert`"));
     }
+    let cells = Texts::count(octets, &[header.delimiter]);
+    Ok(line_fault(cells, entries_of(header.wished)))
 }
 
 /// Whether a card begins somewhere among the octets.
@@ -167,12 +219,34 @@ fn without_header<'a>(asked: &'a Asked, words: &'static str) -> Content<'a> {
     }
 }
 
+/// What a body with this header has.
+fn with_header<'a>(
+    alloc: Global,
+    body: &[u8],
+    header: Header<'a>,
+) -> Result<Content<'a>, NoMemory> {
+    match header_fault(alloc, body, header)? {
+        Some(words) => Ok(Content::None(NotContent::Foreign(words))),
+        None => Ok(Content::Contacts(header)),
+    }
+}
+
 /// What a body has that isn't of another format, no export, and begins with no card.
 fn contacts_in<'a>(alloc: Global, asked: &'a Asked, body: &[u8]) -> Result<Content<'a>, NoMemory> {
-    let head = front(body, HEAD_OCTETS);
     let columns = asked.columns.as_str();
-    if let Some(words) = header_bound(head, columns) {
-        return Ok(without_header(asked, words));
+    if entries_of(columns).all > ENTRIES_MAX {
+        return Ok(without_header(
+            asked,
+            "--columns: it names more than 256 columns; name only some",
+        ));
+    }
+    let view = header_view(front(body, HEAD_OCTETS), columns);
+    let head = view.lines;
+    let found = find_header(alloc, head, columns)?;
+    if let Some(words) = view.fault {
+        if found.is_none() {
+            return Ok(without_header(asked, words));
+        }
     }
     let is_by_number = asked.line > 1 && are_numbers(columns);
     if is_by_number && !has_row_form(columns) && find_header(alloc, head, "")?.is_none() {
@@ -182,8 +256,8 @@ fn contacts_in<'a>(alloc: Global, asked: &'a Asked, body: &[u8]) -> Result<Conte
     if !columns.is_empty() && !is_by_number && wish_fault(alloc, head, columns)?.is_some() {
         return Ok(Content::None(NotContent::Columns));
     }
-    if let Some(header) = find_header(alloc, head, columns)? {
-        return Ok(Content::Contacts(header));
+    if let Some(header) = found {
+        return with_header(alloc, body, header);
     }
     if !columns.is_empty() {
         return Ok(Content::None(NotContent::NoColumns));
@@ -227,14 +301,15 @@ impl NotContent {
         asked: &Asked,
         body: &[u8],
     ) -> Result<Unconverted, NoMemory> {
-        let head = front(body, HEAD_OCTETS);
+        let columns = asked.columns.as_str();
+        let head = header_view(front(body, HEAD_OCTETS), columns).lines;
         match self {
             NotContent::Foreign(words) => Unconverted::with_words(alloc, words),
             NotContent::NoColumns => {
                 Unconverted::with_columns(alloc, "the file has cards, and no columns")
             }
             NotContent::Columns => {
-                let words = wish_fault(alloc, head, asked.columns.as_str())?;
+                let words = wish_fault(alloc, head, columns)?;
                 let words = words.as_ref().map_or("", |text| text.as_str());
                 Unconverted::with_columns(alloc, words)
             }

@@ -38,8 +38,8 @@ fn report_line(
     })
 }
 
-/// The lines of a report that has all of them, as the file of a `Report` gets it: `card 1, line 2: ..`,
-/// `row 1, line 2: ..` or `line 2: ..`.
+/// The lines of a report that has all of them, as the file of a `Report` gets it: `card 1, line 2:
+/// ..`, `row 1, line 2: ..` or `line 2: ..`.
 pub(crate) fn report_lines(
     alloc: Global,
     origin: Origin,

@@ -1,5 +1,5 @@
-//! How much work a text is, so that a part is small for any text. One unit is about that of an octet
-//! of a photo; what costs more is a line, a parameter, a cell.
+//! How much work a text is, so that a part is small for any text. One unit is about that of an
+//! octet of a photo; what costs more is a line, a parameter, a cell.
 
 /// The weight of a line of a card.
 const LINE_WEIGHT: u64 = 100;

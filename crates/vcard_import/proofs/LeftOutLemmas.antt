@@ -1,6 +1,6 @@
 -- Changes that don't say that a line is left out, or joined to another.
-use Rattle.std.proofs.Common.{◌≡◌, Bool, true, false, cond, ◌||◌, ◌+◌, ℕ, List, [], ◌∷◌, ◌++◌, map, refl, ap, arith, count_by, Result, Ok, Err, true≢false}
-use Rattle.std.specs.Prelude.{IfOk}
+use Rattle.std.proofs.Common.{◌≡◌, ◌∙◌, Bool, true, false, cond, ◌||◌, ◌+◌, ℕ, List, [], ◌∷◌, ◌++◌, map, refl, ap, arith, count_by, filter, Result, Ok, Err, true≢false}
+use Rattle.std.specs.Prelude.{IfOk, ◌&&◌, ◌==◌}
 use Rattle.std.specs.List.{list_any}
 use Rattle.std.proofs.lemmas.Bool.{false≢true}
 use Rattle.std.proofs.lemmas.List.Sums.{sum_by-cons}
@@ -9,7 +9,8 @@ use Rattle.vcard_property.specs.declared.change_kind.ChangeKind.{ChangeKind}
 use Rattle.vcard_property.specs.declared.change_kind.ChangeKind.TheVariants.{Rewritten, Renamed, KeptAside, Unreadable, Added, Joined, LeftOut, Labelled, Shortened, Cleaned}
 use Rattle.vcard_import.specs.Conversions.{addition}
 use Rattle.vcard_import.specs.Labels.{HaveAddresses, fits, is_joined, says_joined}
-use Rattle.vcard_import.specs.LeftOut.{has_left_out, says_left_out}
+use Rattle.import_text.specs.declared.raw_line.RawLine.{RawLine}
+use Rattle.vcard_import.specs.LeftOut.{has_left_out, is_left_out, is_left_out_at, is_media, says_left_out}
 use Rattle.vcard_import.specs.internal.Steps.{has_joined}
 use Rattle.vcard_import.specs.declared.card_lines.CardLines.{CardLines}
 use Rattle.vcard_import.specs.declared.change.Change.{Change}
@@ -75,3 +76,25 @@ need_none changes e =
 pub ok_need_none : {E : Type 0} (made : Result CardLines E) → IfOk made (λ m. has_joined m.changes ≡ false) → IfOk made (λ m. HaveAddresses m.changes)
 ok_need_none (Ok m) e = need_none m.changes e
 ok_need_none (Err fault) e = tt
+
+-- ---- the changes that leave a line out, alone
+
+abbrev says_at : ℕ → Change → Bool
+says_at place change = says_left_out change.kind && change.place == place
+
+only_says : (place : ℕ) (changes : List Change) → list_any (says_at place) (filter is_left_out changes) ≡ list_any (says_at place) changes
+only_says place [] = refl
+only_says place (change ∷ changes) = cases_of (says_left_out change.kind) refl (only_says place changes)
+  where
+    cases_of : (is : Bool) → says_left_out change.kind ≡ is → list_any (says_at place) (filter is_left_out changes) ≡ list_any (says_at place) changes → list_any (says_at place) (filter is_left_out (change ∷ changes)) ≡ list_any (says_at place) (change ∷ changes)
+    cases_of true e rest = rw (e, e) (ap (λ told. (true && change.place == place) || told) rest)
+    cases_of false e rest = rw e rest
+
+filter_alike : {X : Type 0} (p q : X → Bool) → ((x : X) → p x ≡ q x) → (xs : List X) → filter p xs ≡ filter q xs
+filter_alike p q same [] = refl
+filter_alike p q same (x ∷ xs) = ap (λ b. cond b (x ∷ filter p xs) (filter p xs)) (same x) ∙ ap (λ rest. cond (q x) (x ∷ rest) rest) (filter_alike p q same xs)
+
+-- they leave out the same lines
+pub only_leave_out : (changes : List Change) (raws : List RawLine) → filter (is_left_out_at (filter is_left_out changes)) raws ≡ filter (is_left_out_at changes) raws
+only_leave_out changes raws =
+    filter_alike (is_left_out_at (filter is_left_out changes)) (is_left_out_at changes) (λ raw. ap (λ told. is_media raw && told) (only_says raw.place changes)) raws

@@ -1,8 +1,8 @@
 //! Lines that are left out of a card that would be too long with them.
-ghost use Rattle.std.specs.Prelude.{◌≡◌, ◌&&◌, ◌==◌, IfOk, IsTrue, true};
+ghost use Rattle.std.specs.Prelude.{◌≡◌, ◌&&◌, ◌==◌, IfOk, IsTrue, filter, true};
 ghost use Rattle.std.specs.List.{list_any};
 ghost use Rattle.vcard_import.specs.Conversions.{left_out_lines};
-ghost use Rattle.vcard_import.specs.LeftOut.{is_left_out_at, is_media, says_left_out};
+ghost use Rattle.vcard_import.specs.LeftOut.{is_left_out, is_left_out_at, is_media, says_left_out};
 
 use crate::change::Change;
 use crate::charsets::all_raw_lines;
@@ -43,7 +43,7 @@ fn says_left_out(change: &Change, place: usize) -> bool
 }
 
 /// Whether one of the changes says that the line at the place is left out.
-fn is_told(changes: &[Change], place: usize) -> bool
+fn one_says_left_out(changes: &[Change], place: usize) -> bool
     ensures { result ≡ list_any
         (λ change. says_left_out change.kind && change.place == place) changes.now }
 {
@@ -55,12 +55,29 @@ fn is_told(changes: &[Change], place: usize) -> bool
 fn is_left_out_at(changes: &[Change], raw: &RawLine) -> bool
     ensures { result ≡ is_left_out_at changes.now raw.now }
 {
-    is_media(raw) && is_told(changes, raw.place)
+    is_media(raw) && one_says_left_out(changes, raw.place)
 }
 
-/// The logical lines of a card that the changes of its conversion call left out, in order. It looks
-/// at each change for each line that may have a picture or a sound. The only `Err` is out of
-/// memory.
+/// Whether the change says that a line is left out.
+pub fn is_left_out(change: &Change) -> bool
+    ensures { result ≡ is_left_out change.now }
+{
+    matches!(change.kind, ChangeKind::LeftOut)
+}
+
+/// The changes that say that a line is left out.
+fn only_left_out(alloc: Global, changes: &[Change]) -> Result<Vec<Change>, NoMemory>
+    ensures { IfOk result (λ only. only.items ≡ filter is_left_out changes.now) }
+{
+    let mut only = Vec::new(alloc);
+    only.extend_from_slice(changes)?;
+    only.retain(|change| is_left_out(change));
+    Ok(only)
+}
+
+/// The logical lines of a card that the changes of its conversion call left out, in order. For each
+/// line that may have a picture or a sound it looks at each change that leaves a line out. The only
+/// `Err` is out of memory.
 pub fn left_out_lines(
     alloc: Global,
     octets: &[u8],
@@ -68,7 +85,9 @@ pub fn left_out_lines(
 ) -> Result<Vec<RawLine>, NoMemory>
     ensures { IfOk result (λ lines. lines.items ≡ left_out_lines octets.now changes.now) }
 {
+    let only = only_left_out(alloc, changes)?;
+    let told = only.as_slice();
     let mut raws = all_raw_lines(alloc, octets)?;
-    raws.retain(|raw| is_left_out_at(changes, raw));
+    raws.retain(|raw| is_left_out_at(told, raw));
     Ok(raws)
 }

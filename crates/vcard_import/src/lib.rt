@@ -25,6 +25,6 @@ mod version;
 pub use change::Change;
 pub use conversion::{Conversion, convert_card};
 pub use fault::ImportFault;
-pub use left_out::left_out_lines;
+pub use left_out::{is_left_out, left_out_lines};
 pub use uid::derived_uid;
 pub use vcard_property::ChangeKind;

@@ -7,6 +7,7 @@ use Rattle.base_types.specs.TextMaps.{text_cmp}
 use Rattle.vcard_lines.specs.declared.line.Line.{Line}
 use Rattle.vcard_text.specs.Cards.{uid_of}
 use Rattle.card_conversion.specs.Moved.{own_uid}
+use Rattle.vcard_import.specs.declared.conversion.Conversion.{Conversion}
 use Rattle.card_conversion.specs.declared.card_sink.Delivery.{Delivery}
 use Rattle.card_conversion.specs.declared.card_sink.Delivery.TheVariants as sink
 use Rattle.card_conversion.specs.declared.fate.Fate.{Fate}
@@ -23,20 +24,21 @@ abbrev pub IsAdmitted : List (List ℕ) → List ℕ → finite.FinMap text_cmp 
 IsAdmitted known uid after true = (Contains known uid → ⊥) × HasUids after (known ++ uid ∷ [])
 IsAdmitted known uid after false = Contains known uid × HasUids after known
 
--- The card was written or the sink declined it. The map has its UID, and if it was written also
--- the one of its own.
-abbrev pub DeliversNew : {A : Type 0} → (List Line → A → A → Type 0) → List (List ℕ) → List Line
-    → finite.FinMap text_cmp (Unit {0}) → A → A → Delivery → Type 0
-DeliversNew writes uids card map before after sink.Written =
-    HasUids map (uids ++ uid_of card ∷ own_uid card ∷ []) × writes card before after
-DeliversNew writes uids card map before after (sink.Refused words) =
-    HasUids map (uids ++ uid_of card ∷ []) × (after ≡ before)
+-- The card, which was made of the octets, was written or the sink declined it. The map has its UID,
+-- and if it was written also the one of its own.
+abbrev pub DeliversNew : {A : Type 0} → (List Line → A → A → Type 0) → List (List ℕ) → List ℕ
+    → Conversion → finite.FinMap text_cmp (Unit {0}) → A → A → Delivery → Type 0
+DeliversNew writes uids octets made map before after sink.Written =
+    HasUids map (uids ++ uid_of made.card ∷ own_uid octets made ∷ [])
+    × writes made.card before after
+DeliversNew writes uids octets made map before after (sink.Refused words) =
+    HasUids map (uids ++ uid_of made.card ∷ []) × (after ≡ before)
 
 -- The piece has the fate after pieces whose cards have these UIDs. The map has the UIDs after it.
 abbrev pub TakesAfter : {A : Type 0} → (List Line → A → A → Type 0) → List ℕ → List (List ℕ)
     → finite.FinMap text_cmp (Unit {0}) → A → A → Fate → Type 0
 TakesAfter writes octets uids map before after fate =
-    IsFate uids octets fate × HasUids map (uids ++ uids_of_fate fate)
+    IsFate uids octets fate × HasUids map (uids ++ uids_of_fate octets fate)
     × WritesInTurn writes (cards_of_fate fate) before after
 
 -- The piece has the fate after pieces whose cards have the UIDs of the map.
@@ -46,8 +48,8 @@ TakesPiece writes octets map_before map_after before after fate =
     (uids : List (List ℕ)) → HasUids map_before uids
     → TakesAfter writes octets uids map_after before after fate
 
--- Pieces are passed, after cards with these UIDs and these numbers. Each has its fate, and the cards
--- among them are written in order.
+-- Pieces are passed, after cards with these UIDs and these numbers. Each has its fate, and the
+-- cards among them are written in order.
 pub record Progress {A R : Type 0} (writes : List Line → A → A → Type 0)
     (remaining : R → Option (List ℕ)) (input : Option (List ℕ)) (uids : List (List ℕ))
     (start : Summary) (before now : A) (pieces : PieceReader R)

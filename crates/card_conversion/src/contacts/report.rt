@@ -188,7 +188,7 @@ fn list_refused<E: Write, T: Write>(
 }
 
 /// Why a row of another number of cells isn't carried.
-const OTHER_WIDTH: &str = "the row has more or fewer cells than the header";
+const OTHER_WIDTH: &str = "the row has more or fewer cells than there are columns";
 
 /// Why a row isn't carried whose cells are the names of the columns.
 const HEADER_AGAIN: &str = "it is the header again";

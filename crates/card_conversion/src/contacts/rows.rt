@@ -12,7 +12,6 @@ use contact_csv::{ContactFault, ContactReader, RowFault};
 use std::alloc::Global;
 use std::io::Read;
 use vcard_import::Conversion;
-use vcard_text::Card;
 
 /// Reads the contact of the next row, or its fault; `None` after the last row.
 pub(crate) fn next_row<R: Read + Drop>(
@@ -31,14 +30,19 @@ pub(crate) fn next_row<R: Read + Drop>(
     }
 }
 
+/// The UID of its own that the card of a row would have. It is carried without nothing.
+fn row_own_uid(alloc: Global, made: &Conversion) -> Result<String, NoMemory> {
+    own_uid(alloc, &[], made)
+}
+
 /// Whether the card is the same as an earlier one, but for a collision of SHA-1.
 fn is_same(
     alloc: Global,
     uids: &TextMap<()>,
     row_cards: &TextMap<()>,
-    card: &Card,
+    made: &Conversion,
 ) -> Result<bool, NoMemory> {
-    let own = own_uid(alloc, card)?;
+    let own = row_own_uid(alloc, made)?;
     Ok(uids.get(own.as_str()).is_some() || row_cards.get(own.as_str()).is_some())
 }
 
@@ -56,7 +60,7 @@ fn deliver_row<O: CardSink>(
 {
     match deliver(alloc, uids, number, &conversion.card, sink)? {
         Outcome::Repeated => {
-            if is_same(alloc, uids, row_cards, &conversion.card)? {
+            if is_same(alloc, uids, row_cards, &conversion)? {
                 Ok(RowFate::Repeated(conversion))
             } else {
                 Ok(RowFate::Taken(conversion))
@@ -64,7 +68,7 @@ fn deliver_row<O: CardSink>(
         }
         Outcome::Declined(words) => Ok(RowFate::Declined(conversion, words)),
         Outcome::Written => {
-            row_cards.insert(own_uid(alloc, &conversion.card)?, ())?;
+            row_cards.insert(row_own_uid(alloc, &conversion)?, ())?;
             Ok(RowFate::Written(conversion))
         }
     }

@@ -1,8 +1,5 @@
-use Rattle.std.proofs.Common.{◌∙◌}
-use Rattle.std.proofs.lemmas.Result.{IfOk-weaker}
-use Rattle.card_conversion.proofs.MovedLemmas.{is_own}
+use Rattle.std.proofs.Common.{rules}
 use Rattle.card_conversion.proofs.moved.own_uid.Goals as goal
 
 pub returns : goal.returns
-returns c =
-    IfOk-weaker c.derived_uid.result _ _ (λ uid is. is ∙ is_own c.args.card.now c.as_slice.result.now (c.as_slice.ensures.value ∙ c.in_ok-text.ensures.text)) c.derived_uid.ensures
+returns c = ?

@@ -1,6 +1,6 @@
 use Rattle.std.proofs.Common.{take}
 use Rattle.card_conversion.specs.Media.{PutsLines}
-use Rattle.card_conversion.proofs.left_out.keep_lines.Given as goal
+use Rattle.card_conversion.proofs.left_out.put_lines.Given as goal
 
 -- what became of what the lines so far have in them
 abbrev pub invariant-loop-line : goal.invariant-loop-line
