@@ -91,11 +91,18 @@ fn label_params(alloc: Global, slot: &Slot, label: Label<'_>) -> Result<Items<Pa
     Ok(params)
 }
 
+/// Whether the separator has an address of electronic mail before it and after it.
+fn separates_mails(cell: &str, separator: &str) -> bool {
+    match cell.split_once(separator) {
+        Some((first, rest)) => first.contains("@") && rest.contains("@"),
+        None => false,
+    }
+}
+
 /// What separates several addresses of electronic mail in a cell that people have filled.
 fn mail_separator(cell: &str) -> &'static str {
     for separator in [";", ",", "\n", " "] {
-        let count = cell.split(separator).filter(|it| it.contains("@")).count();
-        if count > 1 {
+        if separates_mails(cell, separator) {
             return separator;
         }
     }

@@ -68,12 +68,20 @@ fn is_uri(text: &str) -> bool {
     }
 }
 
+/// Whether the text has one `@`, as an address of electronic mail has.
+fn is_mail_address(text: &str) -> bool {
+    match text.split_once('@') {
+        Some((_, domain)) => !domain.contains("@"),
+        None => false,
+    }
+}
+
 /// Whether a line of the property can have the text as its value.
 pub(crate) fn takes_text(property: &str, text: &str) -> bool {
     match property {
         "LANG" => is_language_tag(text),
         "IMPP" | "PHOTO" | "FBURL" => is_uri(text),
-        "EMAIL" => text.split('@').count() == 2 && !is_exchange_address(text),
+        "EMAIL" => is_mail_address(text) && !is_exchange_address(text),
         "TEL" => text.chars().any(|c| c.is_numeric()),
         _ => true,
     }

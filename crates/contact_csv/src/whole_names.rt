@@ -12,10 +12,27 @@ fn is_name_column(column: &Column) -> bool {
     name.eq_ignore_ascii_case("name") || name.eq_ignore_ascii_case("nom")
 }
 
+/// Whether the text ends with a letter or a digit.
+fn ends_in_word(text: &str) -> bool {
+    let mut is_in_word = false;
+    for c in text.chars() {
+        is_in_word = c.is_alphanumeric();
+    }
+    is_in_word
+}
+
+/// Whether the text begins with a letter or a digit.
+fn begins_in_word(text: &str) -> bool {
+    match text.chars().next() {
+        Some(c) => c.is_alphanumeric(),
+        None => false,
+    }
+}
+
 /// Whether the text begins with the word.
 fn begins_with(text: &str, word: &str) -> bool {
     match text.strip_prefix(word) {
-        Some(rest) => !rest.chars().next().is_some_and(|c| c.is_alphanumeric()),
+        Some(rest) => !begins_in_word(rest),
         None => false,
     }
 }
@@ -23,7 +40,7 @@ fn begins_with(text: &str, word: &str) -> bool {
 /// Whether the text ends with the word.
 fn ends_with(text: &str, word: &str) -> bool {
     match text.strip_suffix(word) {
-        Some(front) => !front.chars().last().is_some_and(|c| c.is_alphanumeric()),
+        Some(front) => !ends_in_word(front),
         None => false,
     }
 }
@@ -41,7 +58,7 @@ fn whole_place(columns: &[Column], slot: &Slot, cells: &[Text]) -> Option<usize>
     let family = slot.place_of(Part::Component(0))?;
     let given = slot.place_of(Part::Component(1))?;
     for (place, other) in [(family, given), (given, family)] {
-        let is_name = columns.get(place).is_some_and(is_name_column);
+        let is_name = columns.get(place).map_or(false, is_name_column);
         if is_name && is_whole(cell_at(cells, Some(place)), cell_at(cells, Some(other))) {
             return Some(place);
         }
