@@ -159,6 +159,7 @@ KNOWN_HEADERS = [
         [
             "ADR;TYPE=home:;2nd floor;1 Main St;Town;IL;627;US",
             "ADR;TYPE=work:;;2 Main St;City;IL;628;US",
+            "BDAY:19800415",
             "EMAIL:a2@x.test",
             "EMAIL:a@x.test",
             "FN:Ann Lee",
@@ -189,6 +190,7 @@ KNOWN_HEADERS = [
         [
             "ADR;TYPE=home:;;Weg 1;Ort;;10115;DE",
             "ADR;TYPE=work:;;Platz 2;Stadt;;10117;",
+            "BDAY:19800415",
             "EMAIL:a@x.test",
             "FN:Ann Lee",
             "N:Lee;Ann;;;",
@@ -305,5 +307,156 @@ KNOWN_HEADERS = [
         "given names beside names",
         "Name,Vorname,Telefon,E-Mail\nLee,Ann,1,a@x.test\n",
         ["EMAIL:a@x.test", "FN:Ann Lee", "N:Lee;Ann;;;", "TEL:1"],
+    ),
+    (
+        "the users of Office 365 in the centre of today",
+        "Block credential,City,Country/Region,Department,Display name,Fax,First name,Last name,"
+        "Mobile Phone,Object Id,Office,Phone number,Postal code,State,Street address,Title,"
+        "User principal name\n"
+        "FALSE,Town,US,Sales,Ann Lee,3,Ann,Lee,5,1-2-3,B12,1,627,IL,1 Main St,Boss,a@x.test\n",
+        [
+            "ADR;TYPE=work:;;1 Main St;Town;IL;627;US",
+            "EMAIL:a@x.test",
+            "FN:Ann Lee",
+            "N:Lee;Ann;;;",
+            "ORG:;Sales",
+            "TEL;TYPE=cell:5",
+            "TEL;TYPE=work,fax:3",
+            "TEL;TYPE=work:1",
+            "TITLE:Boss",
+        ],
+    ),
+    (
+        "the template for users of Office 365",
+        "User Name,First Name,Last Name,Display Name,Job Title,Department,Office Number,"
+        "Office Phone,Mobile Phone,Fax,Alternate email address,Address,City,State or Province,"
+        "ZIP or Postal Code,Country or Region\n"
+        "a@x.test,Ann,Lee,Ann Lee,Boss,Sales,B12,1,5,3,a2@x.test,1 Main St,Town,IL,627,US\n",
+        [
+            "ADR:;;1 Main St;Town;IL;627;US",
+            "EMAIL:a2@x.test",
+            "EMAIL:a@x.test",
+            "FN:Ann Lee",
+            "N:Lee;Ann;;;",
+            "ORG:;Sales",
+            "TEL;TYPE=cell:5",
+            "TEL;TYPE=fax:3",
+            "TEL;TYPE=work:1",
+            "TITLE:Boss",
+        ],
+    ),
+    (
+        "a job beside a name",
+        "Name,Title,Email\nAnn Lee,CEO,a@x.test\n",
+        ["EMAIL:a@x.test", "FN:Ann Lee", "TITLE:CEO"],
+    ),
+    (
+        "a job beside a company, as Apollo, Yahoo and ZoomInfo have it",
+        "First Name,Last Name,Title,Company,Email\nAnn,Lee,CEO,Acme,a@x.test\n",
+        ["EMAIL:a@x.test", "FN:Ann Lee", "N:Lee;Ann;;;", "ORG:Acme", "TITLE:CEO"],
+    ),
+    (
+        "Salesforce: the salutation is another column",
+        "Salutation,First Name,Last Name,Suffix,Title,Company,Mailing City,Phone\n"
+        "Ms.,Ann,Lee,Jr.,CEO,Acme,Town,1\n",
+        ["FN:Ann Lee Jr.", "N:Lee;Ann;;;Jr.", "ORG:Acme", "TEL:1", "TITLE:CEO"],
+    ),
+    (
+        "Outlook: a prefix beside a suffix",
+        "First Name,Middle Name,Last Name,Title,Suffix,E-mail Address\n"
+        "Ann,,Lee,Dr.,Jr.,a@x.test\n",
+        ["EMAIL:a@x.test", "FN:Dr. Ann Lee Jr.", "N:Lee;Ann;;Dr.;Jr."],
+    ),
+    (
+        "a prefix beside a job",
+        "Title,First Name,Last Name,Position,Email\nDr.,Ann,Lee,Boss,a@x.test\n",
+        ["EMAIL:a@x.test", "FN:Dr. Ann Lee", "N:Lee;Ann;;Dr.;", "TITLE:Boss"],
+    ),
+    (
+        "a prefix in German",
+        "Titel,Vorname,Nachname,E-Mail\nDr.,Ann,Lee,a@x.test\n",
+        ["EMAIL:a@x.test", "FN:Dr. Ann Lee", "N:Lee;Ann;;Dr.;"],
+    ),
+    (
+        "a title in German beside a whole name",
+        "Name,Titel,E-Mail\nAnn Lee,Dr.,a@x.test\n",
+        ["EMAIL:a@x.test", "FN:Ann Lee", "TITLE:Dr."],
+    ),
+    (
+        "an address is the street beside its city",
+        "Full Name,Email,Address,City,State,Zip,Country\nAnn Lee,a@x.test,1 Main St,Town,IL,9,US\n",
+        ["ADR:;;1 Main St;Town;IL;9;US", "EMAIL:a@x.test", "FN:Ann Lee"],
+    ),
+    (
+        "an address beside its street and its city",
+        "Name,Email,Address,Street,City\nAnn Lee,a@x.test,1 Main St Town,1 Main St,Town\n",
+        [
+            "ADR;LABEL=1 Main St Town:;;1 Main St;Town;;;",
+            "EMAIL:a@x.test",
+            "FN:Ann Lee",
+        ],
+    ),
+    (
+        "an address alone",
+        "Name,Email,Address\nAnn Lee,a@x.test,1 Main St Town\n",
+        ["ADR;LABEL=1 Main St Town:;;;;;;", "EMAIL:a@x.test", "FN:Ann Lee"],
+    ),
+    (
+        "an address in German beside its postal code",
+        "Name,E-Mail,Adresse,PLZ,Ort\nAnn Lee,a@x.test,Weg 1,10115,Dorf\n",
+        ["ADR:;;Weg 1;Dorf;;10115;", "EMAIL:a@x.test", "FN:Ann Lee"],
+    ),
+    (
+        "Yahoo: two addresses",
+        "First,Last,Email,Title,Company,Home Address,Home City,Home State,Home ZIP,Home Country,"
+        "Work Address,Work City,Work State,Work ZIP,Work Country\n"
+        "Ann,Lee,a@x.test,Boss,Acme,1 Main St,Town,IL,627,US,2 Main St,City,IL,628,US\n",
+        [
+            "ADR;TYPE=home:;;1 Main St;Town;IL;627;US",
+            "ADR;TYPE=work:;;2 Main St;City;IL;628;US",
+            "EMAIL:a@x.test",
+            "FN:Ann Lee",
+            "N:Lee;Ann;;;",
+            "ORG:Acme",
+            "TITLE:Boss",
+        ],
+    ),
+    (
+        "a birthday without its year in three columns",
+        "First Name,Last Name,Primary Email,Birth Year,Birth Month,Birth Day\n"
+        "Ann,Lee,a@x.test,,4,15\n",
+        ["BDAY:--0415", "EMAIL:a@x.test", "FN:Ann Lee", "N:Lee;Ann;;;"],
+    ),
+    (
+        "a partner in German",
+        "Vorname,Nachname,E-Mail-Adresse,Partner,Kinder\nAnn,Lee,a@x.test,Bo,Cy\n",
+        [
+            "EMAIL:a@x.test",
+            "FN:Ann Lee",
+            "N:Lee;Ann;;;",
+            "RELATED;TYPE=child;VALUE=text:Cy",
+            "RELATED;TYPE=spouse;VALUE=text:Bo",
+        ],
+    ),
+    (
+        "a whole name beside its parts, in German",
+        "Name;Vorname;Nachname;E-Mail\nJ\u00f6rg M\u00fcller;J\u00f6rg;M\u00fcller;a@x.test\n",
+        ["EMAIL:a@x.test", "FN:J\u00f6rg M\u00fcller", "N:M\u00fcller;J\u00f6rg;;;"],
+    ),
+    (
+        "family names that are called names",
+        "Name,First Name,Email\nLee,Ann,a@x.test\n",
+        ["EMAIL:a@x.test", "FN:Ann Lee", "N:Lee;Ann;;;"],
+    ),
+    (
+        "given names that are called names",
+        "Surname,Name,Email\nLee,Ann,a@x.test\n",
+        ["EMAIL:a@x.test", "FN:Ann Lee", "N:Lee;Ann;;;"],
+    ),
+    (
+        "a place beside cities, in the German of Outlook",
+        "Vorname,Nachname,Stra\u00dfe gesch\u00e4ftlich,Ort gesch\u00e4ftlich,Ort,"
+        "Telefon gesch\u00e4ftlich\nAnn,Lee,Weg 1,Stadt,Raum 3,1\n",
+        ["ADR;TYPE=work:;;Weg 1;Stadt;;;", "FN:Ann Lee", "N:Lee;Ann;;;", "TEL;TYPE=work:1"],
     ),
 ]

@@ -288,17 +288,32 @@ class ConvertOptions(OrderTest):
 
     def test_identifiers(self):
         """A UID is computed from the program's own identifier alone."""
-        for name in "Id", "Object Id", "RECORD ID":
+        for name, own in [("Object Id", "7"), ("RECORD ID", "7"), ("Id", "0035g00000XyZab"),
+                          ("Contact ID", "6f1c2d3e-0000-4000-8000-000000000007")]:
             with self.subTest(name):
-                rows = [[name, "First Name", "E-mail Address"], ["7", "Ann", "a@x.test"],
+                rows = [[name, "First Name", "E-mail Address"], [own, "Ann", "a@x.test"],
                         ["", "Bob", ""]]
                 first = self.convert(csv_text(rows).encode())
                 rows[1][1] = "Anna"
                 later = self.convert(csv_text(rows).encode())
-                uid = added_uid(f"{name}\x1f7\x1e".encode())
+                uid = added_uid(f"{name}\x1f{own}\x1e".encode())
                 bob = added_uid(b"First Name\x1fBob\x1e")
                 for ended in first, later:
                     self.assertEqual([uid, bob], [row[0] for row in rows_of(ended.out)])
+
+    def test_a_running_number_is_no_identifier(self):
+        """Two files that count their rows have other people under the same numbers."""
+        for name, own in ("ID", "1"), ("Kontakt-ID", "00000017"), ("Contact ID", "12-345-678"):
+            with self.subTest(name):
+                uids = []
+                for who in "Ann", "Zoe":
+                    octets = f"{name},Name,Email\n{own},{who},x@x.test\n".encode()
+                    ended = self.convert(octets)
+                    self.assertEqual(0, ended.status)
+                    uids += [row[0] for row in rows_of(ended.out)]
+                cells = f"{name}\x1f{own}\x1eName\x1f%s\x1eEmail\x1fx@x.test\x1e"
+                self.assertEqual([added_uid((cells % who).encode()) for who in ("Ann", "Zoe")],
+                                 uids)
 
     def test_an_identifier_that_is_given_to_something_else(self):
         ended = self.convert(b"Id,Wer,Mail\n7,Ann,\n", "--columns", "Id=note,Wer=fn")

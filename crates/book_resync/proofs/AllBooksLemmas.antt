@@ -17,7 +17,7 @@ use Rattle.book_model.specs.Bounds.{Bounds, IsInRange}
 use Rattle.book_model.specs.Books.{Book, Books, live_at, same_name, stored_in_row}
 use Rattle.book_model.specs.CallOutcomes.{◌>>=◌, refuse_unless}
 use Rattle.book_model.specs.Counting.{live_count}
-use Rattle.book_resync.specs.Resyncing.{number_after_resync, book_after_resync, books_after_resync, has_pairs_left, is_within_room, last_number_of, accept_books}
+use Rattle.book_resync.specs.Resyncing.{number_after_resync, book_after_resync, books_after_resync, has_pairs_left, is_within_room, last_number_of, accept_books, resync_step}
 use Rattle.book_model.specs.WellFormed.{IsWellFormedBook, IsWellFormed}
 use Rattle.book_laws.specs.Calls.{Call}
 use Rattle.book_laws.specs.RowsAfterCalls.{rows_after_accepted_call, rows_after_calls}
@@ -27,6 +27,8 @@ use Rattle.book_laws.specs.StoreHistories.{rows_of}
 use Rattle.book_model.proofs.BasicLemmas.{T_parts, T_both, less_differs}
 use Rattle.base_types.proofs.TextLemmas.{text_total, same, same_self, same-equal}
 use Rattle.book_laws.proofs.RunLemmas.{rows_match_histories_after_calls}
+use Rattle.book_laws.specs.WellFormedLaws.{AreWithin}
+use Rattle.book_laws.proofs.WellFormedBooks.{wider}
 use Rattle.book_laws.proofs.WellFormedCalls.{calls_keep_form}
 use Rattle.book_resync.proofs.BookResyncLemmas.{book_resyncs_are_commands}
 
@@ -298,9 +300,55 @@ spare_cards_exist books = (
       ∙ ap (option_and_then stored_in_row) (finite.get-entries book.members (long books) ∙ find-long (long books) (finite.entries book.members) (shorter books name book at)),
 )
 
-pub resyncs_keep_well_formed : ResyncsKeepWellFormed
-resyncs_keep_well_formed limits books left pairs range form is =
+keeps_form : (limits : Bounds) (books left : Books) (pairs : ℕ) → IsInRange limits → IsWellFormed limits books → IsResync limits books pairs left → IsWellFormed limits left
+keeps_form limits books left pairs range form is =
     let spare = spare_cards_exist books in
     let calls = resync_calls limits spare.0 pairs books in
     subst (λ (b : Books). IsWellFormed limits b) (accepted_rows limits books left calls (resyncs_are_commands limits books left spare.0 pairs range form spare.1 is))
     (calls_keep_form limits books calls range form)
+
+-- the limits with those of changes and books raised: a resync that they accept is the same by both
+abbrev raised : Bounds → Bounds → Bounds
+raised limits most = record limits { changes_max = most.changes_max; books_max = most.books_max }
+
+raised_range : (limits most : Bounds) → IsInRange limits → IsInRange most → IsInRange (raised limits most)
+raised_range limits most a b = record {
+  page_least = a.page_least;
+  page_most = a.page_most;
+  cards_least = a.cards_least;
+  cards_most = a.cards_most;
+  changes_least = b.changes_least;
+  changes_most = b.changes_most;
+  books_least = b.books_least;
+  books_most = b.books_most;
+  keep_least = a.keep_least;
+  keep_most = a.keep_most;
+}
+
+accepted_raised : (limits most : Bounds) (pairs : ℕ) → AreWithin limits most → (es : List Named) → accept_books limits pairs es ≡ Ok tt → accept_books (raised limits most) pairs es ≡ Ok tt
+accepted_raised limits most pairs fits [] ok = refl
+accepted_raised limits most pairs fits (e ∷ es) ok = by (has_pairs_left limits e.1.number pairs) (is_within_room limits (live_count e.1.counts)) refl refl (accepted_raised limits most pairs fits es)
+  where
+    by : (s t : Bool) → has_pairs_left limits e.1.number pairs ≡ s → is_within_room limits (live_count e.1.counts) ≡ t
+        → (accept_books limits pairs es ≡ Ok tt → accept_books (raised limits most) pairs es ≡ Ok tt) → accept_books (raised limits most) pairs (e ∷ es) ≡ Ok tt
+    by false t p q others = absurd (let bad = rw p at ok in cc)
+    by true false p q others = absurd (let bad = rw (p, q) at ok in cc)
+    by true true p q others =
+        let le = fits.changes in
+        let left : has_pairs_left (raised limits most) e.1.number pairs ≡ true = grind (arith, p, le) in
+        rw (left, q) (others (rw (p, q) at ok))
+
+was_accepted : {X : Type 0} (r : Result (Unit {0}) Refusal) (x y : X) → (r >>= λ _. Ok x) ≡ Ok y → r ≡ Ok tt
+was_accepted (Ok done) x y is = refl
+was_accepted (Err refusal) x y is = absurd (let bad = is in cc)
+
+pub resyncs_keep_well_formed : ResyncsKeepWellFormed
+resyncs_keep_well_formed limits most books left pairs range widest fits form is =
+    let big = raised limits most in
+    let after : ℕ × Books = (finite.len books, books_after_resync limits books pairs) in
+    let accepted = accepted_raised limits most pairs fits (finite.entries books) (was_accepted (accept_books limits pairs (finite.entries books)) after (finite.len books, left) is.accepted) in
+    let before = was_accepted (accept_books limits pairs (finite.entries books)) after (finite.len books, left) is.accepted in
+    let same : resync_step big books pairs ≡ resync_step limits books pairs =
+    ap (λ r. r >>= λ _. Ok after) accepted ∙ sym (ap (λ r. r >>= λ _. Ok after) before) in
+    wider big most left (omega arith) (omega arith)
+    (keeps_form big books left pairs (raised_range limits most range widest) (wider most big books (omega arith) (omega arith) form) (record { some = is.some; accepted = same ∙ is.accepted }))

@@ -24,6 +24,7 @@ use Rattle.book_resync.specs.ResyncCalls.{rows_after_accepted_calls, resync_call
 use Rattle.book_resync.specs.ResyncCalls.{resync_calls_of_book}
 use Rattle.book_laws.specs.RowsAfterCalls.{rows_after_calls}
 use Rattle.book_laws.specs.StoreHistories.{AreSoundHistories, StoreHistory, rows_of}
+use Rattle.book_laws.specs.WellFormedLaws.{AreWithin}
 
 -- ---- the commands of a resync
 
@@ -72,10 +73,11 @@ ResyncsMatchHistories = (store : StoreHistory) (after : Books) (spare : List Lin
     let calls = resync_calls store.limits spare pairs (rows_of store.books) in
     after ≡ rows_of (histories_after_calls store.limits store.books calls)
 
+-- the books after a resync are well formed, also by greater limits than its own
 abbrev pub ResyncsKeepWellFormed : Type 0
-ResyncsKeepWellFormed = (limits : Bounds) (books after : Books) (pairs : ℕ) →
-    IsInRange limits → IsWellFormed limits books → IsResync limits books pairs after →
-    IsWellFormed limits after
+ResyncsKeepWellFormed = (limits most : Bounds) (books after : Books) (pairs : ℕ) →
+    IsInRange limits → IsInRange most → AreWithin limits most → IsWellFormed most books →
+    IsResync limits books pairs after → IsWellFormed most after
 
 -- ---- the books after a resync
 

@@ -49,7 +49,7 @@ changeable_rows limits rows few_books few_changes well utf8 short few =
       short_uids = short;
       known = all_from_has (λ b. KnowsMembers (row_book rows b)) rows.books (λ b there uid row got.
           ((well.books.each b.name (row_book rows b) (give_book rows b well.sound there)).rows uid row got).known);
-      keeps = well.readable.keeps;
+      keeps = well.sound.readable.keeps;
       kept = all_from_has (λ b. list_any (is_keep_of b.id) rows.keeps ≡ true) rows.books (λ b there.
           some_keep b.id rows.keeps (well.books.each b.name (row_book rows b) (give_book rows b well.sound there)).keep_least);
     }

@@ -1,5 +1,5 @@
 -- The numbers of tombstones after a call that changes books.
-use Rattle.std.proofs.Common.{ap, ◌∙◌, ◌≡◌, ℕ, Bool, true, false, not, List, None, nat_lt, Result, Ok, Err, refl, sym, subst}
+use Rattle.std.proofs.Common.{ap, ◌∙◌, ◌≡◌, inl, inr, IsTrue, ℕ, Bool, true, false, not, List, None, nat_lt, Result, Ok, Err, refl, sym, subst}
 use Rattle.std.specs.Result.{IfOk}
 use Rattle.std.specs.FinMap as finite
 use Rattle.std.proofs.lemmas.Bool.{not-true}
@@ -12,9 +12,11 @@ use Rattle.book_model.specs.BookNames.{is_legal_name}
 use Rattle.book_model.specs.Books.{Books, fresh_book}
 use Rattle.book_model.specs.CallOutcomes.{◌>>=◌, MatchesStep, refuse_unless}
 use Rattle.book_model.specs.Creating.{create_step, new_id}
+use Rattle.book_model.specs.WellFormed.{IsWellFormed}
 use Rattle.book_model.proofs.BasicLemmas.{is_some-false}
 use Rattle.sqlite.specs.Effect.{Database}
 use Rattle.sqlite.specs.State.{State, HasCleanDisk}
+use Rattle.sqlite.specs.Tree.{Trees}
 use Rattle.store_tables.specs.StatementEffects.{HasNoPendingWrites, OnlyReads}
 use Rattle.store_schema.specs.StoredSchema.{ChangesNothing}
 use Rattle.store_rows.specs.SoundTables.{HoldsSoundRows, HoldsWellFormed}
@@ -22,8 +24,9 @@ use Rattle.store_rows.specs.TableBooks.{books_in, books_of}
 use Rattle.store_rows.proofs.HeldRows.{books_held}
 use Rattle.store_lookups.specs.CallResults.{GivenCounts}
 use Rattle.store_lookups.specs.StoredBooks.{HoldCounts, IsCommittedAndSound, IsOpenOnHonestDisk, KeepsCounts, stored_books}
-use Rattle.store_writes.specs.TableChanges.{AppliesStep}
+use Rattle.store_writes.specs.TableChanges.{AppliesStep, TreesHold}
 use Rattle.store_writes.proofs.CallLemmas.{read_before}
+use Rattle.store_writes.proofs.HeldLemmas.{trees_held}
 use Rattle.book_store.specs.StoreViews.{IsStore}
 use Rattle.book_model.specs.Counts.{AreCountsOf, CountsByName}
 use Rattle.book_model.proofs.EntryLemmas.{right_created}
@@ -31,7 +34,7 @@ use Rattle.book_model.proofs.EntryLemmas.{right_created}
 -- ---- what holds of the books after a step
 
 -- of the books before it, and of those of its success
-matched : {A : Type 0} (Q : Books → Type 0) (r : Result A Denied) (step : Result (A × Books) Refusal) (old new : Books) → IfOk step (λ done. Q done.1) → Q old → MatchesStep r step old new → Q new
+pub matched : {A : Type 0} (Q : Books → Type 0) (r : Result A Denied) (step : Result (A × Books) Refusal) (old new : Books) → IfOk step (λ done. Q done.1) → Q old → MatchesStep r step old new → Q new
 matched Q (Ok answer) (Ok done) old new after before m = subst Q (sym m.1) after
 matched Q (Ok answer) (Err refusal) old new after before m = absurd m
 matched Q (Err (Refused refusal)) (Ok done) old new after before m = absurd m
@@ -108,6 +111,23 @@ opened_sound limits old new left settled formed order =
       committed = kept.now_is ∙ settled kept.was_open ∙ sym kept.committed_is;
       sound = subst HoldsSoundRows (sym kept.now_is) (record { rows = held.rows; holds = held.holds; sound = held.well_formed.sound });
     }
+
+pub opened_formed : (limits : Bounds) (old new : State) → ChangesNothing old new → HasNoPendingWrites old → (HasCleanDisk new → HoldsWellFormed limits old.now) → IsOpenOnHonestDisk new → IsWellFormed limits (stored_books new)
+opened_formed limits old new left settled formed order =
+    let kept = left.same order.0 order.1 settled in
+    let held = formed order.0 in
+    subst (IsWellFormed limits) (sym (books_held old.now held.rows held.holds held.well_formed.sound) ∙ sym (ap (λ (d : Database). books_in d.trees) kept.now_is)) held.well_formed.books
+
+-- All that a crash may leave of the connection before is what was committed. So it may leave only the
+-- tables that were tested.
+pub opened_leaves : (limits : Bounds) (old new : State) → ((trees : Trees) → IsTrue old.is_open → old.may_leave trees → trees ≡ old.committed.trees) → ChangesNothing old new → HasNoPendingWrites old → (HasCleanDisk new → HoldsWellFormed limits old.now) → (HasCleanDisk new → IsTrue old.is_open)
+    → HasCleanDisk new → (trees : Trees) → new.may_leave trees → (books : Books) × TreesHold books trees × IsWellFormed limits books
+opened_leaves limits old new alone left settled formed was_open clean trees may =
+    let up = was_open clean in
+    let held = formed clean in
+    let before : old.may_leave trees = elim (left.survives.crash clean trees may) [ inl before ↦ before | inr none ↦ absurd none ] in
+    let whole = trees_held old.now (books_of held.rows) (record { sound = record { rows = held.rows; holds = held.holds; sound = held.well_formed.sound }; books_are = books_held old.now held.rows held.holds held.well_formed.sound }) in
+    (books_of held.rows, subst (TreesHold (books_of held.rows)) (ap (λ (d : Database). d.trees) (settled up) ∙ sym (alone trees up before)) whole, held.well_formed.books)
 
 pub opened_counts : (old new : State) (counts : CountsByName) → ChangesNothing old new → HasNoPendingWrites old → (HasCleanDisk new → AreCountsOf counts (stored_books old)) → HoldCounts new counts
 opened_counts old new counts left settled right order sound =

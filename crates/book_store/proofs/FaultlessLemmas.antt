@@ -35,7 +35,7 @@ faultless_rows limits rows few_books few_changes well utf8 few = record {
       let books : finite.len (books_of rows) ≤ limits.books_max = well.books.within_limit in
       let number : natural b.numbers.number ≤ limits.changes_max = is.within_limit in
       record {
-        readable = all_has IsReadableBook rows.books b well.readable.books there;
+        readable = all_has IsReadableBook rows.books b well.sound.readable.books there;
         name = name_utf8 b.name (well.books.legal_names b.name (row_book rows b) got);
         id = omega (arith, id, books, few_books);
         number = omega (arith, number, few_changes);
@@ -43,7 +43,7 @@ faultless_rows limits rows few_books few_changes well utf8 few = record {
         horizon = is.horizon_known;
       });
   members = all_from_has IsFaultlessMember rows.members (λ m there.
-      record { readable = all_has IsReadableMember rows.members m well.readable.members there; uid = all_has (λ (m : MemberRow). IsUtf8 m.uid) rows.members m utf8 there });
-  imports = well.readable.imports;
+      record { readable = all_has IsReadableMember rows.members m well.sound.readable.members there; uid = all_has (λ (m : MemberRow). IsUtf8 m.uid) rows.members m utf8 there });
+  imports = well.sound.readable.imports;
   few_members = few;
 }

@@ -2,16 +2,20 @@
 use Rattle.std.proofs.Common.{◌≡◌, inl, inr, IsTrue, [], ◌∷◌, Err, refl, sym, ap, subst, ◌∙◌, arith}
 use Rattle.std.proofs.Math.Logic.{∥∥₁_map}
 use Rattle.sqlite.specs.Effect.{Database}
-use Rattle.sqlite.specs.Files.{file_state, over_files}
+use Rattle.sqlite.specs.Files.{HoldsDatabase, file_state, over_files}
 use Rattle.sqlite.specs.Held.{Held}
 use Rattle.sqlite.specs.Recovery.{Image}
 use Rattle.sqlite.specs.State.{State, HasCleanDisk}
+use Rattle.sqlite.specs.Tree.{Trees}
+use Rattle.sqlite.specs.WalReads.{AreClean}
+use Rattle.book_model.specs.WellFormed.{IsWellFormed}
 use Rattle.book_model.specs.Bounds.{Bounds}
 use Rattle.book_model.specs.Books.{Books}
 use Rattle.database_files.specs.Restarts.{LeaveOneOf, ShowsOpened}
 use Rattle.store_check.specs.OpenResults.{IsOpenResult, max_limits}
 use Rattle.store_lookups.specs.StoredBooks.{IsOpenOnHonestDisk, stored_books}
 use Rattle.store_rows.specs.SoundTables.{HoldsWellFormed}
+use Rattle.store_rows.proofs.HeldRows.{books_held}
 use Rattle.store_schema.specs.OpenFaults.{IsErrorFault}
 use Rattle.store_schema.specs.declared.open_fault.OpenFault.{OpenFault}
 use Rattle.store_schema.specs.declared.open_fault.OpenFault.TheVariants.{Damaged, Memory, NotEmpty, NotOurs, OtherSchema, Store}
@@ -25,7 +29,7 @@ use Rattle.sqlite_trees.proofs.Doubt.{no_doubt}
 use Rattle.store_writes.specs.TableChanges.{TreesHold}
 use Rattle.book_store.specs.Crashes.{StoresSurviveCrashes}
 use Rattle.book_store.specs.Restarts.{HoldsStore, declared_over}
-use Rattle.book_store.specs.StoreViews.{IsStore}
+use Rattle.book_store.specs.StoreViews.{IsStore, StoredTrees}
 
 -- tables of a store fail no test
 pub only_errors : (db : Database) → HoldsWellFormed max_limits db → (fault : OpenFault) → IsOpenResult max_limits db (Err fault) → IsErrorFault fault
@@ -52,6 +56,27 @@ pub left_books : {D : Type 0} {g : Ghosts D} (c : Held (FileStore D g)) (limits 
     → IsOpenOnHonestDisk (file_state c) → LeaveOneOf g files (TreesHold (stored_books (file_state c)))
 left_books c limits files law is left order clean image may =
     ∥∥₁_map (left clean image may) (λ db. (db.0, (law (record { conn = c; limits = limits }) is order).only_these db.0 db.1, db.2))
+
+-- what a crash leaves of them is a store's, also if the connection was closed
+pub left_stores : {D : Type 0} {g : Ghosts D} (c : Held (FileStore D g)) (limits : Bounds) (files : Files D) → IsStore (file_state c) limits → (AreClean g files.log files.db → HasCleanDisk (file_state c)) → LeaveOneOf g files (file_state c).may_leave → LeaveOneOf g files StoredTrees
+left_stores c limits files is was left clean image may =
+    ∥∥₁_map (left clean image may) (λ db. (db.0, is.leaves_stores (was clean) db.0 db.1, db.2))
+
+-- the tables of a store's trees are listed, and their rows are those of well-formed books
+pub trees_hold_store : (image : Image) (trees : Trees) → HoldsDatabase image trees → (stored : StoredTrees trees) → HoldsStore image stored.books
+trees_hold_store image trees held stored =
+    let sound = stored.holds.sound in
+    let books = books_held (declared_over trees) sound.rows sound.holds sound.sound in
+    record {
+      trees = trees;
+      listed = record { holds = held; lists = sound.holds.obeys.lists };
+      well_formed = record {
+        rows = sound.rows;
+        holds = sound.holds;
+        well_formed = record { sound = sound.sound; books = subst (IsWellFormed max_limits) (sym stored.holds.books_are ∙ books) stored.well_formed };
+      };
+      books_are = stored.holds.books_are;
+    }
 
 -- if the disk has returned what was written until a connection ends, it had before
 pub clean_left : {D : Type 0} {g : Ghosts D} (c : Held (FileStore D g)) (it : FileStore D g) → IsQuiet store.view store.faults store.recovers store.is_shielded c.store it → IsTrue (store.view it).is_clean → HasCleanDisk (file_state c)

@@ -9,11 +9,11 @@ use Rattle.book_store.specs.OpenOutcomes.{AreNewStoreTrees, IsNewStoreCommitted}
 
 -- the trees alone determine that the tables were created
 pub new_store_trees : (db : Database) → IsEmptyStore schema_number db → AreNewStoreTrees db.trees
-new_store_trees db h = record { schema = refl; meta = h.meta; books = h.books; members = h.members; imports = h.imports; keeps = h.keeps }
+new_store_trees db h = record { schema = refl; obeys = h.obeys; meta = h.meta; books = h.books; members = h.members; imports = h.imports; keeps = h.keeps }
 
 -- after the commit, the created tables are committed
 pub new_store_committed : (mid end : State) → IsEmptyStore schema_number mid.now → Shows mid end mid.now mid.now false → IsNewStoreCommitted end
-new_store_committed mid end h shows = record { created = subst (IsEmptyStore schema_number) (sym shows.now_is) h; committed = shows.now_is ∙ sym shows.committed_is }
+new_store_committed mid end h shows = record { is_open = shows.is_open; created = subst (IsEmptyStore schema_number) (sym shows.now_is) h; committed = shows.now_is ∙ sym shows.committed_is }
 
 -- if the connection is open after a rollback, it was open when the transaction began
 pub rolled_open : (begun mid end : State) → KeepsCommit begun mid → IsRolledBack mid end → IsTrue end.is_open → IsTrue begun.is_open

@@ -1,9 +1,10 @@
 -- The state of a store after calls that only read.
-use Rattle.std.proofs.Common.{◌≡◌, Result, Ok, Err, sym, ap, subst, ◌∙◌}
+use Rattle.std.proofs.Common.{◌≡◌, inl, inr, IsTrue, Result, Ok, Err, refl, sym, ap, subst, ◌∙◌, arith}
 use Rattle.std.specs.FinMap as finite
 use Rattle.sqlite.specs.Effect.{Database}
 use Rattle.sqlite.specs.Held.{state}
 use Rattle.sqlite.specs.State.{State}
+use Rattle.sqlite.specs.Tree.{Trees}
 use Rattle.sqlite_trees.specs.declared.store.Store.{Ghosts}
 use Rattle.book_model.specs.declared.denied.Denied.{Denied}
 use Rattle.book_model.specs.declared.denied.Denied.TheVariants.{Refused, Fault}
@@ -11,7 +12,12 @@ use Rattle.book_model.specs.declared.refusal.Refusal.{Refusal}
 use Rattle.book_model.specs.Books.{Books}
 use Rattle.book_model.specs.Bounds.{Bounds, IsInRange}
 use Rattle.book_model.specs.CallOutcomes.{MatchesQuery}
+use Rattle.book_model.specs.WellFormed.{IsWellFormed}
+use Rattle.book_laws.specs.WellFormedLaws.{AreWithin, LeavesWellFormed}
+use Rattle.book_laws.proofs.WellFormedBooks.{well_none}
+use Rattle.store_check.specs.OpenResults.{max_limits}
 use Rattle.store_tables.specs.StatementEffects.{OnlyReads}
+use Rattle.store_tables.proofs.SchemaCreationLemmas.{clean_before}
 use Rattle.store_rows.specs.SoundTables.{HoldsSoundRows}
 use Rattle.store_rows.specs.TableBooks.{books_of, books_in}
 use Rattle.store_rows.specs.TableRows.{no_rows}
@@ -22,10 +28,12 @@ use Rattle.store_lookups.specs.CallResults.{FollowsStep, GivenCounts, GivenSound
 use Rattle.store_lookups.specs.ChangeFaults.{ChangeFaultsFromOutside}
 use Rattle.store_lookups.specs.StoreFaults.{FaultsFromOutside}
 use Rattle.book_store.specs.OpenOutcomes.{IsNewStoreCommitted}
-use Rattle.book_store.specs.StoreViews.{ChangesStore, IsStore, ReadsStore, StoreView}
-use Rattle.store_writes.specs.TableChanges.{AppliesStep, CommitsOnce}
+use Rattle.book_store.specs.StoreViews.{ChangesStore, IsStore, ReadsStore, StoreView, StoredTrees}
+use Rattle.store_writes.specs.TableChanges.{AppliesStep, CommitsOnce, HoldBooksAfter, TreesHold}
 use Rattle.store_lookups.specs.StoredBooks.{HoldCounts, IsOpenOnHonestDisk, IsCommittedAndSound, stored_books}
 use Rattle.store_writes.proofs.CallLemmas.{read_before}
+use Rattle.store_writes.proofs.HeldLemmas.{trees_held}
+use Rattle.book_store.proofs.CountLemmas.{matched}
 
 -- the answer of a call that changed nothing
 pub reads_of : {T A S : Type 0} (allows : T → A → Type 0) (r : Result A Denied) (due : Result T Refusal) (old new : S) → FollowsStep allows r due → new ≡ old → MatchesQuery allows r due old new
@@ -43,6 +51,15 @@ still_store old new limits store left = record {
       let was = store.stays_sound (read_before old new left order) in
       let here = left.same order.0 was.sound.holds.schema order.1 (λ _. was.committed) in
       record { committed = here.now_is ∙ was.committed ∙ sym here.committed_is; sound = subst HoldsSoundRows (sym here.now_is) was.sound };
+  stays_well_formed = λ order.
+      let before = read_before old new left order in
+      let was = store.stays_sound before in
+      let here = left.same order.0 was.sound.holds.schema order.1 (λ _. was.committed) in
+      subst (λ (d : Database). IsWellFormed max_limits (books_in d.trees)) (sym here.now_is) (store.stays_well_formed before);
+  leaves_stores = λ clean trees may. elim (left.survives.crash clean trees may) [
+    | inl before ↦ store.leaves_stores (clean_before _ old new left.survives clean) trees before
+    | inr none ↦ absurd none
+  ];
   range = store.range;
 }
 
@@ -100,6 +117,17 @@ counted_reads_store g allows old new counts r query store right same left return
 pub new_store_is_sound : (s : State) → IsNewStoreCommitted s → IsCommittedAndSound s
 new_store_is_sound s h = record { committed = h.committed; sound = record { rows = no_rows; holds = new_tables_empty s.now h.created; sound = no_rows_sound } }
 
+pub new_store_is_formed : (s : State) → IsNewStoreCommitted s → IsWellFormed max_limits (stored_books s)
+new_store_is_formed s h = subst (IsWellFormed max_limits) (sym (nothing_held s.now (new_tables_empty s.now h.created)).books) (well_none max_limits)
+
+-- all that a crash may leave of an open connection is what is committed
+pub new_store_leaves : (s : State) → ((trees : Trees) → IsTrue s.is_open → s.may_leave trees → trees ≡ s.committed.trees) → IsNewStoreCommitted s → (trees : Trees) → s.may_leave trees → StoredTrees trees
+new_store_leaves s alone h trees may = record {
+  books = stored_books s;
+  holds = subst (TreesHold (stored_books s)) (ap (λ (d : Database). d.trees) h.committed ∙ sym (alone trees h.is_open may)) (trees_held s.now (stored_books s) (record { sound = (new_store_is_sound s h).sound; books_are = refl }));
+  well_formed = new_store_is_formed s h;
+}
+
 -- a call that changed the tables of a store
 pub changes_store : {S A : Type 0} (g : Ghosts S) (old new : StoreView S) (r : Result A Denied) (step : Bounds → Books → Result (A × Books) Refusal) → IsStore (state g old.conn) old.limits → new.limits ≡ old.limits
     → AppliesStep (state g old.conn) (state g new.conn) r (step old.limits) → CommitsOnce (state g old.conn) (state g new.conn) (step old.limits) → ChangeFaultsFromOutside (state g old.conn) (state g new.conn) r → ChangesStore g old new r step
@@ -110,14 +138,48 @@ changes_store g old new r step store same changed commits causes = record {
     range = subst IsInRange (sym same) store.range;
   };
   matches_step = λ order. changed.matches_step order (store.stays_sound (changed.was_open_on_honest_disk order));
-  crash = λ order. commits (store.stays_sound order);
+  crash = commits store.stays_sound;
   store_fault = causes;
 }
 
+pub max_in_range : IsInRange max_limits
+max_in_range = record {
+  page_least = omega arith;
+  page_most = omega arith;
+  cards_least = omega arith;
+  cards_most = omega arith;
+  changes_least = omega arith;
+  changes_most = omega arith;
+  books_least = omega arith;
+  books_most = omega arith;
+  keep_least = omega arith;
+  keep_most = omega arith;
+}
+
+-- limits in range are within those that an opening tests
+pub within_max : (limits : Bounds) → IsInRange limits → AreWithin limits max_limits
+within_max limits range = record { changes = range.changes_most; books = range.books_most }
+
+-- the books after the whole step are those of a store
+stored_after : {A : Type 0} (due : Result (A × Books) Refusal) (trees : Trees) → LeavesWellFormed max_limits due → HoldBooksAfter due trees → StoredTrees trees
+stored_after (Ok done) trees well holds = record { books = done.1; holds = holds; well_formed = well }
+stored_after (Err refusal) trees well holds = absurd holds
+
 -- a change keeps the invariant of the store
-pub changed_store : {A : Type 0} (old new : State) (limits : Bounds) (r : Result A Denied) (step : Books → Result (A × Books) Refusal) → IsStore old limits → AppliesStep old new r step → IsStore new limits
-changed_store old new limits r step store changed = record {
+pub changed_store : {A : Type 0} (old new : State) (limits : Bounds) (r : Result A Denied) (step : Books → Result (A × Books) Refusal) → IsStore old limits
+    → (AreWithin limits max_limits → (books : Books) → IsWellFormed max_limits books → LeavesWellFormed max_limits (step books)) → AppliesStep old new r step → CommitsOnce old new step → IsStore new limits
+changed_store old new limits r step store leaves changed commits = record {
   settled = changed.settled;
   stays_sound = λ order. changed.stays_sound order (store.stays_sound (changed.was_open_on_honest_disk order));
+  stays_well_formed = λ order.
+      let before = changed.was_open_on_honest_disk order in
+      let was = store.stays_well_formed before in
+      matched (IsWellFormed max_limits) r (step (stored_books old)) (stored_books old) (stored_books new) (leaves (within_max limits store.range) (stored_books old) was) was (changed.matches_step order (store.stays_sound before));
+  leaves_stores = λ clean trees may.
+      let survives = commits store.stays_sound in
+      elim (survives.crash clean trees may) [
+        | inl before ↦ store.leaves_stores (clean_before _ old new survives clean) trees before
+        | inr done ↦ stored_after (step (stored_books old)) trees (leaves (within_max limits store.range) (stored_books old) (store.stays_well_formed done.0)) done.1
+      ];
   range = store.range;
 }

@@ -16,8 +16,9 @@ use Rattle.store_check.specs.OpenResults.{IsOpenResult, max_limits}
 
 -- ---- new stores
 
--- the tables were just created, and are committed
+-- the tables were just created, and are committed, and the connection is open
 pub record IsNewStoreCommitted (s : State) : Type 0 where
+  pub is_open : IsTrue s.is_open
   pub created : IsEmptyStore schema_number s.now
   pub committed : s.now ≡ s.committed
 

@@ -2,7 +2,8 @@
 use Rattle.std.specs.Prelude.{◌≡◌, false, Result, refl, ⊤}
 use Rattle.std.specs.Coded.{Coded, code_by, coded×}
 use Rattle.sqlite.specs.Held.{Held, held_code, state}
-use Rattle.sqlite.specs.State.{State, Survives}
+use Rattle.sqlite.specs.State.{HasCleanDisk, State, Survives}
+use Rattle.sqlite.specs.Tree.{Trees}
 use Rattle.sqlite_trees.specs.declared.store.Store.{Ghosts}
 use Rattle.sync_core.specs.StoreModels.{StoreModel, KeepsTerms, AnswersQuery, PerformsStep}
 use Rattle.sync_core.specs.StoreStates.{coded_bounds}
@@ -10,10 +11,12 @@ use Rattle.book_model.specs.declared.denied.Denied.{Denied}
 use Rattle.book_model.specs.declared.refusal.Refusal.{Refusal}
 use Rattle.book_model.specs.Books.{Books}
 use Rattle.book_model.specs.Bounds.{Bounds, IsInRange}
+use Rattle.book_model.specs.WellFormed.{IsWellFormed}
+use Rattle.store_check.specs.OpenResults.{max_limits}
 use Rattle.store_tables.specs.StatementEffects.{OnlyReads}
 use Rattle.store_lookups.specs.ChangeFaults.{ChangeFaultsFromOutside}
 use Rattle.store_lookups.specs.StoreFaults.{FaultsFromOutside}
-use Rattle.store_writes.specs.TableChanges.{HoldBooksAfter}
+use Rattle.store_writes.specs.TableChanges.{CommitsStep, TreesHold}
 use Rattle.store_lookups.specs.StoredBooks.{IsOpenOnHonestDisk, IsCommittedAndSound, stored_books}
 
 pub record StoreView (S : Type 0) : Type 0 where
@@ -25,12 +28,20 @@ store_code {S} store =
     code_by (Held S × Bounds) (coded× (held_code store) coded_bounds) (λ v. (v.conn, v.limits))
     (λ p. record { conn = p.0; limits = p.1 }) (λ _. refl)
 
--- The invariant of a store: no transaction is open, and the tables are committed and sound as long
--- as the connection is open on an honest disk. It does not include that numbers and texts are
--- readable.
+-- the trees of a store with these books, which an opening accepts
+pub record StoredTrees (trees : Trees) : Type 0 where
+  pub books : Books
+  pub holds : TreesHold books trees
+  pub well_formed : IsWellFormed max_limits books
+
+-- The invariant of a store: no transaction is open; and as long as the connection is open on an
+-- honest disk, the tables are committed and sound, and hold well-formed books, by the limits that an
+-- opening tests. Whatever a crash may leave is a store too, also after the connection was closed.
 pub record IsStore (s : State) (limits : Bounds) : Type 0 where
   pub settled : s.in_transaction ≡ false
   pub stays_sound : IsOpenOnHonestDisk s → IsCommittedAndSound s
+  pub stays_well_formed : IsOpenOnHonestDisk s → IsWellFormed max_limits (stored_books s)
+  pub leaves_stores : HasCleanDisk s → (trees : Trees) → s.may_leave trees → StoredTrees trees
   pub range : IsInRange limits
 
 -- the books of a store
@@ -59,13 +70,13 @@ pub record ReadsStore {S : Type 0} {T A : Type 0} (g : Ghosts S) (allows : T →
   pub store_fault : FaultsFromOutside (state g old.conn) (state g new.conn) r
 
 -- A call that changes the books: the contract of every store, and what a crash can leave. That is
--- what it could leave before the call, or the one commit, with the books after the whole call. Over
--- rows that can be changed, a fault of the store comes only from an outside cause.
+-- what it could leave before the call, or the one commit, with the books after the whole call, which
+-- is made only over a connection that was open on an honest disk. Over rows that can be changed, a
+-- fault of the store comes only from an outside cause.
 pub record ChangesStore {S : Type 0} {A : Type 0} (g : Ghosts S) (old new : StoreView S)
     (r : Result A Denied) (step : Bounds → Books → Result (A × Books) Refusal) : Type 0 where
   pub keeps_terms : KeepsTerms (table_model g) old new
   pub matches_step : PerformsStep (table_model g) old new r step
-  pub crash : IsOpenOnHonestDisk (state g old.conn) →
-      Survives (state g old.conn) (state g new.conn)
-      (HoldBooksAfter (step old.limits (books_of_store g old)))
+  pub crash : Survives (state g old.conn) (state g new.conn)
+      (CommitsStep (state g old.conn) (step old.limits))
   pub store_fault : ChangeFaultsFromOutside (state g old.conn) (state g new.conn) r

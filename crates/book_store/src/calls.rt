@@ -1,7 +1,7 @@
 //! The calls of `BookStore` over tables. The clause of each states what the trait requires, and
 //! also what a crash can leave: after a call that changes books, what it could leave before or the
-//! whole change; after a call that reads, what it could leave before. Both hold if the connection
-//! was open on an honest disk before the call.
+//! whole change; after a call that reads, what it could leave before. Both hold of any connection:
+//! the change is made only if it was open on an honest disk before the call.
 ghost use Rattle.base_types.specs.TextMaps.{octet_map};
 ghost use Rattle.book_model.specs.BookQueries.{book_line_step, book_lines, cards_step, get_step};
 ghost use Rattle.book_model.specs.BookQueries.{tally_step};

@@ -1,6 +1,11 @@
 //! Laws of stores over tables.
 ghost use Rattle.book_model.specs.Bounds.{Bounds};
 ghost use Rattle.book_store.specs.Crashes.{StoresSurviveCrashes};
+ghost use Rattle.book_store.specs.Restarts.{HoldsStore};
+ghost use Rattle.book_store.specs.StoreViews.{StoredTrees};
+ghost use Rattle.sqlite.specs.Files.{HoldsDatabase};
+ghost use Rattle.sqlite.specs.Recovery.{Image};
+ghost use Rattle.sqlite.specs.Tree.{Trees};
 ghost use Rattle.store_lookups.specs.ChangeFaults.{AcceptChanges};
 ghost use Rattle.store_lookups.specs.StoreFaults.{AreFaultless};
 ghost use Rattle.store_rows.specs.SoundTables.{AreWellFormed};
@@ -37,4 +42,11 @@ pub fn well_formed_rows_accept_changes()
 /// open, and the disk must have returned what was written.
 pub fn stores_survive_crashes<S: Alter>()
     ensures { StoresSurviveCrashes S.Store }
+{}
+
+/// What `SqlStore::into_files` leaves, `SqlStore::open_again` opens, with its books: it lists the
+/// declared tables, and their rows pass each test of an opening.
+pub fn left_stores_open()
+    ensures { (image : Image) (trees : Trees) → HoldsDatabase image trees
+        → (stored : StoredTrees trees) → HoldsStore image stored.books }
 {}

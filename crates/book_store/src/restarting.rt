@@ -1,6 +1,7 @@
 //! The end of a run of a store in files, and the opening by the next run.
 ghost use Rattle.book_model.specs.Books.{Books};
 ghost use Rattle.book_store.specs.Restarts.{HoldsStore};
+ghost use Rattle.book_store.specs.StoreViews.{StoredTrees};
 ghost use Rattle.database_files.specs.Restarts.{LeaveOneOf};
 ghost use Rattle.sqlite.specs.Files.{IsCleanLeft, file_state, image_of};
 ghost use Rattle.sqlite.specs.State.{HasCleanDisk};
@@ -21,9 +22,11 @@ use store_schema::{OpenFault, open_fault_of};
 
 impl<D: Disk + Drop> SqlStore<FileStore<D>> {
     /// Ends the use of the store without writing, and returns its files. Whatever a crash leaves of
-    /// them holds the books of the store, if its connection was open and the disk had returned what
-    /// was written.
+    /// them holds a store, which opens again (`left_stores_open`), as long as the disk has returned
+    /// what was written. That is so also if the connection was closed. If it was open, the books are
+    /// those of the store.
     pub fn into_files(self) -> Files<D>
+        ensures leaves { LeaveOneOf D.Disk result StoredTrees }
         ensures books { IsOpenOnHonestDisk (file_state self.conn) → LeaveOneOf D.Disk result
             (TreesHold (stored_books (file_state self.conn))) }
         ensures clean { AreClean D.Disk result.log result.db → HasCleanDisk (file_state self.conn) }

@@ -3,12 +3,17 @@
 use crate::cell::cell_text;
 use crate::dates::DateOrder;
 use crate::fields::row_field;
+use crate::folded::folded_names;
 use crate::google::{google_meaning, name_meaning};
-use crate::known_names::{Program, known_name};
+use crate::known_names::known_name;
 use crate::meaning::{Meaning, Part};
 use crate::numbered_names::numbered_name;
 use crate::outlook::outlook_meaning;
+use crate::programs::{Program, program_of};
+use crate::recognized::are_contacts;
+use crate::signs::Signs;
 use crate::slots::{Slot, add_column, add_slot, has_place};
+use crate::thunderbird::thunderbird_meaning;
 use crate::wishes::{Wish, chosen_wishes, have_columns, read_wishes};
 use csv::ByteRecord;
 use std::alloc::Global;
@@ -46,6 +51,7 @@ fn meaning_of<'a>(known: &'a str, key: &'a str) -> Option<Meaning<'a>> {
     name_meaning(known)
         .or(google_meaning(known))
         .or(outlook_meaning(known, key))
+        .or(thunderbird_meaning(known))
 }
 
 /// The property that holds the cells of a column with the meaning.
@@ -58,17 +64,35 @@ fn property_of(meaning: Meaning<'_>) -> &str {
 }
 
 /// The name in English that Google or Outlook has for a column of this name; the name itself if
-/// none is known.
-fn english_name(alloc: Global, program: Program, name: &str) -> Result<String, NoMemory> {
-    match numbered_name(name) {
+/// none is known. `folded` is the name in lower case.
+fn english_name(
+    alloc: Global,
+    program: Program,
+    name: &str,
+    folded: &str,
+) -> Result<String, NoMemory> {
+    match numbered_name(folded) {
         Some(it) => {
             let kind = it.kind;
             let number = it.number;
             let part = it.part;
             Ok(format!(in alloc; "{kind} {number} - {part}")?)
         }
-        None => Ok(String::from_str(alloc, known_name(program, name))?),
+        None => Ok(String::from_str(alloc, known_name(program, folded).unwrap_or(name))?),
     }
+}
+
+/// The same for each column.
+fn english_names(alloc: Global, names: &[Text]) -> Result<Items<Text>, NoMemory> {
+    let folded = folded_names(alloc, names)?;
+    let program = program_of(folded.as_slice());
+    let mut english = Items::new(alloc);
+    for place in 0..names.len() {
+        let name = names[place].as_str();
+        let folded = folded.as_slice().get(place).map_or(name, |it| it.as_str());
+        english.push(Text::new(english_name(alloc, program, name, folded)?))?;
+    }
+    Ok(english)
 }
 
 /// The property of a column that has these names, or an empty text. Adds the column to the slot of
@@ -99,25 +123,18 @@ pub(crate) fn column_names(alloc: Global, header: &ByteRecord) -> Result<Items<T
     Ok(names)
 }
 
-fn has_name(names: &[Text], name: &str) -> bool {
-    names
-        .iter()
-        .any(|it| it.as_str().eq_ignore_ascii_case(name))
-}
-
-/// The program that writes columns of these names.
-fn program_of(names: &[Text]) -> Program {
-    if has_name(names, "User principal name") {
-        Program::Office
-    } else if has_name(names, "Primary Email") {
-        Program::Thunderbird
-    } else if has_name(names, "Geburtsjahr") {
-        Program::ThunderbirdGerman
-    } else if has_name(names, "Vorname") || has_name(names, "Prénom") {
-        Program::GivenNames
-    } else {
-        Program::Other
+/// Which columns there are: those of these names in English, and those of wishes.
+fn signs_of(english: &[Text], chosen: &[usize], wishes: &[Wish<'_>]) -> Signs {
+    let mut signs = Signs::new();
+    for place in 0..english.len() {
+        let index = chosen.get(place).copied().unwrap_or(wishes.len());
+        match wishes.get(index) {
+            Some(wish) if wish.target.property == "TITLE" => signs.note("Job Title"),
+            Some(wish) => signs.note(wish.target.known),
+            None => signs.note(english[place].as_str()),
+        }
     }
+    signs
 }
 
 /// Adds columns to the slots of their properties. `chosen` has the index of the wish for each.
@@ -171,23 +188,22 @@ fn wished_column(
     })
 }
 
-/// A column that is known by its name, if it is.
+/// A column that is known by its name in English, if it is.
 fn known_column(
     alloc: Global,
     slots: &mut Vec<Slot>,
     place: usize,
     name: &str,
-    program: Program,
+    known: &str,
 ) -> Result<Column, NoMemory> {
-    let known = Text::new(english_name(alloc, program, name)?);
-    let property = if known.as_str() == "UID" {
+    let property = if known == "UID" {
         Text::copy_of(alloc, "UID")?
     } else {
-        column_property(alloc, slots, place, known.as_str(), name)?
+        column_property(alloc, slots, place, known, name)?
     };
     Ok(Column {
         name: Text::copy_of(alloc, name)?,
-        known,
+        known: Text::copy_of(alloc, known)?,
         property,
         is_left_out: false,
     })
@@ -199,17 +215,21 @@ pub(crate) fn columns_of(
     names: &[Text],
     wishes: &[Wish<'_>],
 ) -> Result<ContactColumns, NoMemory> {
-    let program = program_of(names);
+    let english = english_names(alloc, names)?;
     let mut columns = Items::new(alloc);
     let mut slots = Vec::new(alloc);
     let chosen = chosen_wishes(alloc, names, wishes)?;
+    let signs = signs_of(english.as_slice(), chosen.as_slice(), wishes);
     add_wished(alloc, &mut slots, chosen.as_slice(), wishes)?;
     for place in 0..names.len() {
         let name = names[place].as_str();
         let index = chosen.get(place).copied().unwrap_or(wishes.len());
         let column = match wishes.get(index) {
             Some(wish) => wished_column(alloc, slots.as_slice(), place, name, wish)?,
-            None => known_column(alloc, &mut slots, place, name, program)?,
+            None => {
+                let known = english.as_slice().get(place).map_or(name, |it| it.as_str());
+                known_column(alloc, &mut slots, place, name, signs.settled(known))?
+            }
         };
         columns.push(column)?;
     }
@@ -218,72 +238,6 @@ pub(crate) fn columns_of(
         slots,
         dates: DateOrder::Unknown,
     })
-}
-
-fn has_slot(slots: &[Slot], property: &str) -> bool {
-    slots.iter().any(|slot| slot.property.as_str() == property)
-}
-
-/// Whether one of the properties is there that name a person or an organization.
-pub(crate) fn has_names(slots: &[Slot]) -> bool {
-    has_slot(slots, "N") || has_slot(slots, "FN") || has_slot(slots, "ORG")
-}
-
-/// Whether one of the properties is there by which a person is reached.
-fn reaches(slots: &[Slot]) -> bool {
-    has_slot(slots, "EMAIL") || has_slot(slots, "TEL")
-}
-
-/// Whether the slots are those of contacts: of names or organizations, and of addresses of
-/// electronic mail, telephones or categories.
-fn are_of_contacts(slots: &[Slot]) -> bool {
-    has_names(slots) && (reaches(slots) || has_slot(slots, "CATEGORIES"))
-}
-
-/// The text in lower case, where it is ASCII.
-pub(crate) fn lower(alloc: Global, text: &str) -> Result<String, NoMemory> {
-    let mut lower = String::new(alloc);
-    for c in text.chars() {
-        lower.push(c.to_ascii_lowercase())?;
-    }
-    Ok(lower)
-}
-
-/// Whether a column of this name should have addresses of electronic mail or numbers of telephones.
-fn should_reach(alloc: Global, name: &str) -> Result<bool, NoMemory> {
-    let name = lower(alloc, name)?;
-    let name = name.as_str();
-    Ok(
-        name.contains("mail")
-            || name.contains("phone")
-            || name.contains("telefon")
-            || name.contains("mobil"),
-    )
-}
-
-/// The columns that should have addresses of electronic mail or numbers of telephones, and have no
-/// property: their names, with commas between them.
-fn unread_names(alloc: Global, columns: &[Column]) -> Result<String, NoMemory> {
-    let mut names = String::new(alloc);
-    for column in columns {
-        if column.property.is_empty() && should_reach(alloc, column.name.as_str())? {
-            if !names.is_empty() {
-                names.push_str(", ")?;
-            }
-            names.push_str(column.name.as_str())?;
-        }
-    }
-    Ok(names)
-}
-
-/// Whether the columns are those of contacts. They aren't if all columns that should have addresses
-/// or numbers by their names have no property.
-fn are_contacts(alloc: Global, read: &ContactColumns) -> Result<bool, NoMemory> {
-    let slots = read.slots.as_slice();
-    if !are_of_contacts(slots) {
-        return Ok(false);
-    }
-    Ok(reaches(slots) || unread_names(alloc, read.columns.as_slice())?.is_empty())
 }
 
 /// The columns that a header row of contacts names: those of a name or an organization, and of
@@ -308,12 +262,4 @@ pub fn read_columns(
         return Ok(None);
     }
     Ok(Some(read))
-}
-
-/// The names of the columns of a header that should have addresses of electronic mail or numbers of
-/// telephones, and that aren't known, with commas between them. The only `Err` is out of memory.
-pub(crate) fn unread_columns(alloc: Global, header: &ByteRecord) -> Result<String, NoMemory> {
-    let names = column_names(alloc, header)?;
-    let read = columns_of(alloc, names.as_slice(), &[])?;
-    unread_names(alloc, read.columns.as_slice())
 }

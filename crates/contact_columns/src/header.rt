@@ -1,9 +1,10 @@
 //! Where the header of a file of contacts is, and the delimiter of its cells.
 
 use crate::above::{ABOVE_MAX, AboveLine, lines_above};
-use crate::columns::{read_columns, unread_columns};
+use crate::columns::read_columns;
 use crate::dates::DateOrder;
 use crate::headerless::find_rows;
+use crate::recognized::unread_columns;
 use crate::row_ends::rows_end_with_returns;
 use crate::row_scan::mark_len;
 use crate::wishes::{are_numbers, has_rows_entry, most_number};
@@ -195,7 +196,7 @@ pub fn find_header<'a>(
     }
 }
 
-/// The columns of the first row that should have addresses of electronic mail or numbers of
+/// The columns of the first row that should have names, addresses of electronic mail or numbers of
 /// telephones by their names, and that aren't known. The only `Err` is out of memory.
 pub fn unknown_columns(alloc: Global, head: &[u8]) -> Result<Text, NoMemory> {
     let mut names = String::new(alloc);

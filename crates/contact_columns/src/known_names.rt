@@ -1,52 +1,15 @@
 //! Names of columns in other words and other languages, and the names of Google's and Outlook's
 //! exports in English for them.
 
-/// The programs whose columns have names that mean something else elsewhere.
-#[derive(Clone, Copy, PartialEq, Eq)]
-pub(crate) enum Program {
-    /// The list of users of Office 365.
-    Office,
-    /// Thunderbird in English.
-    Thunderbird,
-    /// Thunderbird in German.
-    ThunderbirdGerman,
-    /// Any other with a column of family names.
-    Other,
-    /// Any other with a column of given names, but with none of family names.
-    GivenNames,
-}
+use crate::programs::{Program, own_names};
 
-/// A name in any case, and the name of Google's or Outlook's in English.
+/// A name in lower case, with `ss` for `ß`, and the name of Google's or Outlook's in English. Some
+/// names mean something only beside others (see `Signs`).
 pub(crate) type KnownName = (&'static str, &'static str);
-
-const OFFICE: &[KnownName] = &[
-    ("title", "Job Title"),
-    ("user principal name", "E-mail Address"),
-    ("phone number", "Business Phone"),
-    ("fax", "Business Fax"),
-    ("street address", "Business Street"),
-    ("city", "Business City"),
-    ("state", "Business State"),
-    ("postal code", "Business Postal Code"),
-    ("country", "Business Country"),
-];
-
-const THUNDERBIRD: &[KnownName] = &[
-    ("home address", "Home Street"),
-    ("work address", "Business Street"),
-];
-
-const THUNDERBIRD_GERMAN: &[KnownName] = &[
-    ("geburtstag", "Birth Day"),
-    ("geburtsmonat", "Birth Month"),
-    ("geburtsjahr", "Birth Year"),
-];
-
-const GIVEN_NAMES: &[KnownName] = &[("name", "Last Name"), ("nom", "Last Name")];
 
 /// Names of persons.
 const PERSONS: &[KnownName] = &[
-    ("name", "Name"),
+    ("name", "Name or Part"),
     ("full name", "Name"),
     ("fullname", "Name"),
     ("display name", "Name"),
@@ -55,7 +18,7 @@ const PERSONS: &[KnownName] = &[
     ("contact name", "Name"),
     ("anzeigename", "Name"),
     ("nom complet", "Name"),
-    ("nom", "Name"),
+    ("nom", "Name or Part"),
     ("first name", "First Name"),
     ("firstname", "First Name"),
     ("first", "First Name"),
@@ -79,9 +42,10 @@ const PERSONS: &[KnownName] = &[
     ("nom de famille", "Last Name"),
     ("name prefix", "Name Prefix"),
     ("title", "Title"),
-    ("anrede", "Title"),
-    ("titel", "Title"),
-    ("titre", "Title"),
+    ("salutation", "Salutation"),
+    ("anrede", "Anrede"),
+    ("titel", "Titel"),
+    ("titre", "Titel"),
     ("namenspräfix", "Name Prefix"),
     ("name suffix", "Name Suffix"),
     ("suffix", "Suffix"),
@@ -95,13 +59,15 @@ const PERSONS: &[KnownName] = &[
     ("birth date", "Birthday"),
     ("geburtstag", "Birthday"),
     ("geburtsdatum", "Birthday"),
+    ("birth year", "Birth Year"),
+    ("birth month", "Birth Month"),
+    ("birth day", "Birth Day"),
     ("anniversaire", "Birthday"),
     ("date de naissance", "Birthday"),
     ("anniversary", "Anniversary"),
     ("jahrestag", "Anniversary"),
     ("anniversaire de mariage ou fête", "Anniversary"),
     ("spouse", "Spouse"),
-    ("partner", "Spouse"),
     ("conjoint(e)", "Spouse"),
     ("children", "Children"),
     ("kinder", "Children"),
@@ -134,7 +100,6 @@ const WORK: &[KnownName] = &[
     ("name der organisation", "Organization Name"),
     ("department", "Department"),
     ("abteilung", "Department"),
-    ("service", "Department"),
     ("organization department", "Organization Department"),
     ("abteilung der organisation", "Organization Department"),
     ("job title", "Job Title"),
@@ -163,7 +128,6 @@ const NET: &[KnownName] = &[
     ("adresse de messagerie", "E-mail Address"),
     ("adresse e-mail", "E-mail Address"),
     ("courriel", "E-mail Address"),
-    ("user name", "E-mail Address"),
     ("e-mail 2 address", "E-mail 2 Address"),
     ("secondary email", "E-mail 2 Address"),
     ("alternate email address", "E-mail 2 Address"),
@@ -266,15 +230,14 @@ const PHONES: &[KnownName] = &[
 
 /// Addresses.
 const PLACES: &[KnownName] = &[
-    ("address", "Address 1 - Formatted"),
-    ("adresse", "Address 1 - Formatted"),
+    ("address", "Address"),
+    ("adresse", "Address"),
     ("street", "Address 1 - Street"),
     ("street address", "Address 1 - Street"),
-    ("straße", "Address 1 - Street"),
     ("strasse", "Address 1 - Street"),
     ("rue", "Address 1 - Street"),
     ("city", "Address 1 - City"),
-    ("ort", "Address 1 - City"),
+    ("ort", "Ort"),
     ("stadt", "Address 1 - City"),
     ("ville", "Address 1 - City"),
     ("state", "Address 1 - Region"),
@@ -298,15 +261,16 @@ const PLACES: &[KnownName] = &[
 /// Addresses at work.
 const WORK_PLACES: &[KnownName] = &[
     ("business street", "Business Street"),
-    ("straße geschäftlich", "Business Street"),
+    ("strasse geschäftlich", "Business Street"),
     ("rue (bureau)", "Business Street"),
     ("dienstlich: adresse", "Business Street"),
     ("business street 2", "Business Street 2"),
     ("work address 2", "Business Street 2"),
-    ("straße geschäftlich 2", "Business Street 2"),
+    ("strasse geschäftlich 2", "Business Street 2"),
     ("rue (bureau) 2", "Business Street 2"),
     ("dienstlich: adresse 2", "Business Street 2"),
     ("business city", "Business City"),
+    ("work street", "Business Street"),
     ("work city", "Business City"),
     ("ort geschäftlich", "Business City"),
     ("ville (bureau)", "Business City"),
@@ -318,6 +282,8 @@ const WORK_PLACES: &[KnownName] = &[
     ("dienstlich: bundesland", "Business State"),
     ("business postal code", "Business Postal Code"),
     ("work zipcode", "Business Postal Code"),
+    ("work zip", "Business Postal Code"),
+    ("work postal code", "Business Postal Code"),
     ("postleitzahl geschäftlich", "Business Postal Code"),
     ("code postal (bureau)", "Business Postal Code"),
     ("dienstlich: plz", "Business Postal Code"),
@@ -331,17 +297,18 @@ const WORK_PLACES: &[KnownName] = &[
     ("postfach geschäftlich", "Business Address PO Box"),
     ("boîte postale (bureau)", "Business Address PO Box"),
     ("business address", "Business Address"),
+    ("work address", "Business Address"),
 ];
 
 /// Addresses at home, and others.
 const HOME_PLACES: &[KnownName] = &[
     ("home street", "Home Street"),
-    ("straße privat", "Home Street"),
+    ("strasse privat", "Home Street"),
     ("rue (domicile)", "Home Street"),
     ("privat: adresse", "Home Street"),
     ("home street 2", "Home Street 2"),
     ("home address 2", "Home Street 2"),
-    ("straße privat 2", "Home Street 2"),
+    ("strasse privat 2", "Home Street 2"),
     ("rue (domicile) 2", "Home Street 2"),
     ("privat: adresse 2", "Home Street 2"),
     ("home city", "Home City"),
@@ -354,6 +321,7 @@ const HOME_PLACES: &[KnownName] = &[
     ("privat: bundesland", "Home State"),
     ("home postal code", "Home Postal Code"),
     ("home zipcode", "Home Postal Code"),
+    ("home zip", "Home Postal Code"),
     ("postleitzahl privat", "Home Postal Code"),
     ("code postal (domicile)", "Home Postal Code"),
     ("privat: plz", "Home Postal Code"),
@@ -366,10 +334,10 @@ const HOME_PLACES: &[KnownName] = &[
     ("postfach privat", "Home Address PO Box"),
     ("home address", "Home Address"),
     ("other street", "Other Street"),
-    ("weitere straße", "Other Street"),
+    ("weitere strasse", "Other Street"),
     ("rue (autre)", "Other Street"),
     ("other street 2", "Other Street 2"),
-    ("weitere straße 2", "Other Street 2"),
+    ("weitere strasse 2", "Other Street 2"),
     ("other city", "Other City"),
     ("weiterer ort", "Other City"),
     ("ville (autre)", "Other City"),
@@ -398,30 +366,19 @@ const IDENTIFIERS: &[KnownName] = &[
     ("kontakt-id", "Id"),
 ];
 
-/// The name for one in a table, if the table has it, in any case.
+/// The name for one in a table, if the table has it.
 pub(crate) fn name_in(table: &[KnownName], name: &str) -> Option<&'static str> {
     for (known, english) in table {
-        if known.eq_ignore_ascii_case(name) {
+        if *known == name {
             return Some(*english);
         }
     }
     None
 }
 
-/// The names that mean something else in the columns of the program.
-fn own_names(program: Program) -> &'static [KnownName] {
-    match program {
-        Program::Office => OFFICE,
-        Program::Thunderbird => THUNDERBIRD,
-        Program::ThunderbirdGerman => THUNDERBIRD_GERMAN,
-        Program::GivenNames => GIVEN_NAMES,
-        Program::Other => &[],
-    }
-}
-
-/// The name in English that Google or Outlook has for a column of this name, in any case; the name
-/// itself if none is known.
-pub(crate) fn known_name(program: Program, name: &str) -> &str {
+/// The name in English that Google or Outlook has for a column of this name, which is in lower
+/// case, with `ss` for `ß`.
+pub(crate) fn known_name(program: Program, name: &str) -> Option<&'static str> {
     for table in [
         own_names(program),
         PERSONS,
@@ -434,8 +391,8 @@ pub(crate) fn known_name(program: Program, name: &str) -> &str {
         IDENTIFIERS,
     ] {
         if let Some(english) = name_in(table, name) {
-            return english;
+            return Some(english);
         }
     }
-    name
+    None
 }

@@ -11,6 +11,12 @@ pub enum Part {
     Label,
     /// An address as it is printed: the parameter LABEL.
     Formatted,
+    /// The year of a date.
+    Year,
+    /// The month of a date, as a number.
+    Month,
+    /// The day of a date in its month.
+    Day,
 }
 
 /// The property that holds a cell, and what the cell is of it.

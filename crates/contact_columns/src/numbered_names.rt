@@ -1,4 +1,4 @@
-//! The names of Google's numbered columns, as `E-mail 1 - Value`, in any case and in German.
+//! The names of Google's numbered columns, as `e-mail 1 - value`, in lower case and in German.
 
 use crate::known_names::{KnownName, name_in};
 
@@ -31,7 +31,7 @@ const PARTS: &[KnownName] = &[
     ("formatted", "Formatted"),
     ("formatiert", "Formatted"),
     ("street", "Street"),
-    ("straße", "Street"),
+    ("strasse", "Street"),
     ("city", "City"),
     ("ort", "City"),
     ("stadt", "City"),

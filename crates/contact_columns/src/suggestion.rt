@@ -1,7 +1,9 @@
 //! What to say of columns that aren't known, to begin with.
 
-use crate::columns::{Column, column_names, columns_of, has_names, lower};
+use crate::columns::{Column, column_names, columns_of};
+use crate::folded::folded;
 use crate::header::{DELIMITERS, first_row};
+use crate::recognized::{has_names, is_other};
 use crate::wishes::push_header_entry;
 use std::alloc::Global;
 use vcard_text::{Items, NoMemory, Text};
@@ -11,11 +13,31 @@ const GUESSES: &[(&str, &str)] = &[
     ("mail", "email"),
     ("fax", "tel;type=fax"),
     ("mobil", "tel;type=cell"),
+    ("mobiel", "tel;type=cell"),
+    ("móvil", "tel;type=cell"),
     ("handy", "tel;type=cell"),
     ("cell", "tel;type=cell"),
     ("tel", "tel"),
     ("phone", "tel"),
     ("phon", "tel"),
+    ("téléph", "tel"),
+    ("puhelin", "tel"),
+    ("tweede voornaam", "n.additional"),
+    ("mellem", "n.additional"),
+    ("mellan", "n.additional"),
+    ("voornaam", "n.given"),
+    ("fornavn", "n.given"),
+    ("förnamn", "n.given"),
+    ("nombre", "n.given"),
+    ("imię", "n.given"),
+    ("achternaam", "n.family"),
+    ("efternavn", "n.family"),
+    ("etternavn", "n.family"),
+    ("efternamn", "n.family"),
+    ("apellido", "n.family"),
+    ("cognome", "n.family"),
+    ("nazwisko", "n.family"),
+    ("bedrijf", "org"),
     ("vorname", "n.given"),
     ("first", "n.given"),
     ("given", "n.given"),
@@ -26,6 +48,10 @@ const GUESSES: &[(&str, &str)] = &[
     ("company", "org"),
     ("organi", "org"),
     ("name", "fn"),
+    ("naam", "fn"),
+    ("navn", "fn"),
+    ("namn", "fn"),
+    ("nome", "fn"),
     ("stra", "adr.street"),
     ("street", "adr.street"),
     ("plz", "adr.code"),
@@ -43,9 +69,14 @@ const GUESSES: &[(&str, &str)] = &[
 
 /// What a column of this name may become.
 fn guess(alloc: Global, name: &str) -> Result<Option<&'static str>, NoMemory> {
-    let name = lower(alloc, name)?;
+    let name = folded(alloc, name)?;
+    if name.as_str().contains("phonet") {
+        return Ok(None);
+    }
+    let is_other = is_other(name.as_str());
     for (part, word) in GUESSES {
-        if name.as_str().contains(*part) {
+        let is_reach = word.starts_with("email") || word.starts_with("tel");
+        if name.as_str().contains(*part) && !(is_other && is_reach) {
             return Ok(Some(*word));
         }
     }

@@ -90,8 +90,44 @@ fn structured_target(word: &str) -> Option<Target> {
     Some(target)
 }
 
-/// The target that the word names.
+/// The words for targets, in lower case.
+const WORDS: &[&str] = &[
+    "fn",
+    "n.family",
+    "n.given",
+    "n.additional",
+    "n.prefix",
+    "n.suffix",
+    "nickname",
+    "org",
+    "org.unit",
+    "title",
+    "role",
+    "email",
+    "tel",
+    "adr",
+    "adr.street",
+    "adr.city",
+    "adr.region",
+    "adr.code",
+    "adr.country",
+    "adr.box",
+    "adr.extended",
+    "url",
+    "bday",
+    "anniversary",
+    "note",
+    "categories",
+    "uid",
+    "gender",
+    "lang",
+    "impp",
+    "-",
+];
+
+/// The target that the word names, in any case.
 pub(crate) fn target_of(word: &str) -> Option<Target> {
+    let word = *WORDS.iter().find(|it| it.eq_ignore_ascii_case(word))?;
     let target = match word {
         "fn" => single("FN"),
         "bday" => single("BDAY"),

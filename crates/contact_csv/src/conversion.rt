@@ -8,13 +8,13 @@ ghost use Rattle.contact_columns.specs.Cells.{cell_text};
 ghost use Rattle.contact_csv.specs.Contacts.{IsContact, IsRefused};
 ghost use Rattle.contact_csv.specs.RowUids.{row_uid};
 
-use crate::entries::push_lines;
 use crate::exchange::push_shown_addresses;
 use crate::keeping::{Kept, extra_column, keep_row};
 use crate::names::push_missing_name;
 use crate::row_fault::are_void;
 use crate::row_lines::RowLines;
 use crate::uid::chosen_uid;
+use crate::whole_names::push_slot_lines;
 use contact_columns::{ContactColumns, cell_text, row_field};
 use csv::ByteRecord;
 use std::alloc::Global;
@@ -44,7 +44,7 @@ fn draft_lines(
         return Ok(made);
     }
     for slot in &columns.slots {
-        push_lines(alloc, &mut made, slot, cells)?;
+        push_slot_lines(alloc, &mut made, columns.columns.as_slice(), slot, cells)?;
     }
     push_shown_addresses(alloc, &mut made, columns.columns.as_slice(), cells)?;
     push_missing_name(alloc, &mut made)?;

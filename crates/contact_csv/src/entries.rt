@@ -91,9 +91,28 @@ fn label_params(alloc: Global, slot: &Slot, label: Label<'_>) -> Result<Items<Pa
     Ok(params)
 }
 
+/// Whether the separator has an address of electronic mail before it and after it.
+fn separates_mails(cell: &str, separator: &str) -> bool {
+    match cell.split_once(separator) {
+        Some((first, rest)) => first.contains("@") && rest.contains("@"),
+        None => false,
+    }
+}
+
+/// What separates several addresses of electronic mail in a cell that people have filled.
+fn mail_separator(cell: &str) -> &'static str {
+    for separator in [";", ",", "\n", " "] {
+        if separates_mails(cell, separator) {
+            return separator;
+        }
+    }
+    " ::: "
+}
+
 /// What separates several values in a cell of the property; empty if a cell has one value.
 fn separator_of(property: &str, cell: &str) -> &'static str {
     match property {
+        "EMAIL" if !cell.contains(" ::: ") => mail_separator(cell),
         "EMAIL" | "TEL" | "URL" | "RELATED" => " ::: ",
         "CATEGORIES" if cell.contains(" ::: ") => " ::: ",
         "CATEGORIES" => ";",
@@ -142,12 +161,17 @@ fn set_value(alloc: Global, line: &mut Line, text: &str, order: DateOrder) -> Re
     Ok(())
 }
 
+fn is_mail(line: &Line) -> bool {
+    line.name.as_str() == "EMAIL"
+}
+
 /// Appends the line, with this value, unless it is void.
 fn push_part(alloc: Global, made: &mut RowLines, model: &Line, part: &str) -> Result<(), NoMemory> {
     if is_void(part) {
         return Ok(());
     }
     let text = part.strip_prefix("* ").unwrap_or(part);
+    let text = if is_mail(model) { text.trim() } else { text };
     if !takes_text(model.name.as_str(), text) {
         return Ok(());
     }
@@ -164,11 +188,11 @@ fn push_parts(
     cell: &str,
 ) -> Result<(), NoMemory> {
     let property = model.name.as_str();
-    if !takes_text(property, cell) {
-        return Ok(());
-    }
     let separator = separator_of(property, cell);
     if separator.is_empty() {
+        if !takes_text(property, cell) {
+            return Ok(());
+        }
         let mut line = model.try_copy()?;
         set_value(alloc, &mut line, cell, made.dates)?;
         return made.push(alloc, line);
@@ -365,6 +389,38 @@ fn push_structured(
     push_slot(alloc, made, slot, cells, value.as_str())
 }
 
+/// The date whose year, month and day the cells have, or without a year; empty if the month or the
+/// day is void.
+fn parted_date(alloc: Global, slot: &Slot, cells: &[Text]) -> Result<String, NoMemory> {
+    let year = cell_at(cells, slot.place_of(Part::Year)).trim();
+    let month = cell_at(cells, slot.place_of(Part::Month)).trim();
+    let day = cell_at(cells, slot.place_of(Part::Day)).trim();
+    if is_void(month) || is_void(day) {
+        return Ok(String::new(alloc));
+    }
+    if is_void(year) {
+        return Ok(format!(in alloc; "--{month}-{day}")?);
+    }
+    Ok(format!(in alloc; "{year}-{month}-{day}")?)
+}
+
+/// Appends the line of a date whose parts are in several columns. What is no date is kept aside.
+fn push_parted(
+    alloc: Global,
+    made: &mut RowLines,
+    slot: &Slot,
+    cells: &[Text],
+) -> Result<(), NoMemory> {
+    let text = parted_date(alloc, slot, cells)?;
+    if basic_date(alloc, text.as_str(), made.dates)?.is_none() {
+        return Ok(());
+    }
+    for column in &slot.columns {
+        made.set_home(Some(column.place));
+    }
+    push_slot(alloc, made, slot, cells, text.as_str())
+}
+
 /// Appends the lines of the slot, if the row has its value.
 pub(crate) fn push_lines(
     alloc: Global,
@@ -378,7 +434,7 @@ pub(crate) fn push_lines(
     let place = slot.place_of(Part::Value);
     let value = cell_at(cells, place);
     if is_void(value) {
-        return Ok(());
+        return push_parted(alloc, made, slot, cells);
     }
     made.set_home(place);
     push_slot(alloc, made, slot, cells, value)

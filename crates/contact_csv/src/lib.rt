@@ -17,6 +17,7 @@ mod row_lines;
 mod rows;
 mod uid;
 mod values;
+mod whole_names;
 
 pub use contact_columns::{
     AboveLine, Column, ContactColumns, DateOrder, Header, find_header, read_columns,

@@ -119,13 +119,22 @@ fn cell_uid(alloc: Global, column: &Column, text: &str) -> Result<String, NoMemo
     derived_uid(alloc, cell.as_slice())
 }
 
+/// The columns of the programs whose identifiers no other file has, also if they are numbers.
+const UNIQUE_NAMES: [&str; 3] = ["Object Id", "ObjectId", "Record ID"];
+
+/// Whether a cell tells its row apart from the rows of all other files. A running number doesn't.
+fn tells_apart(name: &str, text: &str) -> bool {
+    let is_unique = UNIQUE_NAMES.iter().any(|it| it.eq_ignore_ascii_case(name));
+    is_unique || (text.len() >= 8 && text.chars().any(|c| c.is_ascii_alphabetic()))
+}
+
 /// The UID that a cell gives which tells the row apart. None in another column, and if it has no
-/// value.
+/// value or doesn't tell the row apart from those of other files.
 fn identifier_uid(alloc: Global, column: &Column, text: &str) -> Result<Option<String>, NoMemory>
     ensures { IfOk result (λ own. IfSome own
         (λ uid. IsOwnUid column.now text.now (string_bytes uid))) }
 {
-    if is_void(text) {
+    if is_void(text) || !tells_apart(column.name.as_str(), text) {
         return Ok(None);
     }
     if is_id_column(column) {

@@ -60,9 +60,18 @@ fn is_scheme_char(c: char) -> bool {
 fn is_uri(text: &str) -> bool {
     match text.split_once(':') {
         Some((scheme, rest)) => {
-            let is_scheme = !scheme.is_empty() && scheme.chars().all(is_scheme_char);
+            // One letter is the drive of a path in Windows.
+            let is_scheme = scheme.len() > 1 && scheme.chars().all(is_scheme_char);
             is_scheme && !rest.is_empty() && !rest.contains(" ")
         }
+        None => false,
+    }
+}
+
+/// Whether the text has one `@`, as an address of electronic mail has.
+fn is_mail_address(text: &str) -> bool {
+    match text.split_once('@') {
+        Some((_, domain)) => !domain.contains("@"),
         None => false,
     }
 }
@@ -71,8 +80,9 @@ fn is_uri(text: &str) -> bool {
 pub(crate) fn takes_text(property: &str, text: &str) -> bool {
     match property {
         "LANG" => is_language_tag(text),
-        "IMPP" => is_uri(text),
-        "EMAIL" => !is_exchange_address(text),
+        "IMPP" | "PHOTO" | "FBURL" => is_uri(text),
+        "EMAIL" => is_mail_address(text) && !is_exchange_address(text),
+        "TEL" => text.chars().any(|c| c.is_numeric()),
         _ => true,
     }
 }

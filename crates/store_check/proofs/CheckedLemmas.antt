@@ -60,7 +60,7 @@ module _ (limits : Bounds) (rows : TableRows) (well : AreWellFormed limits rows)
   checked_book b there =
       let got = give_book rows b well.sound there in
       let is = book_is b there in
-      let horizon = (all_has IsReadableBook rows.books b well.readable.books there).numbers.horizon in
+      let horizon = (all_has IsReadableBook rows.books b well.sound.readable.books there).numbers.horizon in
       record {
         legal = well.books.legal_names b.name (row_book rows b) got;
         numbered = record {

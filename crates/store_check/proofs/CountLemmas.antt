@@ -63,4 +63,4 @@ pub counts_held : (limits : Bounds) (db : Database) (books members imports keeps
 counts_held limits db books members imports keeps counts holds w counted =
     let rows = decode_rows books members imports keeps in
     let sound = w.well_formed.sound in
-    subst (λ bs. AreTombstoneCounts bs counts) (sym (books_held db rows holds sound)) (counts_of_rows rows sound w.well_formed.readable counts counted)
+    subst (λ bs. AreTombstoneCounts bs counts) (sym (books_held db rows holds sound)) (counts_of_rows rows sound w.well_formed.sound.readable counts counted)

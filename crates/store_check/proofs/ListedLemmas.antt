@@ -15,6 +15,7 @@ use Rattle.store_tables.specs.Imports.{ImportRow, import_row, import_cells}
 use Rattle.store_tables.specs.Keeps.{KeepRow, keep_row, keep_cells, keep_listed}
 use Rattle.store_tables.specs.Members.{MemberRow, member_row, member_cells}
 use Rattle.store_tables.specs.Meta.{meta_listed, schema_row, schema_number}
+use Rattle.store_tables.specs.Tables.{ObeyTables}
 use Rattle.store_rows.specs.OpenLaws.{ListsRows, keep_pair}
 use Rattle.store_rows.specs.SoundTables.{AreReadable, HoldsWellFormed, IsReadableBook, IsReadableMember, IsReadableImport, IsReadableKeep}
 use Rattle.store_rows.specs.TableRows.{TableRows, HoldsRows, load_member, load_import}
@@ -204,13 +205,13 @@ module _ (limits : Bounds) (db : Database) (books members imports keeps : List R
   }
 
   -- the tables hold the rows
-  pub rows_are_held : AreWellStored limits books members imports keeps → HoldsRows db (decode_rows books members imports keeps)
-  rows_are_held w = listed_held db (decode_rows books members imports keeps) ours.schema (lists w.shown)
+  pub rows_are_held : ObeyTables db.trees → AreWellStored limits books members imports keeps → HoldsRows db (decode_rows books members imports keeps)
+  rows_are_held obeys w = listed_held db (decode_rows books members imports keeps) ours.schema obeys (lists w.shown)
 
-  held_of_stored : AreWellStored limits books members imports keeps → HoldsWellFormed limits db
-  held_of_stored w = record {
+  held_of_stored : ObeyTables db.trees → AreWellStored limits books members imports keeps → HoldsWellFormed limits db
+  held_of_stored obeys w = record {
     rows = decode_rows books members imports keeps;
-    holds = rows_are_held w;
+    holds = rows_are_held obeys w;
     well_formed = w.well_formed;
   }
 
@@ -233,10 +234,12 @@ module _ (limits : Bounds) (db : Database) (books members imports keeps : List R
 
   stored_of_held : HoldsWellFormed limits db → AreWellStored limits books members imports keeps
   stored_of_held h = record {
-    shown = shown_of_held h.rows h.holds h.well_formed.readable;
-    well_formed = well_formed_moved h.rows (decode_rows books members imports keeps) (same_rows h.rows h.holds h.well_formed.readable) limits h.well_formed;
+    shown = shown_of_held h.rows h.holds h.well_formed.sound.readable;
+    well_formed = well_formed_moved h.rows (decode_rows books members imports keeps) (same_rows h.rows h.holds h.well_formed.sound.readable) limits h.well_formed;
   }
 
 pub well_stored_held : WellStoredAreHeld
-well_stored_held limits db books members imports keeps ours listed =
-    (held_of_stored limits db books members imports keeps ours listed, stored_of_held limits db books members imports keeps ours listed)
+well_stored_held limits db books members imports keeps ours listed = (
+  λ both. held_of_stored limits db books members imports keeps ours listed both.0 both.1,
+  λ held. (held.holds.obeys, stored_of_held limits db books members imports keeps ours listed held),
+)

@@ -1,5 +1,5 @@
 -- The result of opening stored tables.
-use Rattle.std.proofs.Common.{◌≡◌, inl, inr, IsTrue, List, map, Err, IsPermutation, sym, ap, subst, ◌∙◌}
+use Rattle.std.proofs.Common.{◌≡◌, inl, inr, IsTrue, List, map, OnOk, Ok, Err, Result, IsPermutation, sym, ap, subst, ◌∙◌}
 use Rattle.sqlite.specs.Effect.{Database}
 use Rattle.sqlite.specs.Order.{Row}
 use Rattle.sqlite.specs.State.{State, HasCleanDisk, IsUnchanged}
@@ -52,6 +52,11 @@ unchanged_then a b c first next left clean has =
       record { changes = after.1.changes ∙ before.1.changes; last_rowid = after.1.last_rowid ∙ before.1.last_rowid },
       after.2 ∙ before.2,
     )
+
+-- a read that follows one that changed nothing: the connection was open
+pub answered_open : {A E : Type 0} (a b c : State) (r : Result A E) → (HasCleanDisk b → IsUnchanged a b) → OnlyReads b c → HasCleanDisk c → OnOk r (IsTrue a.is_open)
+answered_open a b c (Ok x) first left clean = (first (clean_before _ b c left.survives clean)).0.was_open
+answered_open a b c (Err e) first left clean = tt
 
 -- a property of the database after such a read holds of it before
 pub over_then : (a b c : State) (P : Database → Type 0) → GivenTables a b (IsUnchanged a b) → OnlyReads b c → GivenTables b c (P b.now) → GivenTables a c (P a.now)

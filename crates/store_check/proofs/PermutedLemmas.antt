@@ -2,8 +2,7 @@
 use Rattle.std.proofs.Common.{◌≡◌, ℤ, false, ◌&&◌, List, int_eq, IsPermutation, sym, ap₂, subst, ◌∙◌}
 use Rattle.std.specs.List.{AllByRecursion}
 use Rattle.std.proofs.lemmas.List.Sorted.{list_any-IsPermutation}
-use Rattle.sqlite_trees.specs.Tree.{IsAscending}
-use Rattle.sqlite_trees.proofs.ListLemmas.{along_permutation, all-permutation, all_weaker}
+use Rattle.sqlite_trees.proofs.ListLemmas.{all-permutation, all_weaker}
 use Rattle.book_model.specs.Bounds.{Bounds}
 use Rattle.book_model.specs.WellFormed.{IsWellFormed}
 use Rattle.store_tables.specs.Books.{BookRow, has_id, has_name}
@@ -12,27 +11,10 @@ use Rattle.store_tables.specs.Keeps.{KeepRow}
 use Rattle.store_tables.specs.Members.{MemberRow, has_uid}
 use Rattle.store_rows.specs.SoundTables.{AreSoundRows, AreReadable, AreWellFormed, HasBookId, IsReadableBook, IsReadableMember, IsReadableImport, IsReadableKeep}
 use Rattle.store_rows.specs.TableRows.{TableRows}
+use Rattle.store_rows.proofs.ApartLemmas.{apart_moved}
 use Rattle.store_rows.proofs.HeldRows.{same_books}
 use Rattle.store_rows.proofs.KeyedEntries.{text_turned}
 use Rattle.store_rows.proofs.RowLemmas.{AreSame, int_turned}
-
--- ---- lists
-
--- a symmetric property of each two items holds in each order
-module _ {X : Type 0} (R : X → X → Type 0) (turned : (a b : X) → R a b → R b a) where
-  record Moves (xs ys : List X) : Type 0 where
-    away : (x : X) → AllByRecursion (R x) xs → AllByRecursion (R x) ys
-    apart : IsAscending R xs → IsAscending R ys
-
-  moves : (xs ys : List X) → IsPermutation xs ys → Moves xs ys
-  moves = along_permutation Moves
-      (λ xs. record { away = λ x h. h; apart = λ h. h })
-      (λ x xs ys m. record { away = λ z h. (h.0, m.away z h.1); apart = λ h. (m.away x h.0, m.apart h.1) })
-      (λ x y xs. record { away = λ z h. (h.1.0, (h.0, h.1.1)); apart = λ h. ((turned x y h.0.0, h.1.0), (h.0.1, h.1.1)) })
-      (λ xs ys zs m n. record { away = λ x h. n.away x (m.away x h); apart = λ h. n.apart (m.apart h) })
-
-  pub apart_moved : (xs ys : List X) → IsPermutation xs ys → IsAscending R xs → IsAscending R ys
-  apart_moved xs ys h = (moves xs ys h).apart
 
 -- ---- sound rows
 
@@ -64,6 +46,14 @@ module _ (a b : TableRows) (same : AreSame a b) where
   still_listed : (id : ℤ) → HasBookId a.books id → HasBookId b.books id
   still_listed id h = sym (list_any-IsPermutation (has_id id) a.books b.books same.books) ∙ h
 
+  readable_moved : AreReadable a → AreReadable b
+  readable_moved h = record {
+    books = all-permutation IsReadableBook a.books b.books same.books h.books;
+    members = all-permutation IsReadableMember a.members b.members same.members h.members;
+    imports = all-permutation IsReadableImport a.imports b.imports same.imports h.imports;
+    keeps = all-permutation IsReadableKeep a.keeps b.keeps same.keeps h.keeps;
+  }
+
   pub sound_moved : AreSoundRows a → AreSoundRows b
   sound_moved sound = record {
     books = apart_moved BooksApart books_turned a.books b.books same.books sound.books;
@@ -76,19 +66,11 @@ module _ (a b : TableRows) (same : AreSame a b) where
         (all_weaker (λ (i : ImportRow). HasBookId a.books i.book) (λ (i : ImportRow). HasBookId b.books i.book) (λ i h. still_listed i.book h) a.imports sound.listed_imports);
     listed_keeps = all-permutation (λ (k : KeepRow). HasBookId b.books k.book) a.keeps b.keeps same.keeps
         (all_weaker (λ (k : KeepRow). HasBookId a.books k.book) (λ (k : KeepRow). HasBookId b.books k.book) (λ k h. still_listed k.book h) a.keeps sound.listed_keeps);
-  }
-
-  readable_moved : AreReadable a → AreReadable b
-  readable_moved h = record {
-    books = all-permutation IsReadableBook a.books b.books same.books h.books;
-    members = all-permutation IsReadableMember a.members b.members same.members h.members;
-    imports = all-permutation IsReadableImport a.imports b.imports same.imports h.imports;
-    keeps = all-permutation IsReadableKeep a.keeps b.keeps same.keeps h.keeps;
+    readable = readable_moved sound.readable;
   }
 
   pub well_formed_moved : (limits : Bounds) → AreWellFormed limits a → AreWellFormed limits b
   well_formed_moved limits w = record {
     sound = sound_moved w.sound;
-    readable = readable_moved w.readable;
     books = subst (IsWellFormed limits) (same_books a b w.sound same) w.books;
   }

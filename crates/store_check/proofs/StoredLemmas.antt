@@ -78,8 +78,16 @@ module _ (limits : Bounds) (books members imports keeps : List Row) where
   rows = decode_rows books members imports keeps
 
   pub well_stored : AreTableRows books members imports keeps → HaveUniqueKeys rows → AreValidRows limits rows → AreWellStored limits books members imports keeps
-  well_stored shown keys good = record { shown = shown; well_formed = rows_well limits rows sound readable checked }
+  well_stored shown keys good = record { shown = shown; well_formed = rows_well limits rows sound checked }
     where
+      readable : AreReadable rows
+      readable = record {
+        books = all-map IsReadableBook decode_book books (all_weaker _ (λ r. IsReadableBook (decode_book r)) book_is_readable books shown.each_book);
+        members = all_weaker _ IsReadableMember (λ m h. of_row rows.books m.book (IsValidMember m) (IsReadableMember m) (λ b g. g.readable) h) rows.members good.members;
+        imports = all-map IsReadableImport load_import imports (all_weaker _ (λ r. IsReadableImport (load_import r)) import_is_readable imports shown.each_import);
+        keeps = all-map IsReadableKeep decode_keep keeps (all_weaker _ (λ r. IsReadableKeep (decode_keep r)) (λ r h. natural_is_readable 1 r h.keep) keeps shown.each_keep);
+      }
+
       sound : AreSoundRows rows
       sound = record {
         books = keys.books;
@@ -89,14 +97,7 @@ module _ (limits : Bounds) (books members imports keeps : List Row) where
         listed_members = all_weaker _ (λ (m : MemberRow). HasBookId rows.books m.book) (λ m h. is_keep_listed rows.books m.book (IsValidMember m) h) rows.members good.members;
         listed_imports = all_weaker _ (λ (i : ImportRow). HasBookId rows.books i.book) (λ i h. is_keep_listed rows.books i.book (IsCheckedImport i) h) rows.imports good.imports;
         listed_keeps = good.keeps;
-      }
-
-      readable : AreReadable rows
-      readable = record {
-        books = all-map IsReadableBook decode_book books (all_weaker _ (λ r. IsReadableBook (decode_book r)) book_is_readable books shown.each_book);
-        members = all_weaker _ IsReadableMember (λ m h. of_row rows.books m.book (IsValidMember m) (IsReadableMember m) (λ b g. g.readable) h) rows.members good.members;
-        imports = all-map IsReadableImport load_import imports (all_weaker _ (λ r. IsReadableImport (load_import r)) import_is_readable imports shown.each_import);
-        keeps = all-map IsReadableKeep decode_keep keeps (all_weaker _ (λ r. IsReadableKeep (decode_keep r)) (λ r h. natural_is_readable 1 r h.keep) keeps shown.each_keep);
+        readable = readable;
       }
 
       checked : PassRowChecks limits rows
@@ -126,7 +127,7 @@ module _ (limits : Bounds) (books members imports keeps : List Row) where
         books = c.books;
         members = all_both (λ (m : MemberRow). HasBookId rows.books m.book × IsReadableMember m) (λ (m : MemberRow). IfBook rows.books m.book (IsCheckedMember m)) (λ (m : MemberRow). IsBookAnd rows.books m.book (IsValidMember m))
             (λ m h k. give_book rows.books m.book (IsCheckedMember m) (IsValidMember m) (λ b g. record { readable = h.1; checked = g }) h.0 k) rows.members
-            (all_both (λ (m : MemberRow). HasBookId rows.books m.book) IsReadableMember (λ (m : MemberRow). HasBookId rows.books m.book × IsReadableMember m) (λ m h k. (h, k)) rows.members listed.listed_members w.well_formed.readable.members) c.members;
+            (all_both (λ (m : MemberRow). HasBookId rows.books m.book) IsReadableMember (λ (m : MemberRow). HasBookId rows.books m.book × IsReadableMember m) (λ m h k. (h, k)) rows.members listed.listed_members w.well_formed.sound.readable.members) c.members;
         imports = all_both (λ (i : ImportRow). HasBookId rows.books i.book) (λ (i : ImportRow). IfBook rows.books i.book (IsCheckedImport i)) (λ (i : ImportRow). IsBookAnd rows.books i.book (IsCheckedImport i))
             (λ i h k. give_book rows.books i.book (IsCheckedImport i) (IsCheckedImport i) (λ b g. g) h k) rows.imports listed.listed_imports c.imports;
         keeps = listed.listed_keeps;

@@ -6,7 +6,7 @@ use Rattle.sqlite.specs.Effect.{Database}
 use Rattle.sqlite.specs.Order.{Row}
 use Rattle.sqlite_trees.proofs.ListLemmas.{all-map, all_both, all_from_map, all_weaker}
 use Rattle.book_model.specs.Bounds.{Bounds}
-use Rattle.store_tables.specs.Acceptance.{ObeyTables}
+use Rattle.store_tables.specs.Tables.{ObeyTables}
 use Rattle.store_tables.specs.Members.{MemberRow, member_cells}
 use Rattle.store_rows.specs.SoundTables.{HoldsWellFormed}
 use Rattle.store_rows.specs.TableBooks.{books_in}
@@ -89,7 +89,7 @@ module _ (limits : Bounds) (db : Database) (books imports keeps : List Row) (our
   with_members rows all = record { all_books = listed.all_books; all_members = all; all_imports = listed.all_imports; all_keeps = listed.all_keeps }
 
   all_tests : (rows : List Row) → IsPermutation (map member_cells (db.trees 4)) rows → HoldsWellFormed limits db → PassAllTests limits books rows imports keeps
-  all_tests rows all held = stored_tests limits books rows imports keeps ((well_stored_held limits db books rows imports keeps ours (with_members rows all)).1 held)
+  all_tests rows all held = stored_tests limits books rows imports keeps ((well_stored_held limits db books rows imports keeps ours (with_members rows all)).1 held).1
 
   -- the rows of books, imports and keeps of well-formed books pass their tests
   pub own_of_held : HoldsWellFormed limits db → PassBookTests limits books imports keeps
@@ -114,7 +114,7 @@ module _ (limits : Bounds) (db : Database) (books imports keeps : List Row) (our
     stored_rows : (tallies : Vec BookTally Global) (t : TestedMembers (db.trees 4) limits books keeps (Ok tallies)) → AreWellStored limits books t.rows imports keeps
     stored_rows tallies t =
         let passed = t.passed.0 in
-        let keys = keys_hold db.trees obeys t.rows t.all t.passed.1.rising (all_weaker (IsGoodMember (map decode_book books)) IsMemberRow (λ r h. h.0) t.rows passed.good) in
+        let keys = keys_hold db.trees obeys.obeys t.rows t.all t.passed.1.rising (all_weaker (IsGoodMember (map decode_book books)) IsMemberRow (λ r h. h.0) t.rows passed.good) in
         tests_stored limits books t.rows imports keeps (record { own = own; keys = keys; passed = passed })
 
     -- the counts were listed from the tallies
@@ -126,8 +126,8 @@ module _ (limits : Bounds) (db : Database) (books imports keeps : List Row) (our
     tests_pass tallies counts t listing =
         let stored = stored_rows tallies t in
         let all = with_members t.rows t.all in
-        let holds = rows_are_held limits db books t.rows imports keeps ours all stored in
-        ((well_stored_held limits db books t.rows imports keeps ours all).0 stored, counts_held limits db books t.rows imports keeps counts holds stored (listing (map load_member t.rows) t.passed.1.counted))
+        let holds = rows_are_held limits db books t.rows imports keeps ours all obeys stored in
+        ((well_stored_held limits db books t.rows imports keeps ours all).0 (obeys, stored), counts_held limits db books t.rows imports keeps counts holds stored (listing (map load_member t.rows) t.passed.1.counted))
 
 -- ---- a faulty row
 

@@ -19,7 +19,7 @@ use Rattle.store_tables.specs.Books.{BookRow}
 use Rattle.store_tables.specs.Imports.{ImportRow}
 use Rattle.store_tables.specs.Members.{MemberRow, is_removed_above}
 use Rattle.store_tables.proofs.KeyedRows.{all_has, int_itself}
-use Rattle.store_rows.specs.SoundTables.{AreSoundRows, AreReadable, AreWellFormed, IsReadableBook, IsReadableMember}
+use Rattle.store_rows.specs.SoundTables.{AreSoundRows, AreWellFormed, IsReadableBook, IsReadableMember}
 use Rattle.store_rows.specs.TableBooks.{model_row, row_counts, keep_of_book, members_in, imports_in, row_book, books_of}
 use Rattle.store_rows.specs.TableRows.{TableRows}
 use Rattle.store_rows.specs.Values.{IsNatural, natural, text_card}
@@ -58,7 +58,7 @@ member_well rows b uid m is c = record {
 of_book : (rows : TableRows) (b : BookRow) (id : ℤ) (P : BookRow → Type 0) → AreSoundRows rows → Has rows.books b → id ≡ b.id → IfBook rows.books id P → P b
 of_book rows b id P sound there is h = subst (λ o. IfSome o P) (found_by_id rows b id sound there is) h
 
-module _ (limits : Bounds) (rows : TableRows) (sound : AreSoundRows rows) (readable : AreReadable rows) (c : PassRowChecks limits rows) where
+module _ (limits : Bounds) (rows : TableRows) (sound : AreSoundRows rows) (c : PassRowChecks limits rows) where
   checked_member : (b : BookRow) (m : MemberRow) → Has rows.books b → Has rows.members m → m.book ≡ b.id → IsCheckedMember m b
   checked_member b m there has is =
       of_book rows b m.book (IsCheckedMember m) sound there is (all_has (λ (n : MemberRow). IfBook rows.books n.book (IsCheckedMember n)) rows.members m c.members has)
@@ -71,14 +71,14 @@ module _ (limits : Bounds) (rows : TableRows) (sound : AreSoundRows rows) (reada
   checked_book b there = all_has (IsCheckedBook limits (length rows.books) rows.members rows.keeps) rows.books b c.books there
 
   readable_book : (b : BookRow) → Has rows.books b → IsReadableBook b
-  readable_book b there = all_has IsReadableBook rows.books b readable.books there
+  readable_book b there = all_has IsReadableBook rows.books b sound.readable.books there
 
   -- two members of a book that the same change wrote are equal
   one_member : (b : BookRow) (m n : MemberRow) → Has rows.members m → Has rows.members n → m.book ≡ b.id → n.book ≡ b.id → natural m.changed ≡ natural n.changed → m ≡ n
   one_member b m n has also is too e = go (alike_or_apart (λ (x y : MemberRow). is_written_by x.book x.changed y ≡ false) rows.members m n c.apart has also)
     where
       same : m.changed ≡ n.changed
-      same = same_natural m.changed n.changed (all_has IsReadableMember rows.members m readable.members has).changed (all_has IsReadableMember rows.members n readable.members also).changed e
+      same = same_natural m.changed n.changed (all_has IsReadableMember rows.members m sound.readable.members has).changed (all_has IsReadableMember rows.members n sound.readable.members also).changed e
 
       written : (x y : MemberRow) → y.book ≡ x.book → y.changed ≡ x.changed → is_written_by x.book x.changed y ≡ true
       written x y p q = ap₂ (λ s t. s && t) (ap (λ k. int_eq k x.book) p ∙ int_itself x.book) (ap (λ k. int_eq k x.changed) q ∙ int_itself x.changed)
@@ -145,4 +145,4 @@ module _ (limits : Bounds) (rows : TableRows) (sound : AreSoundRows rows) (reada
   }
 
   pub rows_well : AreWellFormed limits rows
-  rows_well = record { sound = sound; readable = readable; books = books_well }
+  rows_well = record { sound = sound; books = books_well }

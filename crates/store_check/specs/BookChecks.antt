@@ -13,7 +13,7 @@ use Rattle.store_tables.specs.Books.{BookRow, has_id}
 use Rattle.store_tables.specs.Imports.{ImportRow}
 use Rattle.store_tables.specs.Keeps.{KeepRow}
 use Rattle.store_tables.specs.Members.{MemberRow, is_in_book, is_removed_above}
-use Rattle.store_rows.specs.SoundTables.{AreSoundRows, AreReadable, AreWellFormed}
+use Rattle.store_rows.specs.SoundTables.{AreSoundRows, AreWellFormed}
 use Rattle.store_rows.specs.TableBooks.{row_counts, keep_of_book}
 use Rattle.store_rows.specs.TableRows.{TableRows}
 use Rattle.store_rows.specs.Values.{natural, text_card}
@@ -95,7 +95,7 @@ pub record PassRowChecks (limits : Bounds) (rows : TableRows) : Type 0 where
   pub apart : HaveDistinctChanges rows.members
   pub imports : AllByRecursion (λ i. IfBook rows.books i.book (IsCheckedImport i)) rows.imports
 
--- Sound, readable rows represent well-formed books exactly if they pass these tests.
+-- Sound rows represent well-formed books exactly if they pass these tests.
 abbrev pub CheckedAreWellFormed : Type 0
-CheckedAreWellFormed = (limits : Bounds) (rows : TableRows) → AreSoundRows rows → AreReadable rows →
+CheckedAreWellFormed = (limits : Bounds) (rows : TableRows) → AreSoundRows rows →
     PassRowChecks limits rows ↔ AreWellFormed limits rows

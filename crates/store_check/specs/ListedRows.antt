@@ -8,6 +8,7 @@ use Rattle.store_tables.specs.Books.{book_listed}
 use Rattle.store_tables.specs.Imports.{import_cells}
 use Rattle.store_tables.specs.Keeps.{keep_listed}
 use Rattle.store_tables.specs.Members.{member_cells}
+use Rattle.store_tables.specs.Tables.{ObeyTables}
 use Rattle.store_rows.specs.SoundTables.{HoldsWellFormed}
 use Rattle.store_schema.specs.StoredSchema.{IsCurrentSchema}
 use Rattle.store_check.specs.RowChecks.{AreWellStored}
@@ -25,9 +26,10 @@ pub record AreBookRows (db : Database) (books imports keeps : List Row) : Type 0
   pub all_imports : IsPermutation (map import_cells (db.trees 7)) imports
   pub all_keeps : IsPermutation (map keep_listed (db.trees 9)) keeps
 
--- In tables of this schema, the listed rows are well stored exactly if the tables hold well-formed
--- books.
+-- Tables of this schema hold well-formed books exactly if they obey it, as those of an open
+-- connection do, and the listed rows are well stored.
 abbrev pub WellStoredAreHeld : Type 0
 WellStoredAreHeld = (limits : Bounds) (db : Database) (books members imports keeps : List Row) →
     IsCurrentSchema db → AreListedRows db books members imports keeps →
-    AreWellStored limits books members imports keeps ↔ HoldsWellFormed limits db
+    (ObeyTables db.trees × AreWellStored limits books members imports keeps)
+    ↔ HoldsWellFormed limits db

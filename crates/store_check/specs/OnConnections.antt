@@ -4,9 +4,8 @@ use Rattle.std.specs.declared.alloc.Global.{Global}
 use Rattle.sqlite.specs.Held.{Held, state}
 use Rattle.sqlite.specs.Order.{Row}
 use Rattle.book_model.specs.Bounds.{Bounds}
-use Rattle.store_tables.specs.Acceptance.{ObeyTables}
 use Rattle.store_tables.specs.OnConnections.{Ghosts}
-use Rattle.store_tables.specs.Tables.{book_schema}
+use Rattle.store_tables.specs.Tables.{ObeyTables, book_schema}
 use Rattle.store_schema.specs.declared.open_fault.OpenFault.{OpenFault}
 use Rattle.store_check.specs.declared.counts.TombstoneCount.{TombstoneCount}
 use Rattle.store_check.specs.declared.tallies.BookTally.{BookTally}

@@ -3,14 +3,14 @@ ghost use Rattle.store_check.specs.BookChecks.{CheckedAreWellFormed};
 ghost use Rattle.store_check.specs.FaultSearches.{FaultyAreNotStored};
 ghost use Rattle.store_check.specs.ListedRows.{WellStoredAreHeld};
 
-/// Sound, readable rows represent well-formed books exactly if they pass the tests made row by row
+/// Sound rows represent well-formed books exactly if they pass the tests made row by row
 /// (`specs/BookChecks.antt`).
 pub fn checked_rows_are_well_formed()
     ensures { CheckedAreWellFormed }
 {}
 
-/// In tables of this schema, the listed rows, in any order, are well stored exactly if the tables
-/// hold well-formed books (`specs/ListedRows.antt`).
+/// Tables of this schema hold well-formed books exactly if they obey it and the listed rows, in any
+/// order, are well stored (`specs/ListedRows.antt`).
 pub fn well_stored_rows_are_held()
     ensures { WellStoredAreHeld }
 {}

@@ -8,7 +8,7 @@ ghost use Rattle.store_schema.specs.OpenFaults.{IsErrorFault};
 ghost use Rattle.store_schema.specs.OnConnections.{ChangesNothing, IsCurrentSchema};
 ghost use Rattle.store_tables.specs.OnConnections.{GivenTables, HasCleanDisk, IsConnectionOpen};
 ghost use Rattle.store_tables.specs.OnConnections.{OnlyReads, UnchangedOnOk};
-ghost use Rattle.std.specs.Prelude.{IfErr, IfOk};
+ghost use Rattle.std.specs.Prelude.{IfErr, IfOk, OnOk};
 
 use crate::books::first_faulty_book;
 use crate::counts::{TombstoneCount, list_counts};
@@ -187,6 +187,8 @@ fn check_schema_and_rows<S: Alter>(
     limits: Limits,
 ) -> Result<Result<Vec<TombstoneCount>, FaultyRow>, OpenFault>
     ensures answers { HasCleanDisk S.Store conn.new → IsTestResult S.Store conn.old limits result }
+    ensures was_open { HasCleanDisk S.Store conn.new
+        → OnOk result (IsConnectionOpen S.Store conn.old) }
     ensures changes_nothing { ChangesNothing S.Store conn.old conn.new }
 {
     check_schema(conn)?;
@@ -225,6 +227,8 @@ pub fn count_tombstones<S: Alter>(
 ) -> Result<Vec<TombstoneCount>, OpenFault>
     ensures answers { HasCleanDisk S.Store conn.new
         → IsCountedResult S.Store conn.old limits result }
+    ensures was_open { HasCleanDisk S.Store conn.new
+        → OnOk result (IsConnectionOpen S.Store conn.old) }
 
     // Nothing is changed or committed, also on an error.
     ensures changes_nothing { ChangesNothing S.Store conn.old conn.new }

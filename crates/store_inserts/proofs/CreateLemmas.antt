@@ -45,8 +45,8 @@ module _ (old mid new : State) (rows : TableRows) (name : List ℕ) (id keep : �
       → HoldsInTx new (λ db. HoldsBooks db (finite.insert (books_of rows) name (fresh_book id keep)))
   rows_created line book first kept second =
       let with_it = new_book_rows (pos id) name rows in
-      let one = book_added old.now mid.now rows (pos id) name line.holds line.sound line.free.none book (writes_table 2 old mid first) in
-      let two = keep_added mid.now new.now with_it (new_book (pos id) name) (pos keep) one.holds one.sound (inl refl) kept (writes_table 9 mid new second) in
+      let one = book_added old.now mid.now rows (pos id) name line.holds line.sound refl line.free.none book (writes_table 2 old mid first) in
+      let two = keep_added mid.now new.now with_it (new_book (pos id) name) (pos keep) one.holds one.sound (inl refl) refl kept (writes_table 9 mid new second) in
       record {
         holds = record {
           sound = record { rows = keep_rows (pos id) (pos keep) with_it; holds = two.holds; sound = two.sound };

@@ -20,7 +20,7 @@ use Rattle.store_rows.specs.ChangeLaws.{IsCardTextOf, WritesWithin, header_after
 use Rattle.store_rows.specs.TableBooks.{HeaderRow, row_book, books_of, line_row, numbers_row, row_tally}
 use Rattle.store_rows.specs.TableRows.{TableRows, HoldsRows, put_rows, import_rows, renumbered_rows}
 use Rattle.store_rows.proofs.AddedLemmas.{import_added, import_kept}
-use Rattle.store_rows.proofs.BookLemmas.{changes_one, renumbering_held}
+use Rattle.store_rows.proofs.BookLemmas.{changes_one, naturals_row, renumbering_held}
 use Rattle.store_rows.proofs.HeldRows.{books_held}
 use Rattle.store_rows.proofs.RowLemmas.{get-imports_in}
 use Rattle.store_rows.proofs.WriteLemmas.{go_on, no_write, put_held, put_is_row}
@@ -52,7 +52,7 @@ module _ (old new : State) (rows : TableRows) (name : List ℕ) (header : Header
   put_wrote is put writes =
       let same = ap pos wrote.same_id in
       let there = row_remains rows wrote.now name wrote.line wrote.within.books wrote.there in
-      let one = put_held old.now new.now wrote.now (line_row name wrote.line) uid (pos (header.number + 1)) text wrote.holds wrote.within.sound there
+      let one = put_held old.now new.now wrote.now (line_row name wrote.line) uid (pos (header.number + 1)) text wrote.holds wrote.within.sound there refl is.canonical
       (subst (λ z. PutsRow new.now.trees z uid (pos (header.number + 1)) text wrote.now.members) (sym same) put) (writes_table 4 old new writes) in
       let made = λ (z : ℤ). put_rows one.id z uid (pos (header.number + 1)) text wrote.now in
       let holds : HoldsRows new.now (made (pos header.id)) = subst (λ z. HoldsRows new.now (made z)) same one.holds in
@@ -92,7 +92,7 @@ module _ (old new : State) (rows : TableRows) (name : List ℕ) (header : Header
       let same = ap pos wrote.same_id in
       let there = row_remains rows wrote.now name wrote.line wrote.within.books wrote.there in
       let row = import_tally_row kept.0 header.id key tally in
-      let one = import_added old.now new.now wrote.now (line_row name wrote.line) row wrote.holds wrote.within.sound there (sym same) (key_free wrote.now name header book key wrote.is free) kept.1 (writes_table 7 old new writes) in
+      let one = import_added old.now new.now wrote.now (line_row name wrote.line) row wrote.holds wrote.within.sound there (sym same) (record { added = refl; edited = refl; same = refl; number = refl }) (key_free wrote.now name header book key wrote.is free) kept.1 (writes_table 7 old new writes) in
       record {
         holds = record {
           line = wrote.line;
@@ -123,7 +123,7 @@ module _ (old new : State) (rows : TableRows) (name : List ℕ) (header : Header
       → HoldsInTx new (λ db. HoldsBooks db (finite.insert (books_of rows) name book))
   line_wrote books writes =
       let numbers = numbers_row header.number header.horizon header.counts in
-      let two = renumbering_held old.now new.now wrote.now (pos header.id) numbers wrote.holds wrote.within.sound books (writes_table 2 old new writes) in
+      let two = renumbering_held old.now new.now wrote.now (pos header.id) numbers wrote.holds wrote.within.sound (naturals_row header.number header.horizon header.counts) books (writes_table 2 old new writes) in
       let one : books_of (renumbered_rows (pos header.id) numbers wrote.now) ≡ finite.insert (books_of rows) name (row_book wrote.now (line_row name header)) =
       subst (λ z. WritesWithin (pos z) rows wrote.now → books_of (renumbered_rows (pos z) numbers wrote.now) ≡ finite.insert (books_of rows) name (row_book wrote.now (line_row name (record header { id = z })))) wrote.same_id
       (λ within. changes_one rows wrote.now (line_row name wrote.line) numbers wrote.sound wrote.there within) wrote.within in

@@ -38,7 +38,6 @@ ghost use Rattle.store_tables.specs.OnConnections.{
   HasCleanDisk,
   HoldsInTx,
   KeepsCommit,
-  ObeyTables,
   PutsRow,
   Survives,
   SurvivesAsBefore,
@@ -87,8 +86,6 @@ fn put_planned<S: Alter>(
         (PutsRow S.Store tx.new.conn.now book uid.now changed (option_copied card.entry) ms)) }
     ensures writes { GivenMembersTx S.Store tx.old.conn.now tx.new.conn.now
         (λ _. OnOk result (WritesOnly S.Store tx.old.conn.now tx.new.conn.now 4)) }
-    ensures obeys { GivenMembersTx S.Store tx.old.conn.now tx.new.conn.now
-        (λ _. OnOk result (ObeyTables S.Store tx.new.conn.now)) }
     ensures takes_one_id { GivenMembersTx S.Store tx.old.conn.now tx.new.conn.now
         (λ _. (count : ℕ) → HasFreeIds (count + 1) (table_rows S.Store tx.old.conn.now 4)
         → OnOk result (HasFreeIds count (table_rows S.Store tx.new.conn.now 4))) }

@@ -8,7 +8,8 @@ use Rattle.sqlite_rules.specs.Lists.{Has}
 use Rattle.book_model.specs.declared.denied.Denied.{Denied}
 use Rattle.book_model.specs.declared.row.Row.{Row}
 use Rattle.book_model.specs.Books.{Book}
-use Rattle.store_tables.specs.Acceptance.{HasFreeIds, IsShort, ObeyTables}
+use Rattle.store_tables.specs.Acceptance.{HasFreeIds, IsShort}
+use Rattle.store_tables.specs.Tables.{ObeyTables}
 use Rattle.store_tables.specs.Keeps.{is_keep_of}
 use Rattle.store_rows.specs.SoundTables.{IsReadableKeep}
 use Rattle.store_rows.specs.TableBooks.{HeaderRow, line_row, row_book}

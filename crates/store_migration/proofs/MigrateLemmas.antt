@@ -20,6 +20,7 @@ use Rattle.store_migration.specs.InitialKeeps.{initial_keeps}
 pub migrated : (old new : Database) (keep_rows : List KeepRow) → IsPermutation (initial_keeps (rows_in old.trees)) keep_rows → AddsKeeps keep_rows old new → IsMigrated old new
 migrated old new keep_rows same h = record {
   schema = h.schema;
+  obeys = h.obeys;
   meta = h.meta;
   books = h.books;
   members = h.members;

@@ -81,14 +81,14 @@ module _ (db : Database) (books members imports : List Row) (listed : AreListedF
       returned = returned ∙ returned_of;
       same = same_keeps;
       count = ap length returned ∙ length-map books _ ∙ length_permutation _ _ listed.all_books ∙ length-map (db.trees 2) book_listed;
-      makes_well_formed = λ new made. (law limits new books members imports (initial_keep_rows books members) (record { schema = made.schema; meta = made.meta }) (listed_after new made)).0 well;
+      makes_well_formed = λ new made. (law limits new books members imports (initial_keep_rows books members) (record { schema = made.schema; meta = made.meta }) (listed_after new made)).0 (made.obeys, well);
     }
 
     pub due_of : (fault : OpenFault) → IsRowCheckResult limits books members imports (initial_keep_rows books members) (Err fault) → IsMigrationRefusal limits db fault
     due_of Store h = absurd h
     due_of NotOurs h = absurd h
     due_of (OtherSchema has) h = absurd h
-    due_of Damaged h = (first, λ new made held. h ((law limits new books members imports (initial_keep_rows books members) (record { schema = made.schema; meta = made.meta }) (listed_after new made)).1 held))
+    due_of Damaged h = (first, λ new made held. h ((law limits new books members imports (initial_keep_rows books members) (record { schema = made.schema; meta = made.meta }) (listed_after new made)).1 held).1)
     due_of NotEmpty h = absurd h
     due_of Memory h = tt
 

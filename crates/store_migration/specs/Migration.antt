@@ -13,7 +13,7 @@ use Rattle.sqlite_disk.specs.declared.Files.{Files}
 use Rattle.book_model.specs.Bounds.{Bounds}
 use Rattle.store_tables.specs.Keeps.{KeepRow, HoldKeeps}
 use Rattle.store_tables.specs.Meta.{schema_number}
-use Rattle.store_tables.specs.Tables.{book_schema}
+use Rattle.store_tables.specs.Tables.{ObeyTables, book_schema}
 use Rattle.store_rows.specs.SoundTables.{HoldsWellFormed}
 use Rattle.store_rows.specs.TableRows.{rows_in}
 use Rattle.store_check.specs.OpenResults.{max_limits}
@@ -32,6 +32,7 @@ use Rattle.store_schema.specs.declared.open_fault.OpenFault.TheVariants.{NotEmpt
 -- are unchanged.
 pub record AddsKeeps (keeps : List KeepRow) (old new : Database) : Type 0 where
   pub schema : new.schema ≡ book_schema
+  pub obeys : ObeyTables new.trees
   pub meta : HasSchemaNumber schema_number new
   pub books : new.trees 2 ≡ old.trees 2
   pub members : new.trees 4 ≡ old.trees 4

@@ -28,9 +28,9 @@ use Rattle.book_model.specs.BookQueries.{is_tombstone_after, tombstone_count, to
 use Rattle.book_model.specs.Counting.{one_if}
 use Rattle.book_model.specs.Forgetting.{is_row_kept, rows_after_forget}
 use Rattle.book_laws.proofs.PassingRows.{both_above, entries-retained}
-use Rattle.store_tables.specs.Acceptance.{ObeyTables, has_number}
+use Rattle.store_tables.specs.Acceptance.{has_number}
 use Rattle.store_tables.specs.Members.{AreMembers, HoldMembers, MemberRow, has_uid, is_removed_above, member_cells, member_row}
-use Rattle.store_tables.specs.Tables.{book_schema, member}
+use Rattle.store_tables.specs.Tables.{ObeyTables, book_schema, member}
 use Rattle.store_tables.proofs.FreshLemmas.{row_of}
 use Rattle.store_tables.proofs.KeyedRows.{int_itself, same_int, turned}
 use Rattle.store_rows.specs.ForgetLaws.{first_with_next}
@@ -57,7 +57,7 @@ same_number x n = then_term (at_ints false Eq x.book n.book) (last_term (at_ints
 module _ (db : Trees) (obeys : ObeyTables db) (all : List MemberRow) (holds : HoldMembers (db 4) all) where
   no_clash : (r : Row) → Has (db 4) r → clashes plain (1 ∷ 3 ∷ []) (db 4) r ≡ false
   no_clash r there =
-      let h : (not (clashes plain (1 ∷ 2 ∷ []) (db 4) r) && (not (clashes plain (1 ∷ 3 ∷ []) (db 4) r) && true)) ≡ true = all_has (λ row. passes Unique book_schema db member row ≡ true) (db 4) r (obeys.rules Unique).1.1.0 there in
+      let h : (not (clashes plain (1 ∷ 2 ∷ []) (db 4) r) && (not (clashes plain (1 ∷ 3 ∷ []) (db 4) r) && true)) ≡ true = all_has (λ row. passes Unique book_schema db member row ≡ true) (db 4) r (obeys.obeys.rules Unique).1.1.0 there in
       not-true _ (and_parts _ _ (and_parts _ _ h).1).0
 
   apart : (a b : MemberRow) → Has all a → Has all b → int_eq a.id b.id ≡ false → has_number a.book a.changed b ≡ false

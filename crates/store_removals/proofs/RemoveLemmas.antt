@@ -37,7 +37,7 @@ use Rattle.store_rows.specs.SoundTables.{AreSoundRows}
 use Rattle.store_rows.specs.TableBooks.{HeaderRow, line_row, numbers_row, row_book, books_in, books_of}
 use Rattle.store_rows.specs.TableRows.{TableRows, HoldsRows, forgotten_rows, put_rows, renumbered_rows}
 use Rattle.store_rows.proofs.HeldRows.{books_held}
-use Rattle.store_rows.proofs.BookLemmas.{changes_one, renumbering_held}
+use Rattle.store_rows.proofs.BookLemmas.{changes_one, naturals_row, renumbering_held}
 use Rattle.store_rows.proofs.FirstLemmas.{first_is_first, none_is_none, removals_remembered}
 use Rattle.store_rows.proofs.RemovedLemmas.{forgetting_forgets, forgetting_held}
 use Rattle.store_rows.proofs.WriteLemmas.{go_on, put_is_row}
@@ -63,7 +63,7 @@ module _ (old a b new : State) (rows : TableRows) (name : List ℕ) (header : He
       let two = forgetting_held a.now b.now with_it (line_row name header) upto one.holds one.within.sound members (writes_table 4 a b second) in
       let left = forgotten_rows (pos header.id) (pos upto) with_it in
       let numbers = numbers_row (header.number + 1) upto (counts_after_change (TakesAway why) header.counts) in
-      let three = renumbering_held b.now new.now left (pos header.id) numbers two.holds two.within.sound books (writes_table 2 b new third) in
+      let three = renumbering_held b.now new.now left (pos header.id) numbers two.holds two.within.sound (naturals_row (header.number + 1) upto (counts_after_change (TakesAway why) header.counts)) books (writes_table 2 b new third) in
       record {
         holds = record {
           rows_after = renumbered_rows (pos header.id) numbers left;
@@ -72,7 +72,7 @@ module _ (old a b new : State) (rows : TableRows) (name : List ℕ) (header : He
           books_are = changes_one rows left (line_row name header) numbers line.sound line.there (go_on (pos header.id) rows with_it left one.within two.within)
               ∙ ap (finite.insert (books_of rows) name)
               (forgetting_forgets with_it name (header_after (TakesAway why) header) upto one.within.sound
-              ∙ ap (λ k. book_after_forget k upto) (put_is_row rows name header one.id uid None (TakesAway why) line.sound refl));
+              ∙ ap (λ k. book_after_forget k upto) (put_is_row rows name header one.id uid None (TakesAway why) line.sound (record { canonical = tt; card = refl })));
           others = λ b there apart. (row_remains (pos header.id) numbers rows.books b there apart, two.within.others b apart ∙ one.within.others b apart);
         };
         inside = third.inside;

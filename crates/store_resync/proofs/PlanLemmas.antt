@@ -29,7 +29,7 @@ use Rattle.store_lookups.specs.Faults.{IsDeniedFault}
 use Rattle.store_writes.specs.TableChanges.{HoldBooksAfter, TreesHold}
 use Rattle.store_resync.specs.declared.planning.BookPlan.{BookPlan}
 use Rattle.store_resync.specs.declared.planning.Renewal.{Renewal}
-use Rattle.store_resync.specs.internal.Plans.{ArePlans, HasShortText, IsBookPlan, IsRenewed, planned_entry}
+use Rattle.store_resync.specs.internal.Plans.{ArePlans, HasCanonicalText, HasShortText, IsBookPlan, IsRenewed, planned_entry}
 use Rattle.store_resync.proofs.ListLemmas.{accepts_more, all_more, found_at, map_more, refuses_at, take_more}
 
 -- ---- results
@@ -104,9 +104,9 @@ module _ (limits : Bounds) (pairs : ℕ) (rows : TableRows) (name : List ℕ) (h
 
   pub book_planned : (own : List ℕ) (last : ℕ) (counts : Counts) (renewed : Option Renewal) → own ≡ name → last_number limits pairs header.number (live_count header.counts) ≡ Ok last → total_changes header.counts ≡ header.number
       → header.horizon ≤ header.number → last ≡ number_after_pairs header.number pairs → last < 2 ^ 62 → counts ≡ counts_after_pairs header.counts pairs
-      → IsRenewed renewed (renewed_card limits (row_book rows (line_row name header))) → IfSome renewed HasShortText
+      → IsRenewed renewed (renewed_card limits (row_book rows (line_row name header))) → IfSome renewed HasShortText → IfSome renewed HasCanonicalText
       → FollowsStep Allows (Ok (record { name = own; header = header; last = last; counts = counts; renewed = renewed })) (last_number_of limits pairs book)
-  book_planned own last counts renewed own_is value sum horizon last_is fits counts_is renewed_is short =
+  book_planned own last counts renewed own_is value sum horizon last_is fits counts_is renewed_is short canonical =
       subst (λ n. FollowsStep Allows (Ok (plan_with n)) (last_number_of limits pairs book)) (sym own_is)
       (answer_follows Allows (plan_with name) (last_number_of limits pairs book) last (ap (last_number_of limits pairs) (sym same_book) ∙ value) (planned, refl))
     where
@@ -114,7 +114,7 @@ module _ (limits : Bounds) (pairs : ℕ) (rows : TableRows) (name : List ℕ) (h
       plan_with n = record { name = n; header = header; last = last; counts = counts; renewed = renewed }
 
       planned : IsBookPlan limits pairs rows (plan_with name)
-      planned = record { named = named; sum = sum; horizon = horizon; last = last_is; fits = fits; counts = counts_is; renewed = renewed_is; short = short }
+      planned = record { named = named; sum = sum; horizon = horizon; last = last_is; fits = fits; counts = counts_is; renewed = renewed_is; short = short; canonical = canonical }
 
 -- ---- the book of a line
 

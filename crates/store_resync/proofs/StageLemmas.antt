@@ -17,7 +17,7 @@ use Rattle.store_tables.proofs.KeyedRows.{int_itself}
 use Rattle.store_rows.specs.SoundTables.{AreSoundRows}
 use Rattle.store_rows.specs.TableBooks.{line_row, members_in, numbers_row, row_book}
 use Rattle.store_rows.specs.TableRows.{TableRows, HoldsRows, WritesTable, forgotten_rows, put_rows, renumbered_rows}
-use Rattle.store_rows.proofs.BookLemmas.{renumbering_held, with_numbers}
+use Rattle.store_rows.proofs.BookLemmas.{naturals_row, renumbering_held, with_numbers}
 use Rattle.store_rows.proofs.MemberLemmas.{members_put}
 use Rattle.store_rows.proofs.RemovedLemmas.{forgetting_forgets, forgetting_held}
 use Rattle.store_rows.proofs.WriteLemmas.{no_write, put_held}
@@ -27,6 +27,7 @@ use Rattle.store_writes.proofs.HeldLemmas.{row_remains}
 use Rattle.store_resync.specs.declared.planning.BookPlan.{BookPlan}
 use Rattle.store_resync.specs.declared.planning.Renewal.{Renewal}
 use Rattle.store_resync.specs.declared.stages.Stage.{Stage}
+use Rattle.store_rows.specs.Values.{IsCanonical}
 use Rattle.store_resync.specs.declared.stages.Stage.TheVariants.{Pairs, Forgetting}
 use Rattle.store_resync.specs.internal.Stages.{book_after_stage, header_after, header_before, horizon_after, rows_with_renewal}
 use Rattle.store_resync.specs.internal.Changes.{HasPlannedRows, HoldsMembers, HoldsResync, HoldsStage, HoldsStages, IsBookAfter, IsRowAfter, TreesHoldResync, book_name}
@@ -42,10 +43,10 @@ module _ (old new : Database) (rows : TableRows) (name : List ℕ) (plan : BookP
     members = rows_with_renewal (members_in (pos plan.header.id) rows.members) renewed plan.last;
   }
 
-  pub renewed_members : (renewal : Renewal) → plan.renewed ≡ Some renewal → Has rows.books (line_row name (header_before Pairs plan))
+  pub renewed_members : (renewal : Renewal) → plan.renewed ≡ Some renewal → IsCanonical renewal.text → Has rows.books (line_row name (header_before Pairs plan))
       → PutsRow new.trees (pos plan.header.id) renewal.uid (pos plan.last) (Some renewal.text) rows.members → WritesTable 4 old new → HoldsMembers new rows name plan Pairs
-  renewed_members renewal is there puts w =
-      let one = put_held old new rows (line_row name (header_before Pairs plan)) renewal.uid (pos plan.last) (Some renewal.text) holds sound there puts w in
+  renewed_members renewal is canonical there puts w =
+      let one = put_held old new rows (line_row name (header_before Pairs plan)) renewal.uid (pos plan.last) (Some renewal.text) holds sound there refl canonical puts w in
       let members = members_put one.id (pos plan.header.id) renewal.uid (pos plan.last) (Some renewal.text) rows.members in
       let made : IsBookAfter rows (put_rows one.id (pos plan.header.id) renewal.uid (pos plan.last) (Some renewal.text) rows) name plan Pairs =
       ap (λ m. record (paired None) { members = m }) members ∙ ap paired (sym is) in
@@ -78,14 +79,14 @@ module _ (old new : Database) (rows : TableRows) (name : List ℕ) (plan : BookP
         is = made;
       }
 
-pub renewed_in_tx : {A E : Type 0} (old new : State) (rows : TableRows) (name : List ℕ) (plan : BookPlan) (stage : Stage) (renewal : Renewal) (r : Result A E) → stage ≡ Pairs → plan.renewed ≡ Some renewal → HasBookRow old.now rows name (header_before stage plan)
+pub renewed_in_tx : {A E : Type 0} (old new : State) (rows : TableRows) (name : List ℕ) (plan : BookPlan) (stage : Stage) (renewal : Renewal) (r : Result A E) → stage ≡ Pairs → plan.renewed ≡ Some renewal → IsCanonical renewal.text → HasBookRow old.now rows name (header_before stage plan)
     → OnOk r (PutsRow new.now.trees (pos plan.header.id) renewal.uid (pos plan.last) (Some renewal.text) rows.members) → OnOk r (WritesOnly 4 old new) → OnOk r (HoldsInTx new (λ db. HoldsMembers db rows name plan stage))
-renewed_in_tx old new rows name plan Pairs renewal (Ok x) e is line puts w = record {
-  holds = renewed_members old.now new.now rows name plan line.holds line.sound renewal is line.there puts (writes_table 4 old new w);
+renewed_in_tx old new rows name plan Pairs renewal (Ok x) e is canonical line puts w = record {
+  holds = renewed_members old.now new.now rows name plan line.holds line.sound renewal is canonical line.there puts (writes_table 4 old new w);
   inside = w.inside;
 }
-renewed_in_tx old new rows name plan Pairs renewal (Err error) e is line puts w = tt
-renewed_in_tx old new rows name plan Forgetting renewal r e is line puts w = absurd (let bad = e in cc)
+renewed_in_tx old new rows name plan Pairs renewal (Err error) e is canonical line puts w = tt
+renewed_in_tx old new rows name plan Forgetting renewal r e is canonical line puts w = absurd (let bad = e in cc)
 
 pub forgotten_in_tx : (old new : State) (rows : TableRows) (name : List ℕ) (plan : BookPlan) (stage : Stage) → stage ≡ Forgetting → HasBookRow old.now rows name (header_before stage plan)
     → HoldMembers (new.now.trees 4) (without_removed (pos plan.header.id) (pos plan.last) rows.members) → WritesOnly 4 old new → HoldsInTx new (λ db. HoldsMembers db rows name plan stage)
@@ -119,7 +120,7 @@ module _ (mid new : State) (rows : TableRows) (name : List ℕ) (plan : BookPlan
   pub stage_written : Has rows.books (line_row name (header_before stage plan)) → (one : HoldsMembers mid.now rows name plan stage)
       → HasBooks new (with_book_numbers (pos plan.header.id) last_numbers one.now.books) → WritesOnly 2 mid new → HoldsInTx new (λ db. HoldsStage db rows name plan stage)
   stage_written there one books w =
-      let two = renumbering_held mid.now new.now one.now (pos plan.header.id) last_numbers one.holds one.within.sound books (writes_table 2 mid new w) in
+      let two = renumbering_held mid.now new.now one.now (pos plan.header.id) last_numbers one.holds one.within.sound (naturals_row plan.last (horizon_after stage plan.header.horizon plan.last) plan.counts) books (writes_table 2 mid new w) in
       let still : (b : BookRow) → Has rows.books b → Has one.now.books b = λ b h. subst (λ bs. Has bs b) (sym one.within.books) h in
       record {
         holds = record {
@@ -191,6 +192,7 @@ module _ (start one : Database) (rows : TableRows) (plans : List BookPlan) (give
     sound = paired.sound;
     each = λ i plan at. (paired.written i plan (slice_get_within plans i plan at) at).there;
     apart = given.apart;
+    texts = given.texts;
   }
 
   pub both_stages : (two : Database) → HoldsStages two paired.now plans Forgetting (length plans) → HoldsResync two rows plans

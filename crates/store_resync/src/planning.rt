@@ -7,7 +7,8 @@ ghost use Rattle.store_lookups.specs.CallResults.{FollowsStep};
 ghost use Rattle.store_lookups.specs.Faults.{IsDeniedFault};
 ghost use Rattle.store_lookups.specs.OnConnections.{FaultsFromOutside, GivenSoundRows};
 ghost use Rattle.store_lookups.specs.StoreFaults.{FailsOnlyForMemory};
-ghost use Rattle.store_resync.specs.internal.Plans.{ArePlans, HasShortText, IsBookPlan, IsRenewed};
+ghost use Rattle.store_resync.specs.internal.Plans.{ArePlans, HasCanonicalText, HasShortText};
+ghost use Rattle.store_resync.specs.internal.Plans.{IsBookPlan, IsRenewed};
 ghost use Rattle.store_rows.specs.TableBooks.{books_of};
 ghost use Rattle.store_rows.specs.Values.{text_card};
 ghost use Rattle.store_tables.specs.OnConnections.{OnlyReads, UnchangedOnOk, WasOpenOnOk};
@@ -49,6 +50,7 @@ fn renewal_of(alloc: Global, uid: &str, card: &Card) -> Result<Renewal, Denied>
     ensures uid { IfOk result (λ renewal. renewal.uid ≡ uid.now) }
     ensures card { IfOk result (λ renewal. text_card renewal.text ≡ card.now) }
     ensures short { IfOk result HasShortText }
+    ensures canonical { IfOk result HasCanonicalText }
     ensures fault { IfErr result IsDeniedFault }
     ensures memory { FailsOnlyForMemory result }
 {
@@ -67,6 +69,7 @@ fn first_renewal(alloc: Global, cards: &TextMap<Stored>) -> Result<Option<Renewa
     ensures renewed { IfOk result (λ renewed.
         IsRenewed renewed (slice_get (finite.entries cards.now) 0)) }
     ensures short { IfOk result (λ renewed. IfSome renewed HasShortText) }
+    ensures canonical { IfOk result (λ renewed. IfSome renewed HasCanonicalText) }
     ensures fault { IfErr result IsDeniedFault }
     ensures memory { FailsOnlyForMemory result }
 {

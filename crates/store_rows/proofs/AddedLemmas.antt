@@ -16,6 +16,8 @@ use Rattle.store_rows.specs.TableRows.{TableRows, new_book_rows, keep_rows}
 use Rattle.store_rows.specs.TableBooks.{model_row, row_tally, keep_of_book, row_book, book_entry, line_row}
 use Rattle.store_rows.specs.SoundTables.{HasBookId}
 use Rattle.store_rows.specs.AddLaws.{BooksAreAdded, KeepsAreAdded, NewBooksAreEmpty, ImportsAreAdded, ImportsAreKept, import_tally_row}
+use Rattle.book_model.specs.Counting.{no_counts}
+use Rattle.store_rows.proofs.BookLemmas.{naturals_row}
 use Rattle.store_rows.proofs.KeyedEntries.{none_mine, added_mine, added_other}
 use Rattle.store_rows.proofs.RowLemmas.{int_turned, uid_of_row, key_of, import_of}
 use Rattle.store_rows.proofs.WriteLemmas.{listed}
@@ -38,9 +40,10 @@ still_listed : (new : BookRow) (bs : List BookRow) (id : ℤ) → HasBookId bs i
 still_listed new bs id h = or_right (has_id id new) (list_any (has_id id) bs) h
 
 pub book_added : BooksAreAdded
-book_added old new rows id name h sound free added w = record {
+book_added old new rows id name h sound natural free added w = record {
   holds = record {
     schema = w.schema;
+    obeys = w.obeys;
     meta = ap (map meta_listed) (w.other_tables.0 (λ e. cc)) ∙ h.meta;
     books = added.hold;
     members = subst (λ t. HoldMembers t rows.members) (sym (w.other_tables.1.1.0 (λ e. cc))) h.members;
@@ -55,13 +58,15 @@ book_added old new rows id name h sound free added w = record {
     listed_members = all_weaker _ _ (λ m l. still_listed (Rattle.store_tables.specs.Books.blank_book id name) rows.books m.book l) rows.members sound.listed_members;
     listed_imports = all_weaker _ _ (λ i l. still_listed (Rattle.store_tables.specs.Books.blank_book id name) rows.books i.book l) rows.imports sound.listed_imports;
     listed_keeps = all_weaker _ _ (λ k l. still_listed (Rattle.store_tables.specs.Books.blank_book id name) rows.books k.book l) rows.keeps sound.listed_keeps;
+    readable = record { books = (record { id = natural; numbers = naturals_row 0 0 no_counts }, sound.readable.books); members = sound.readable.members; imports = sound.readable.imports; keeps = sound.readable.keeps };
   };
 }
 
 pub keep_added : KeepsAreAdded
-keep_added old new rows b keep h sound there added w = record {
+keep_added old new rows b keep h sound there natural added w = record {
   holds = record {
     schema = w.schema;
+    obeys = w.obeys;
     meta = ap (map meta_listed) (w.other_tables.0 (λ e. cc)) ∙ h.meta;
     books = subst (λ t. HoldBooks t rows.books) (sym (w.other_tables.1.0 (λ e. cc))) h.books;
     members = subst (λ t. HoldMembers t rows.members) (sym (w.other_tables.1.1.0 (λ e. cc))) h.members;
@@ -76,6 +81,7 @@ keep_added old new rows b keep h sound there added w = record {
     listed_members = sound.listed_members;
     listed_imports = sound.listed_imports;
     listed_keeps = (listed rows.books b there, sound.listed_keeps);
+    readable = record { books = sound.readable.books; members = sound.readable.members; imports = sound.readable.imports; keeps = (natural, sound.readable.keeps) };
   };
 }
 
@@ -114,9 +120,10 @@ new_book_empty rows id name keep old sound =
 -- ---- an import
 
 pub import_added : ImportsAreAdded
-import_added old new rows b row h sound there its free added w = record {
+import_added old new rows b row h sound there its readable free added w = record {
   holds = record {
     schema = w.schema;
+    obeys = w.obeys;
     meta = ap (map meta_listed) (w.other_tables.0 (λ e. cc)) ∙ h.meta;
     books = subst (λ t. HoldBooks t rows.books) (sym (w.other_tables.1.0 (λ e. cc))) h.books;
     members = subst (λ t. HoldMembers t rows.members) (sym (w.other_tables.1.1.0 (λ e. cc))) h.members;
@@ -132,6 +139,7 @@ import_added old new rows b row h sound there its free added w = record {
       listed_members = sound.listed_members;
       listed_imports = (ap (λ i. list_any (has_id i) rows.books) its ∙ listed rows.books b there, sound.listed_imports);
       listed_keeps = sound.listed_keeps;
+      readable = record { books = sound.readable.books; members = sound.readable.members; imports = (readable, sound.readable.imports); keeps = sound.readable.keeps };
     };
     books = refl;
     others = λ x e. ap (λ m. record (row_book rows x) { imports = m }) (added_other (import_of x.id) key_of row_tally row rows.imports (int_turned row.book x.id ∙ e));

@@ -9,6 +9,7 @@ use Rattle.sqlite_rules.specs.Lists.{Has}
 use Rattle.sqlite_trees.proofs.ListLemmas.{all_weaker}
 use Rattle.base_types.specs.TextMaps.{text_cmp}
 use Rattle.base_types.proofs.TextLemmas.{text_total, same_text}
+use Rattle.book_model.specs.declared.counts.Counts.{Counts}
 use Rattle.store_tables.specs.Books.{BookRow, Numbers, AreBooks, has_name, has_id, with_book_numbers}
 use Rattle.store_tables.specs.Members.{HoldMembers}
 use Rattle.store_tables.specs.Imports.{HoldImports}
@@ -16,8 +17,8 @@ use Rattle.store_tables.specs.Keeps.{HoldKeeps}
 use Rattle.store_tables.specs.Meta.{meta_listed}
 use Rattle.store_tables.proofs.KeyedRows.{all_has, int_itself, text_itself}
 use Rattle.store_rows.specs.TableRows.{TableRows, renumbered_rows}
-use Rattle.store_rows.specs.TableBooks.{row_book, books_of}
-use Rattle.store_rows.specs.SoundTables.{AreSoundRows, HasBookId}
+use Rattle.store_rows.specs.TableBooks.{numbers_row, row_book, books_of}
+use Rattle.store_rows.specs.SoundTables.{AreNaturalNumbers, AreSoundRows, HasBookId, IsReadableBook}
 use Rattle.store_rows.specs.ChangeLaws.{RenumberingIsHeld, WritesChangeOneBook}
 use Rattle.store_rows.proofs.KeyedEntries.{find_single, found_has, key_is, text_turned}
 use Rattle.store_rows.proofs.RowLemmas.{int_turned, single_named, get-books_of}
@@ -54,8 +55,30 @@ same_listed id numbers (b ∷ bs) book = ap₂ (λ s t. s || t) (step (has_id id
     step true e = rw e refl
     step false e = rw e refl
 
-pub renumbered_sound : (id : ℤ) (numbers : Numbers) (rows : TableRows) → AreSoundRows rows → AreSoundRows (renumbered_rows id numbers rows)
-renumbered_sound id numbers rows sound =
+readable_renumbered : (id : ℤ) (numbers : Numbers) (bs : List BookRow) → AreNaturalNumbers numbers → AllByRecursion IsReadableBook bs → AllByRecursion IsReadableBook (with_book_numbers id numbers bs)
+readable_renumbered id numbers [] natural h = tt
+readable_renumbered id numbers (b ∷ bs) natural h = (step (has_id id b) refl, readable_renumbered id numbers bs natural h.1)
+  where
+    step : (t : Bool) → has_id id b ≡ t → IsReadableBook (with_numbers id numbers b)
+    step true e = rw e (record { id = h.0.id; numbers = natural })
+    step false e = rw e h.0
+
+-- the numbers of a row with a header
+pub naturals_row : (number horizon : ℕ) (counts : Counts) → AreNaturalNumbers (numbers_row number horizon counts)
+naturals_row number horizon counts = record {
+  number = refl;
+  horizon = refl;
+  created = refl;
+  edited = refl;
+  imported = refl;
+  import_edited = refl;
+  moved_in = refl;
+  deleted = refl;
+  moved_out = refl;
+}
+
+pub renumbered_sound : (id : ℤ) (numbers : Numbers) (rows : TableRows) → AreSoundRows rows → AreNaturalNumbers numbers → AreSoundRows (renumbered_rows id numbers rows)
+renumbered_sound id numbers rows sound natural =
     let still : (book : ℤ) → HasBookId rows.books book → HasBookId (with_book_numbers id numbers rows.books) book = λ book h. same_listed id numbers rows.books book ∙ h in
     record {
       books = renumbered_kept id numbers rows.books sound.books;
@@ -65,19 +88,21 @@ renumbered_sound id numbers rows sound =
       listed_members = all_weaker _ _ (λ m h. still m.book h) rows.members sound.listed_members;
       listed_imports = all_weaker _ _ (λ i h. still i.book h) rows.imports sound.listed_imports;
       listed_keeps = all_weaker _ _ (λ k h. still k.book h) rows.keeps sound.listed_keeps;
+      readable = record { books = readable_renumbered id numbers rows.books natural sound.readable.books; members = sound.readable.members; imports = sound.readable.imports; keeps = sound.readable.keeps };
     }
 
 pub renumbering_held : RenumberingIsHeld
-renumbering_held old new rows id numbers h sound books w = record {
+renumbering_held old new rows id numbers h sound natural books w = record {
   holds = record {
     schema = w.schema;
+    obeys = w.obeys;
     meta = ap (map meta_listed) (w.other_tables.0 (λ e. cc)) ∙ h.meta;
     books = books;
     members = subst (λ t. HoldMembers t rows.members) (sym (w.other_tables.1.1.0 (λ e. cc))) h.members;
     imports = subst (λ t. HoldImports t rows.imports) (sym (w.other_tables.1.1.1.0 (λ e. cc))) h.imports;
     keeps = subst (λ t. HoldKeeps t rows.keeps) (sym (w.other_tables.1.1.1.1.0 (λ e. cc))) h.keeps;
   };
-  sound = renumbered_sound id numbers rows sound;
+  sound = renumbered_sound id numbers rows sound natural;
 }
 
 -- ---- the books

@@ -76,7 +76,7 @@ pub books_held : (db : Database) (rows : TableRows) → HoldsRows db rows → Ar
 books_held db rows h sound = sym (same_books rows (rows_in db.trees) sound (rows_held db rows h))
 
 pub no_rows_sound : AreSoundRows no_rows
-no_rows_sound = record { books = tt; members = tt; imports = tt; keeps = tt; listed_members = tt; listed_imports = tt; listed_keeps = tt }
+no_rows_sound = record { books = tt; members = tt; imports = tt; keeps = tt; listed_members = tt; listed_imports = tt; listed_keeps = tt; readable = record { books = tt; members = tt; imports = tt; keeps = tt } }
 
 pub nothing_held : (db : Database) → HoldsRows db no_rows → HoldsNoBooks db
 nothing_held db h = record { sound = no_rows_sound; books = books_held db no_rows h no_rows_sound }

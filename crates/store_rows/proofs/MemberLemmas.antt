@@ -1,5 +1,5 @@
 -- An upserted member, in its own book and in the others.
-use Rattle.std.proofs.Common.{◌≡◌, ℕ, ℤ, Bool, true, false, ◌&&◌, cond, List, [], ◌∷◌, find, Option, Some, None, bytes_eq, int_eq, refl, sym, ap, ap₂, ◌∙◌, true≢false}
+use Rattle.std.proofs.Common.{◌≡◌, ℕ, ℤ, Bool, true, false, ◌&&◌, cond, List, [], ◌∷◌, find, Option, Some, None, IfSome, bytes_eq, int_eq, refl, sym, ap, ap₂, ◌∙◌, true≢false}
 use Rattle.std.specs.List.{AllByRecursion}
 use Rattle.std.specs.Option.{option_map}
 use Rattle.std.specs.Ordering.{eq_by_cmp}
@@ -11,7 +11,8 @@ use Rattle.base_types.proofs.TextLemmas.{text_total, same_text}
 use Rattle.book_model.specs.declared.row.Row.{Row as Kept}
 use Rattle.store_tables.specs.Members.{MemberRow, has_uid, upsert_member}
 use Rattle.store_tables.proofs.KeyedRows.{same_int, int_itself}
-use Rattle.store_rows.specs.Values.{natural, text_card}
+use Rattle.store_rows.specs.SoundTables.{IsReadableMember}
+use Rattle.store_rows.specs.Values.{natural, text_card, IsCanonical, IsNatural}
 use Rattle.store_rows.specs.TableBooks.{model_row, members_in}
 use Rattle.store_rows.proofs.KeyedEntries.{key_is, text_turned}
 use Rattle.store_rows.proofs.RowLemmas.{get-members_in}
@@ -66,6 +67,15 @@ module _ (id book : ℤ) (uid : List ℕ) (changed : ℤ) (card : Option (List �
   pub others_put : (other : ℤ) (ms : List MemberRow) → int_eq book other ≡ false → members_in other (upsert_member id book uid changed card ms) ≡ members_in other ms
   others_put other ms apart = finite.same_map text_total exact_bytes _ _ (λ q.
       get-members_in other _ q ∙ find_put other q ms ∙ ap (λ t. cond (t && bytes_eq uid q) (Some (put_row changed card)) (option_map model_row (find (has_uid other q) ms))) apart ∙ sym (get-members_in other ms q))
+
+  -- the members stay readable
+  pub readable_put : (ms : List MemberRow) → IsNatural changed → IfSome card IsCanonical → AllByRecursion IsReadableMember ms → AllByRecursion IsReadableMember (upsert_member id book uid changed card ms)
+  readable_put [] natural canonical h = (record { changed = natural; card = canonical }, tt)
+  readable_put (m ∷ ms) natural canonical h = step (has_uid book uid m) refl (readable_put ms natural canonical h.1)
+    where
+      step : (t : Bool) → has_uid book uid m ≡ t → AllByRecursion IsReadableMember (upsert_member id book uid changed card ms) → AllByRecursion IsReadableMember (upsert_member id book uid changed card (m ∷ ms))
+      step true e more = rw e (record { changed = natural; card = canonical }, h.1)
+      step false e more = rw e (h.0, more)
 
   -- each member belongs to a book with the fact
   pub all_put : (P : ℤ → Type 0) (ms : List MemberRow) → P book → AllByRecursion (λ m. P m.book) ms → AllByRecursion (λ m. P m.book) (upsert_member id book uid changed card ms)

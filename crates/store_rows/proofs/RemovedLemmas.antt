@@ -15,7 +15,7 @@ use Rattle.store_tables.specs.Members.{MemberRow, AreMembers, is_in_book, has_ui
 use Rattle.store_rows.specs.Values.{natural, text_card}
 use Rattle.store_rows.specs.TableBooks.{model_row, member_entry, members_in}
 use Rattle.store_rows.specs.ForgetLaws.{CountsAreRemembered, ForgettingIsHeld, ForgettingForgets, DeletionsAreDropped, DropsForget}
-use Rattle.store_rows.specs.SoundTables.{HasBookId}
+use Rattle.store_rows.specs.SoundTables.{HasBookId, IsReadableMember}
 use Rattle.store_rows.proofs.KeyedEntries.{Once, entries_are, find_left, found_has}
 use Rattle.store_rows.proofs.RowLemmas.{once_members, single_member, uid_of_row, get-members_in}
 use Rattle.store_rows.proofs.LookupLemmas.{natural_of}
@@ -134,9 +134,10 @@ forgetting_held old new rows b upto h sound members w =
     let left = without_removed b.id (pos upto) rows.members in
     let kept : AreMembers left = ascending-filter (λ (x y : MemberRow). (int_eq x.id y.id ≡ false) × (has_uid x.book x.uid y ≡ false)) (λ m. not (is_removed_up_to b.id (pos upto) m)) rows.members sound.members in
     let all = all-filter (λ (m : MemberRow). HasBookId rows.books m.book) (λ m. not (is_removed_up_to b.id (pos upto) m)) rows.members sound.listed_members in
+    let readable = all-filter IsReadableMember (λ m. not (is_removed_up_to b.id (pos upto) m)) rows.members sound.readable.members in
     record {
       holds = holds_members old new rows left h members w;
-      within = members_within b.id rows left (sound_members rows left sound kept all)
+      within = members_within b.id rows left (sound_members rows left sound kept all readable)
           (λ other e. ap (λ l. finite.from_entries (map member_entry l)) (other_members b.id other (pos upto) rows.members e));
     }
 

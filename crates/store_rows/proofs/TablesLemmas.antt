@@ -154,7 +154,7 @@ module _ (limits : Bounds) (db : Database) (rows : TableRows) (holds : HoldsRows
 
   books_are : IsPermutation (map stored_book (finite.entries (books_of rows))) (map book_cells (db.trees 2))
   books_are =
-      let same = map_all (λ b. stored_book (book_entry rows b)) book_row rows.books (all_weaker _ (λ b. stored_book (book_entry rows b) ≡ book_row b) (λ b h. book_is rows b h) rows.books well.readable.books) in
+      let same = map_all (λ b. stored_book (book_entry rows b)) book_row rows.books (all_weaker _ (λ b. stored_book (book_entry rows b) ≡ book_row b) (λ b h. book_is rows b h) rows.books well.sound.readable.books) in
       IsPermutation-trans _ _ _ (IsPermutation-sym _ _ (subst (λ l. IsPermutation l (map stored_book (finite.entries (books_of rows)))) same (each_entry rows sound stored_book))) holds.books
 
   member_columns : AllByRecursion (λ (b : BookRow). IsPermutation (map (λ m. drop 1 (member_row m)) (part (λ (m : MemberRow). m.book) rows.members b)) (map (stored_member (row_book rows b)) (finite.entries (members_in b.id rows.members)))) rows.books
@@ -162,18 +162,18 @@ module _ (limits : Bounds) (db : Database) (rows : TableRows) (holds : HoldsRows
       let entries = entries_are (is_in_book b.id) uid_of_row model_row rows.members (once_members b.id rows.members sound.members) in
       let mine = filter (is_in_book b.id) rows.members in
       let same = map_all (λ m. stored_member (row_book rows b) (member_entry m)) (λ m. drop 1 (member_row m)) mine
-      (all_weaker _ (λ m. stored_member (row_book rows b) (member_entry m) ≡ drop 1 (member_row m)) (λ m r. member_is rows b m h.id r) mine (all_passing IsReadableMember (is_in_book b.id) rows.members well.readable.members)) in
+      (all_weaker _ (λ m. stored_member (row_book rows b) (member_entry m) ≡ drop 1 (member_row m)) (λ m r. member_is rows b m h.id r) mine (all_passing IsReadableMember (is_in_book b.id) rows.members well.sound.readable.members)) in
       subst (λ l. IsPermutation l (map (stored_member (row_book rows b)) (finite.entries (members_in b.id rows.members)))) (map-map (stored_member (row_book rows b)) member_entry mine ∙ same) (IsPermutation-map (stored_member (row_book rows b)) _ _ entries))
-      rows.books well.readable.books
+      rows.books well.sound.readable.books
 
   import_columns : AllByRecursion (λ (b : BookRow). IsPermutation (map (λ m. drop 1 (import_row m)) (part (λ (m : ImportRow). m.book) rows.imports b)) (map (stored_import (row_book rows b)) (finite.entries (imports_in b.id rows.imports)))) rows.books
   import_columns = all_weaker _ _ (λ b h.
       let entries = entries_are (import_of b.id) key_of row_tally rows.imports (once_imports b.id rows.imports sound.imports) in
       let mine = filter (import_of b.id) rows.imports in
       let same = map_all (λ m. stored_import (row_book rows b) (import_entry m)) (λ m. drop 1 (import_row m)) mine
-      (all_weaker _ (λ m. stored_import (row_book rows b) (import_entry m) ≡ drop 1 (import_row m)) (λ m r. import_is rows b m h.id r) mine (all_passing IsReadableImport (import_of b.id) rows.imports well.readable.imports)) in
+      (all_weaker _ (λ m. stored_import (row_book rows b) (import_entry m) ≡ drop 1 (import_row m)) (λ m r. import_is rows b m h.id r) mine (all_passing IsReadableImport (import_of b.id) rows.imports well.sound.readable.imports)) in
       subst (λ l. IsPermutation l (map (stored_import (row_book rows b)) (finite.entries (imports_in b.id rows.imports)))) (map-map (stored_import (row_book rows b)) import_entry mine ∙ same) (IsPermutation-map (stored_import (row_book rows b)) _ _ entries))
-      rows.books well.readable.books
+      rows.books well.sound.readable.books
 
   abbrev IdsApart : Row → Row → Type 0
   IdsApart a b = int_eq (id_in (column a 0)) (id_in (column b 0)) ≡ false
@@ -227,7 +227,7 @@ module _ (limits : Bounds) (db : Database) (rows : TableRows) (holds : HoldsRows
   keep_is b readable least =
       let it = keep_there b least in
       let found = found_has (is_keep_of b.id) rows.keeps it.0 it.1 in
-      let natural_keep = all_has IsReadableKeep rows.keeps it.0 well.readable.keeps found.0 in
+      let natural_keep = all_has IsReadableKeep rows.keeps it.0 well.sound.readable.keeps found.0 in
       let keep : pos (keep_of_book b.id rows.keeps) ≡ it.0.keep = ap (λ o. pos (option_map_or (λ (k : KeepRow). natural k.keep) o 0)) it.1 ∙ sym natural_keep in
       let book : pos (natural b.id) ≡ it.0.book = sym readable.id ∙ sym (same_int it.0.book b.id found.1) in
       ap (map keep_row) (only_one (is_keep_of b.id) rows.keeps it.0 (single_keep b.id rows.keeps sound.keeps) it.1)
@@ -240,7 +240,7 @@ module _ (limits : Bounds) (db : Database) (rows : TableRows) (holds : HoldsRows
   keep_columns : AllByRecursion (λ (b : BookRow). IsPermutation (map keep_row (part (λ (k : KeepRow). k.book) rows.keeps b)) (stored_keep (book_entry rows b) ∷ [])) rows.books
   keep_columns = all_weaker (Has rows.books) _ (λ b there.
       let got = get-books_of rows b.name ∙ ap (option_map (row_book rows)) (book_at b.name rows.books b sound.books there refl) in
-      IsPermutation-same _ _ (keep_is b (all_has IsReadableBook rows.books b well.readable.books there) (well.books.each b.name (row_book rows b) got).keep_least))
+      IsPermutation-same _ _ (keep_is b (all_has IsReadableBook rows.books b well.sound.readable.books there) (well.books.each b.name (row_book rows b) got).keep_least))
       rows.books (has_each rows.books)
 
   keeps_are : IsPermutation (map stored_keep (finite.entries (books_of rows))) (map keep_cells (db.trees 9))
@@ -252,6 +252,7 @@ module _ (limits : Bounds) (db : Database) (rows : TableRows) (holds : HoldsRows
   tables_are : AreTablesOf (books_of rows) db
   tables_are = record {
     schema = holds.schema;
+    obeys = holds.obeys;
     meta = holds.meta;
     each_book = books_are;
     each_member = members_are;

@@ -13,9 +13,9 @@ use Rattle.store_tables.specs.Meta.{meta_listed}
 use Rattle.store_tables.proofs.KeyedRows.{int_itself}
 use Rattle.store_rows.specs.TableRows.{TableRows, HoldsRows, WritesTable}
 use Rattle.store_rows.specs.TableBooks.{row_book, line_row, members_in}
-use Rattle.store_rows.specs.SoundTables.{AreSoundRows, HasBookId}
+use Rattle.store_rows.specs.SoundTables.{AreSoundRows, HasBookId, IsReadableMember}
 use Rattle.store_rows.specs.ChangeLaws.{WritesWithin, WritesCompose, NoWriteIsWithin, PutsAreHeld, PutsAreRows}
-use Rattle.store_rows.proofs.MemberLemmas.{members_put, others_put, all_put}
+use Rattle.store_rows.proofs.MemberLemmas.{members_put, others_put, all_put, readable_put}
 use Rattle.store_rows.proofs.RowLemmas.{int_turned}
 
 pub go_on : WritesCompose
@@ -42,6 +42,7 @@ members_within id rows ms sound others = record { sound = sound; books = refl; o
 pub holds_members : (old new : Database) (rows : TableRows) (ms : List MemberRow) → HoldsRows old rows → HoldMembers (new.trees 4) ms → WritesTable 4 old new → HoldsRows new (record rows { members = ms })
 holds_members old new rows ms h members w = record {
   schema = w.schema;
+  obeys = w.obeys;
   meta = ap (map meta_listed) (w.other_tables.0 (λ e. cc)) ∙ h.meta;
   books = subst (λ t. HoldBooks t rows.books) (sym (w.other_tables.1.0 (λ e. cc))) h.books;
   members = members;
@@ -50,8 +51,8 @@ holds_members old new rows ms h members w = record {
 }
 
 -- other members of listed books
-pub sound_members : (rows : TableRows) (ms : List MemberRow) → AreSoundRows rows → AreMembers ms → AllByRecursion (λ m. HasBookId rows.books m.book) ms → AreSoundRows (record rows { members = ms })
-sound_members rows ms sound kept all = record {
+pub sound_members : (rows : TableRows) (ms : List MemberRow) → AreSoundRows rows → AreMembers ms → AllByRecursion (λ m. HasBookId rows.books m.book) ms → AllByRecursion IsReadableMember ms → AreSoundRows (record rows { members = ms })
+sound_members rows ms sound kept all readable = record {
   books = sound.books;
   members = kept;
   imports = sound.imports;
@@ -59,19 +60,20 @@ sound_members rows ms sound kept all = record {
   listed_members = all;
   listed_imports = sound.listed_imports;
   listed_keeps = sound.listed_keeps;
+  readable = record { books = sound.readable.books; members = readable; imports = sound.readable.imports; keeps = sound.readable.keeps };
 }
 
 pub put_held : PutsAreHeld
-put_held old new rows b uid changed card h sound there is w =
+put_held old new rows b uid changed card h sound there natural canonical is w =
     let all = all_put is.id b.id uid changed card (HasBookId rows.books) rows.members (listed rows.books b there) sound.listed_members in
     record {
       id = is.id;
       holds = holds_members old new rows _ h is.hold w;
-      within = members_within b.id rows _ (sound_members rows _ sound is.kept all)
+      within = members_within b.id rows _ (sound_members rows _ sound is.kept all (readable_put is.id b.id uid changed card rows.members natural canonical sound.readable.members))
           (λ other e. others_put is.id b.id uid changed card other rows.members (int_turned b.id other ∙ e));
     }
 
 pub put_is_row : PutsAreRows
 put_is_row rows name header id uid text change sound is =
-    let members = members_put id (pos header.id) uid (pos (header.number + 1)) text rows.members ∙ ap (λ c. finite.insert (members_in (pos header.id) rows.members) uid (record { changed = header.number + 1; card = c })) is in
+    let members = members_put id (pos header.id) uid (pos (header.number + 1)) text rows.members ∙ ap (λ c. finite.insert (members_in (pos header.id) rows.members) uid (record { changed = header.number + 1; card = c })) is.card in
     λ i. record (book_with_row (row_book rows (line_row name header)) uid change) { members = members i }

@@ -11,10 +11,11 @@ use Rattle.store_tables.specs.Books.{BookRow, HoldBooks, has_name, blank_book as
 use Rattle.store_tables.specs.Imports.{ImportRow, HoldImports, new_import_row, has_key}
 use Rattle.store_tables.specs.Keeps.{HoldKeeps, keep_row_of}
 use Rattle.store_rows.specs.ChangeLaws.{WritesWithin}
-use Rattle.store_rows.specs.SoundTables.{AreSoundRows}
+use Rattle.store_rows.specs.SoundTables.{AreSoundRows, IsReadableImport}
 use Rattle.store_rows.specs.TableBooks.{HeaderRow, line_row, row_book, books_of}
 use Rattle.store_rows.specs.TableRows.{TableRows, HoldsRows, WritesTable, new_book_rows, keep_rows}
 use Rattle.store_rows.specs.TableRows.{import_rows}
+use Rattle.store_rows.specs.Values.{IsNatural}
 
 -- ---- a new book
 
@@ -26,7 +27,8 @@ pub record HoldsNewBook (db : Database) (rows : TableRows) (id : ℤ) (name : Li
 
 abbrev pub BooksAreAdded : Type 0
 BooksAreAdded = (old new : Database) (rows : TableRows) (id : ℤ) (name : List ℕ) →
-    HoldsRows old rows → AreSoundRows rows → filter (has_name name) rows.books ≡ [] →
+    HoldsRows old rows → AreSoundRows rows → IsNatural id →
+    filter (has_name name) rows.books ≡ [] →
     AddsRow HoldBooks (λ b. b.id) (new_book id name) rows.books (new.trees 2) →
     WritesTable 2 old new → HoldsNewBook new rows id name
 
@@ -37,7 +39,7 @@ pub record HoldsKeep (db : Database) (rows : TableRows) (book keep : ℤ) : Type
 
 abbrev pub KeepsAreAdded : Type 0
 KeepsAreAdded = (old new : Database) (rows : TableRows) (b : BookRow) (keep : ℤ) →
-    HoldsRows old rows → AreSoundRows rows → Has rows.books b →
+    HoldsRows old rows → AreSoundRows rows → Has rows.books b → IsNatural keep →
     AddsRow HoldKeeps (λ k. k.book) (keep_row_of b.id keep) rows.keeps (new.trees 9) →
     WritesTable 9 old new → HoldsKeep new rows b.id keep
 
@@ -58,6 +60,7 @@ pub record HoldsImport (db : Database) (rows : TableRows) (new : ImportRow) : Ty
 abbrev pub ImportsAreAdded : Type 0
 ImportsAreAdded = (old new : Database) (rows : TableRows) (b : BookRow) (row : ImportRow) →
     HoldsRows old rows → AreSoundRows rows → Has rows.books b → row.book ≡ b.id →
+    IsReadableImport row →
     filter (has_key row.book row.key) rows.imports ≡ [] →
     AddsRow HoldImports (λ i. i.id) row rows.imports (new.trees 7) →
     WritesTable 7 old new → HoldsImport new rows row

@@ -1,5 +1,5 @@
 -- Laws of the writes within one book: rows of `member`, and the book's new numbers.
-use Rattle.std.specs.Prelude.{◌≡◌, ◌+◌, ℕ, ℤ, pos, false, List, Option}
+use Rattle.std.specs.Prelude.{◌≡◌, ◌+◌, ℕ, ℤ, pos, false, IfSome, List, Option}
 use Rattle.std.specs.Option.{option_map}
 use Rattle.std.specs.Ordering.{int_eq}
 use Rattle.std.specs.FinMap as finite
@@ -12,10 +12,10 @@ use Rattle.book_model.specs.BookChanges.{card_after, book_with_row}
 use Rattle.book_model.specs.Counting.{counts_after_change}
 use Rattle.store_tables.specs.Books.{BookRow, Numbers, HoldBooks, with_book_numbers}
 use Rattle.store_tables.specs.Members.{PutsRow}
-use Rattle.store_rows.specs.Values.{text_card, IsCanonical}
+use Rattle.store_rows.specs.Values.{text_card, IsCanonical, IsNatural}
 use Rattle.store_rows.specs.TableRows.{TableRows, HoldsRows, WritesTable, put_rows, renumbered_rows}
 use Rattle.store_rows.specs.TableBooks.{HeaderRow, line_row, row_book, books_of}
-use Rattle.store_rows.specs.SoundTables.{AreSoundRows}
+use Rattle.store_rows.specs.SoundTables.{AreNaturalNumbers, AreSoundRows}
 
 -- ---- writes within one book
 
@@ -47,12 +47,14 @@ pub record HoldsPut (db : Database) (rows : TableRows) (b : BookRow) (uid : List
 abbrev pub PutsAreHeld : Type 0
 PutsAreHeld = (old new : Database) (rows : TableRows) (b : BookRow) (uid : List ℕ) (changed : ℤ)
     (card : Option (List ℕ)) → HoldsRows old rows → AreSoundRows rows → Has rows.books b →
+    IsNatural changed → IfSome card IsCanonical →
     PutsRow new.trees b.id uid changed card rows.members → WritesTable 4 old new →
     HoldsPut new rows b uid changed card
 
--- the text of a row is that of the change's card, or there is neither
-abbrev pub IsCardTextOf : Option (List ℕ) → Change → Type 0
-IsCardTextOf text change = option_map text_card text ≡ card_after change
+-- the text of a row is the canonical text of the change's card, or there is neither
+pub record IsCardTextOf (text : Option (List ℕ)) (change : Change) : Type 0 where
+  pub canonical : IfSome text IsCanonical
+  pub card : option_map text_card text ≡ card_after change
 
 -- the header of a book after a change
 abbrev pub header_after : Change → HeaderRow → HeaderRow
@@ -90,7 +92,7 @@ pub record HoldsRenumbered (db : Database) (rows : TableRows) (id : ℤ) (number
 
 abbrev pub RenumberingIsHeld : Type 0
 RenumberingIsHeld = (old new : Database) (rows : TableRows) (id : ℤ) (numbers : Numbers) →
-    HoldsRows old rows → AreSoundRows rows →
+    HoldsRows old rows → AreSoundRows rows → AreNaturalNumbers numbers →
     HoldBooks (new.trees 2) (with_book_numbers id numbers rows.books) → WritesTable 2 old new →
     HoldsRenumbered new rows id numbers
 

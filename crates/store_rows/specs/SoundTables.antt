@@ -1,4 +1,4 @@
--- Sound rows, and rows of well-formed books.
+-- Readable and sound rows, and rows of well-formed books.
 use Rattle.std.specs.Prelude.{◌≡◌, ℤ, true, List, IfSome}
 use Rattle.std.specs.List.{AllByRecursion, list_any}
 use Rattle.sqlite.specs.Effect.{Database}
@@ -11,30 +11,6 @@ use Rattle.store_tables.specs.Keeps.{KeepRow, AreKeeps}
 use Rattle.store_rows.specs.Values.{IsNatural, IsCanonical}
 use Rattle.store_rows.specs.TableRows.{TableRows, HoldsRows}
 use Rattle.store_rows.specs.TableBooks.{books_of}
-
--- ---- sound rows: the constraints of the tables' keys
-
--- a book has the id
-abbrev pub HasBookId : List BookRow → ℤ → Type 0
-HasBookId bs id = list_any (has_id id) bs ≡ true
-
--- Ids and names of books are unique, and so are UIDs and import keys in one book. A book has at
--- most one keep. Each member, import and keep belongs to a book of the table. Numbers and texts are
--- not constrained: they are tested when they are read.
-pub record AreSoundRows (rows : TableRows) : Type 0 where
-  pub books : AreBooks rows.books
-  pub members : AreMembers rows.members
-  pub imports : AreImports rows.imports
-  pub keeps : AreKeeps rows.keeps
-  pub listed_members : AllByRecursion (λ m. HasBookId rows.books m.book) rows.members
-  pub listed_imports : AllByRecursion (λ i. HasBookId rows.books i.book) rows.imports
-  pub listed_keeps : AllByRecursion (λ k. HasBookId rows.books k.book) rows.keeps
-
--- the database holds sound rows
-pub record HoldsSoundRows (db : Database) : Type 0 where
-  pub rows : TableRows
-  pub holds : HoldsRows db rows
-  pub sound : AreSoundRows rows
 
 -- ---- readable rows
 
@@ -74,11 +50,37 @@ pub record AreReadable (rows : TableRows) : Type 0 where
   pub imports : AllByRecursion IsReadableImport rows.imports
   pub keeps : AllByRecursion IsReadableKeep rows.keeps
 
--- The rows are sound and readable, and their books are well formed. A book without a row
--- of its keep has the keep 0, which no well-formed book has, so each book has such a row.
+-- ---- sound rows
+
+-- a book has the id
+abbrev pub HasBookId : List BookRow → ℤ → Type 0
+HasBookId bs id = list_any (has_id id) bs ≡ true
+
+-- Ids and names of books are unique, and so are UIDs and import keys in one book. A book has at
+-- most one keep. Each member, import and keep belongs to a book of the table. No number is negative,
+-- and the text of each card is canonical: so no default replaces a value of the rows in their books.
+pub record AreSoundRows (rows : TableRows) : Type 0 where
+  pub books : AreBooks rows.books
+  pub members : AreMembers rows.members
+  pub imports : AreImports rows.imports
+  pub keeps : AreKeeps rows.keeps
+  pub listed_members : AllByRecursion (λ m. HasBookId rows.books m.book) rows.members
+  pub listed_imports : AllByRecursion (λ i. HasBookId rows.books i.book) rows.imports
+  pub listed_keeps : AllByRecursion (λ k. HasBookId rows.books k.book) rows.keeps
+  pub readable : AreReadable rows
+
+-- the database holds sound rows
+pub record HoldsSoundRows (db : Database) : Type 0 where
+  pub rows : TableRows
+  pub holds : HoldsRows db rows
+  pub sound : AreSoundRows rows
+
+-- ---- rows of well-formed books
+
+-- The rows are sound, and their books are well formed. A book without a row of its keep has the keep
+-- 0, which no well-formed book has, so each book has such a row.
 pub record AreWellFormed (limits : Bounds) (rows : TableRows) : Type 0 where
   pub sound : AreSoundRows rows
-  pub readable : AreReadable rows
   pub books : IsWellFormed limits (books_of rows)
 
 -- the database holds the rows of well-formed books

@@ -4,7 +4,7 @@ use Rattle.sqlite.specs.Effect.{Database}
 use Rattle.sqlite.specs.Order.{Row, column}
 use Rattle.sqlite.specs.Tree.{Trees}
 use Rattle.sqlite_rules.specs.Edit.{id_in}
-use Rattle.store_tables.specs.Tables.{book_schema}
+use Rattle.store_tables.specs.Tables.{ObeyTables, book_schema}
 use Rattle.store_tables.specs.Books.{BookRow, HoldBooks, Numbers}
 use Rattle.store_tables.specs.Books.{numbers, with_book_numbers, blank_book}
 use Rattle.store_tables.specs.Members.{MemberRow, HoldMembers, upsert_member, without_removed}
@@ -62,9 +62,11 @@ rows_in trees = record {
 
 -- ---- the contents of the tables
 
--- The tables are declared, have the schema number, and hold these rows in any order.
+-- The tables are declared, have the schema number, and hold these rows in any order. The list of
+-- objects declares the same tables, so an opening after a crash finds them declared.
 pub record HoldsRows (db : Database) (rows : TableRows) : Type 0 where
   pub schema : db.schema ≡ book_schema
+  pub obeys : ObeyTables db.trees
   pub meta : map meta_listed (db.trees 0) ≡ schema_row schema_number ∷ []
   pub books : HoldBooks (db.trees 2) rows.books
   pub members : HoldMembers (db.trees 4) rows.members
@@ -73,9 +75,10 @@ pub record HoldsRows (db : Database) (rows : TableRows) : Type 0 where
 
 -- ---- the effect of a statement
 
--- only this table was written
+-- only this table was written, and the rows still obey the tables
 pub record WritesTable (tree : ℕ) (old new : Database) : Type 0 where
   pub schema : new.schema ≡ book_schema
+  pub obeys : ObeyTables new.trees
   pub other_tables : KeepsOtherTables tree old.trees new.trees
 
 -- a member is upserted, under this id if it is new

@@ -22,7 +22,7 @@ use Rattle.store_tables.specs.Imports.{import_cells}
 use Rattle.store_tables.specs.Keeps.{keep_cells, keep_row, keep_row_of}
 use Rattle.store_tables.specs.Members.{member_cells}
 use Rattle.store_tables.specs.Meta.{meta_listed, schema_number, schema_row}
-use Rattle.store_tables.specs.Tables.{book_schema}
+use Rattle.store_tables.specs.Tables.{ObeyTables, book_schema}
 use Rattle.store_rows.specs.SoundTables.{HoldsWellFormed}
 use Rattle.store_rows.specs.TableBooks.{books_in, line_row}
 
@@ -73,10 +73,12 @@ pub record AreUnderIds (columns rows : List Row) : Type 0 where
   pub ids : AllByRecursion (λ r. column r 0 ≡ Int (id_in (column r 0))) rows
   pub apart : IsAscending (λ a b. int_eq (id_in (column a 0)) (id_in (column b 0)) ≡ false) rows
 
--- The tables are declared, `meta` has one row, with the schema number, and each other table has one
--- row for each book, member, import or keep of these books, and no others.
+-- The tables are declared, also in the list of objects. `meta` has one row, with the schema number,
+-- and each other table has one row for each book, member, import or keep of these books, and no
+-- others.
 pub record AreTablesOf (books : Books) (db : Database) : Type 0 where
   pub schema : db.schema ≡ book_schema
+  pub obeys : ObeyTables db.trees
   pub meta : map meta_listed (db.trees 0) ≡ schema_row schema_number ∷ []
   pub each_book : IsPermutation (map stored_book (finite.entries books))
       (map book_cells (db.trees 2))

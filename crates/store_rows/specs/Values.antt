@@ -51,3 +51,8 @@ pub record IsCanonical (text : List ℕ) : Type 0 where
   pub lines : List Line
   pub spelled : card_of_text text ≡ Ok lines
   pub canonical : text ≡ canonical_text lines
+
+-- the text is the canonical text of this card
+pub record IsTextOf (text : List ℕ) (card : List Line) : Type 0 where
+  pub canonical : IsCanonical text
+  pub reads_back : text_card text ≡ card

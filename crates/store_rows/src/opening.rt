@@ -2,8 +2,9 @@
 //! `specs/OpenLaws.antt`.
 ghost use Rattle.store_rows.specs.OpenLaws.{ListedRowsAreHeld, NewTablesAreEmpty};
 
-/// If the tables are declared, and the queries over whole tables return the schema number and the
-/// result rows of these rows, in any order, then the tables hold these rows.
+/// Where the tables are declared, as those of an open connection, they hold exactly these rows if
+/// the queries over whole tables return the schema number and the result rows of these rows, in any
+/// order.
 pub fn listed_rows_are_table_rows()
     ensures { ListedRowsAreHeld }
 {}

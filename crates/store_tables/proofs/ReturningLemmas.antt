@@ -16,7 +16,7 @@ use Rattle.sqlite_trees.specs.declared.error.StoreError.TheVariants as broken
 use Rattle.std.proofs.lemmas.Bool.{cases_Bool}
 use Rattle.sqlite_schema.specs.declared.command.Returning.{Returning}
 use Rattle.store_tables.specs.Acceptance.{IsViolation}
-use Rattle.store_tables.specs.Tables.{book_schema}
+use Rattle.store_tables.specs.Tables.{ObeyTables, book_schema}
 use Rattle.store_tables.specs.StatementEffects.{KeepsOtherTables, WritesOnly, NoCommit, IsUndone}
 
 module _ (sql : List ℕ) (params : Row) (old new : State) where
@@ -54,9 +54,9 @@ pub on_ok_both : {X E : Type 0} {P Q R : Type 0} (r : Result X E) → (P → Q �
 on_ok_both (Ok x) f h k = f h k
 on_ok_both (Err e) f h k = tt
 
-pub written_by : {X E : Type 0} (tree : ℕ) (old new : State) (r : Result X E) → OnOk r ((new.now.schema ≡ book_schema) × KeepsOtherTables tree old.now.trees new.now.trees) → OnOk r (IsTrue new.in_transaction) → OnOk r (WritesOnly tree old new)
-written_by tree old new (Ok x) h inside = record { schema = h.0; other_tables = h.1; inside = inside }
-written_by tree old new (Err e) h inside = tt
+pub written_by : {X E : Type 0} (tree : ℕ) (old new : State) (r : Result X E) → OnOk r ((new.now.schema ≡ book_schema) × KeepsOtherTables tree old.now.trees new.now.trees) → OnOk r (ObeyTables new.now.trees) → OnOk r (IsTrue new.in_transaction) → OnOk r (WritesOnly tree old new)
+written_by tree old new (Ok x) h obeys inside = record { schema = h.0; obeys = obeys; other_tables = h.1; inside = inside }
+written_by tree old new (Err e) h obeys inside = tt
 
 -- ---- a write within a transaction
 

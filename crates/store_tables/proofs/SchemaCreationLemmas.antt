@@ -26,6 +26,7 @@ stays_then a b c on one two = record {
 pub schema_created : (a b c d : State) → HasFirstTables a.now → IsTableCreated with_members first_schema 7 a.now b.now → IsTableCreated first_schema book_schema 9 b.now c.now → AddsSchema schema_number (c.now.trees 0) d → WritesOnly 0 c d → IsEmptyStore schema_number d.now
 schema_created a b c d was one two added wrote = record {
   schema = wrote.schema;
+  obeys = wrote.obeys;
   meta = one_permutation (schema_row schema_number) (map meta_listed (d.now.trees 0))
       (subst (λ rows. IsPermutation (schema_row schema_number ∷ map meta_listed rows) (map meta_listed (d.now.trees 0))) (two.others.0 ∙ one.others.0 ∙ was.meta_rows) added);
   books = wrote.other_tables.1.0 (λ e. cc) ∙ two.others.1.0 ∙ one.others.1.0 ∙ was.books;

@@ -5,13 +5,12 @@ use Rattle.std.specs.List.{AllByRecursion, list_any}
 use Rattle.std.specs.Ordering.{int_eq}
 use Rattle.sqlite.specs.Order.{Row}
 use Rattle.sqlite.specs.State.{State, HasCleanDisk}
-use Rattle.sqlite.specs.Tree.{Trees, rowid}
+use Rattle.sqlite.specs.Tree.{rowid}
 use Rattle.sqlite.specs.declared.error.Error.{Error}
 use Rattle.sqlite.specs.declared.error.Error.TheVariants.{SqliteFailure}
 use Rattle.sqlite.specs.declared.error.ErrorCode.TheVariants.{ConstraintViolation, OutOfMemory}
 use Rattle.sqlite_rules.specs.Edit.{id_in, next_rowid}
 use Rattle.sqlite_rules.specs.Lists.{Has}
-use Rattle.sqlite_schema.specs.Rules.{Obeys}
 use Rattle.sqlite_schema.specs.declared.schema.Constraint.{Constraint}
 use Rattle.sqlite_sql.specs.Ops.{fits_i64}
 use Rattle.store_tables.specs.Books.{BookRow, has_id, has_name}
@@ -19,15 +18,9 @@ use Rattle.store_tables.specs.Failures.{HasOutsideCause}
 use Rattle.store_tables.specs.Imports.{ImportRow, has_key}
 use Rattle.store_tables.specs.Keeps.{KeepRow, is_keep_of}
 use Rattle.store_tables.specs.Members.{MemberRow, has_uid}
-use Rattle.store_tables.specs.Tables.{book_schema}
+use Rattle.store_tables.specs.Tables.{ObeyTables, book_schema}
 
 -- ---- assumptions that hold in a file whose rows only this program wrote
-
--- The rows obey the constraints of the declared tables: the types of the columns, the keys and the
--- references. `sqlite` keeps this true of every open connection, and `Connection::schema` ensures
--- it.
-abbrev pub ObeyTables : Trees → Type 0
-ObeyTables = Obeys book_schema
 
 -- the id of a stored row
 abbrev pub row_id : Row → ℤ

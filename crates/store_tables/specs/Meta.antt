@@ -5,7 +5,7 @@ use Rattle.sqlite.specs.declared.types.Value.TheVariants.{Int, Text}
 use Rattle.sqlite.specs.Effect.{Database}
 use Rattle.sqlite.specs.Order.{Row, column}
 use Rattle.sqlite.specs.State.{State}
-use Rattle.store_tables.specs.Tables.{book_schema}
+use Rattle.store_tables.specs.Tables.{ObeyTables, book_schema}
 
 -- the result row of any row of the table
 abbrev pub meta_listed : Row → Row
@@ -27,6 +27,7 @@ AddsSchema number before new =
 -- the tables are declared, have this schema number, and are otherwise empty
 pub record IsEmptyStore (number : ℤ) (db : Database) : Type 0 where
   pub schema : db.schema ≡ book_schema
+  pub obeys : ObeyTables db.trees
   pub meta : map meta_listed (db.trees 0) ≡ schema_row number ∷ []
   pub books : db.trees 2 ≡ []
   pub members : db.trees 4 ≡ []

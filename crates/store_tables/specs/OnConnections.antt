@@ -24,6 +24,7 @@ use Rattle.store_tables.specs.NamedMembers as named
 use Rattle.store_tables.specs.QueryResults.{IfAnswered}
 use Rattle.store_tables.specs.SchemaCreation as creation
 use Rattle.store_tables.specs.StatementEffects as effects
+use Rattle.store_tables.specs.Tables as tables
 
 -- ---- one connection
 
@@ -48,7 +49,7 @@ module _ {S : Type 0} (store : Ghosts S) (conn : Held S) where
 
   -- the rows obey the constraints of the declared tables
   abbrev pub ObeyTables : Type 0
-  ObeyTables = acceptance.ObeyTables table_rows
+  ObeyTables = tables.ObeyTables table_rows
 
   -- on success, the result is every row of this table, as `show` returns it, in any order
   abbrev pub ListsTable :

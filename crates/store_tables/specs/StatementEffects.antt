@@ -5,7 +5,7 @@ use Rattle.sqlite.specs.Order.{Row}
 use Rattle.sqlite.specs.Tree.{Trees}
 use Rattle.sqlite.specs.State.{State, HasCleanDisk, IsUnchanged, IsRolledBack}
 use Rattle.sqlite.specs.State.{KeepsCommit, Survives}
-use Rattle.store_tables.specs.Tables.{book_schema}
+use Rattle.store_tables.specs.Tables.{ObeyTables, book_schema}
 
 -- ---- the conditions of a clause
 
@@ -61,9 +61,10 @@ abbrev pub KeepsOtherTables : ℕ → Trees → Trees → Type 0
 KeepsOtherTables tree old new =
     AllByRecursion (λ t. t.tree ≢ tree → new t.tree ≡ old t.tree) book_schema.tables
 
--- only this table was written, and the transaction is still open
+-- only this table was written, the rows still obey the tables, and the transaction is still open
 pub record WritesOnly (tree : ℕ) (old new : State) : Type 0 where
   pub schema : new.now.schema ≡ book_schema
+  pub obeys : ObeyTables new.now.trees
   pub other_tables : KeepsOtherTables tree old.now.trees new.now.trees
   pub inside : IsTrue new.in_transaction
 

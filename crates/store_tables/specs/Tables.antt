@@ -5,7 +5,9 @@ use Rattle.sqlite.specs.Collation.TheVariants.{Binary}
 use Rattle.sqlite.specs.Kind.TheVariants.{Integer, Text}
 use Rattle.sqlite.specs.Schema.{Schema}
 use Rattle.sqlite.specs.Table.{Table}
+use Rattle.sqlite.specs.Tree.{Trees}
 use Rattle.sqlite.specs.declared.types.Value.TheVariants.{Null}
+use Rattle.sqlite_catalog.specs.Listing.{IsSound}
 use Rattle.sqlite_schema.specs.declared.schema.Action.TheVariants.{NoAction}
 use Rattle.sqlite_schema.specs.declared.schema.Column.{Column}
 use Rattle.sqlite_schema.specs.declared.schema.Index.{Index}
@@ -153,3 +155,9 @@ book_schema = record {
   indexes = key_indexes;
   views = [];
 }
+
+-- The list of objects declares the tables, and the rows obey their constraints: the types of the
+-- columns, the keys and the references. `sqlite` keeps this true of every open connection, and
+-- `Connection::schema` ensures it.
+abbrev pub ObeyTables : Trees → Type 0
+ObeyTables = IsSound book_schema

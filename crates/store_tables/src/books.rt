@@ -23,7 +23,6 @@ ghost use Rattle.store_tables.specs.OnConnections.{
   ListsTable,
   MissesOrFailsFromOutside,
   NoCommit,
-  ObeyTables,
   OnlyReads,
   UnchangedIfAnswered,
   UnchangedOnOk,
@@ -100,8 +99,6 @@ pub fn insert_book<S: Alter>(
         (λ bs. OnOk result (AddsBook S.Store tx.new.conn.now id name.now bs)) }
     ensures writes { GivenBooksTx S.Store tx.old.conn.now tx.new.conn.now
         (λ _. OnOk result (WritesOnly S.Store tx.old.conn.now tx.new.conn.now 2)) }
-    ensures obeys { GivenBooksTx S.Store tx.old.conn.now tx.new.conn.now
-        (λ _. OnOk result (ObeyTables S.Store tx.new.conn.now)) }
     ensures no_commit { NoCommit S.Store tx.old.conn.now tx.new.conn.now }
     ensures rolled_back { UndoneOnErr S.Store tx.old.conn.now tx.new.conn.now result }
     ensures fails_from_outside { GivenBooksTx S.Store tx.old.conn.now tx.new.conn.now
@@ -137,9 +134,6 @@ fn renumber<S: Alter>(
     ensures writes { GivenBooksTx S.Store tx.old.conn.now tx.new.conn.now
         (λ bs. (b : BookRow) → Has bs b → id ≡ b.id
         → OnOk result (WritesOnly S.Store tx.old.conn.now tx.new.conn.now 2)) }
-    ensures obeys { GivenBooksTx S.Store tx.old.conn.now tx.new.conn.now
-        (λ bs. (b : BookRow) → Has bs b → id ≡ b.id
-        → OnOk result (ObeyTables S.Store tx.new.conn.now)) }
     ensures no_commit { NoCommit S.Store tx.old.conn.now tx.new.conn.now }
     ensures rolled_back { UndoneOnErr S.Store tx.old.conn.now tx.new.conn.now result }
     ensures fails_from_outside { GivenBooksTx S.Store tx.old.conn.now tx.new.conn.now
@@ -179,9 +173,6 @@ pub fn renumber_book<S: Alter>(
     ensures writes { GivenBooksTx S.Store tx.old.conn.now tx.new.conn.now
         (λ bs. (b : BookRow) → Has bs b → id ≡ b.id
         → OnOk result (WritesOnly S.Store tx.old.conn.now tx.new.conn.now 2)) }
-    ensures obeys { GivenBooksTx S.Store tx.old.conn.now tx.new.conn.now
-        (λ bs. (b : BookRow) → Has bs b → id ≡ b.id
-        → OnOk result (ObeyTables S.Store tx.new.conn.now)) }
     ensures no_commit { NoCommit S.Store tx.old.conn.now tx.new.conn.now }
     ensures rolled_back { UndoneOnErr S.Store tx.old.conn.now tx.new.conn.now result }
     ensures fails_from_outside { GivenBooksTx S.Store tx.old.conn.now tx.new.conn.now

@@ -13,7 +13,6 @@ ghost use Rattle.store_tables.specs.OnConnections.{
   ListsTable,
   MissesOrFailsFromOutside,
   NoCommit,
-  ObeyTables,
   OnlyReads,
   UnchangedIfAnswered,
   UnchangedOnOk,
@@ -63,8 +62,6 @@ pub fn insert_import<S: Alter>(
         (AddsImport S.Store tx.new.conn.now book key.now added edited same number imports)) }
     ensures writes { GivenImportsTx S.Store tx.old.conn.now tx.new.conn.now
         (λ _. OnOk result (WritesOnly S.Store tx.old.conn.now tx.new.conn.now 7)) }
-    ensures obeys { GivenImportsTx S.Store tx.old.conn.now tx.new.conn.now
-        (λ _. OnOk result (ObeyTables S.Store tx.new.conn.now)) }
     ensures no_commit { NoCommit S.Store tx.old.conn.now tx.new.conn.now }
     ensures rolled_back { UndoneOnErr S.Store tx.old.conn.now tx.new.conn.now result }
     ensures fails_from_outside { GivenImportsTx S.Store tx.old.conn.now tx.new.conn.now

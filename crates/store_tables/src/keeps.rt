@@ -14,7 +14,6 @@ ghost use Rattle.store_tables.specs.OnConnections.{
   ListsTable,
   MissesOrFailsFromOutside,
   NoCommit,
-  ObeyTables,
   OnlyReads,
   UnchangedIfAnswered,
   UnchangedOnOk,
@@ -52,8 +51,6 @@ pub fn insert_keep<S: Alter>(
         (λ keeps. OnOk result (AddsKeep S.Store tx.new.conn.now book keep keeps)) }
     ensures writes { GivenKeepsTx S.Store tx.old.conn.now tx.new.conn.now
         (λ _. OnOk result (WritesOnly S.Store tx.old.conn.now tx.new.conn.now 9)) }
-    ensures obeys { GivenKeepsTx S.Store tx.old.conn.now tx.new.conn.now
-        (λ _. OnOk result (ObeyTables S.Store tx.new.conn.now)) }
     ensures no_commit { NoCommit S.Store tx.old.conn.now tx.new.conn.now }
     ensures rolled_back { UndoneOnErr S.Store tx.old.conn.now tx.new.conn.now result }
     ensures fails_from_outside { GivenKeepsTx S.Store tx.old.conn.now tx.new.conn.now

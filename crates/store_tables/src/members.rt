@@ -27,7 +27,6 @@ ghost use Rattle.store_tables.specs.OnConnections.{
   KeepsCommit,
   MissesOrFailsFromOutside,
   NoCommit,
-  ObeyTables,
   OnlyReads,
   PutsRow,
   SurvivesAsBefore,
@@ -160,8 +159,6 @@ fn update_member<S: Alter>(
         (λ ms. IfOk result (λ count. count ≡ length (filter (has_uid book uid.now) ms))) }
     ensures writes { GivenMembersTx S.Store tx.old.conn.now tx.new.conn.now
         (λ _. OnOk result (WritesOnly S.Store tx.old.conn.now tx.new.conn.now 4)) }
-    ensures obeys { GivenMembersTx S.Store tx.old.conn.now tx.new.conn.now
-        (λ _. OnOk result (ObeyTables S.Store tx.new.conn.now)) }
     ensures takes_one_id { GivenMembersTx S.Store tx.old.conn.now tx.new.conn.now
         (λ _. (count : ℕ) → HasFreeIds (count + 1) (table_rows S.Store tx.old.conn.now 4)
         → OnOk result (HasFreeIds count (table_rows S.Store tx.new.conn.now 4))) }
@@ -197,8 +194,6 @@ pub fn put_member<S: Alter>(
         (PutsRow S.Store tx.new.conn.now book uid.now changed (option_copied card.entry) ms)) }
     ensures writes { GivenMembersTx S.Store tx.old.conn.now tx.new.conn.now
         (λ _. OnOk result (WritesOnly S.Store tx.old.conn.now tx.new.conn.now 4)) }
-    ensures obeys { GivenMembersTx S.Store tx.old.conn.now tx.new.conn.now
-        (λ _. OnOk result (ObeyTables S.Store tx.new.conn.now)) }
     ensures takes_one_id { GivenMembersTx S.Store tx.old.conn.now tx.new.conn.now
         (λ _. (count : ℕ) → HasFreeIds (count + 1) (table_rows S.Store tx.old.conn.now 4)
         → OnOk result (HasFreeIds count (table_rows S.Store tx.new.conn.now 4))) }
@@ -232,8 +227,6 @@ fn insert_member<S: Alter>(
         (PutsRow S.Store tx.new.conn.now book uid.now changed (option_copied card.entry) ms)) }
     ensures writes { GivenMembersTx S.Store tx.old.conn.now tx.new.conn.now
         (λ _. OnOk result (WritesOnly S.Store tx.old.conn.now tx.new.conn.now 4)) }
-    ensures obeys { GivenMembersTx S.Store tx.old.conn.now tx.new.conn.now
-        (λ _. OnOk result (ObeyTables S.Store tx.new.conn.now)) }
     ensures takes_one_id { GivenMembersTx S.Store tx.old.conn.now tx.new.conn.now
         (λ _. (count : ℕ) → HasFreeIds (count + 1) (table_rows S.Store tx.old.conn.now 4)
         → OnOk result (HasFreeIds count (table_rows S.Store tx.new.conn.now 4))) }
@@ -280,8 +273,6 @@ fn put_new_member<S: Alter>(
         (PutsRow S.Store tx.new.conn.now book uid.now changed (option_copied card.entry) ms)) }
     ensures writes { GivenMembersTx S.Store tx.old.conn.now tx.new.conn.now
         (λ _. OnOk result (WritesOnly S.Store tx.old.conn.now tx.new.conn.now 4)) }
-    ensures obeys { GivenMembersTx S.Store tx.old.conn.now tx.new.conn.now
-        (λ _. OnOk result (ObeyTables S.Store tx.new.conn.now)) }
     ensures takes_one_id { GivenMembersTx S.Store tx.old.conn.now tx.new.conn.now
         (λ _. (count : ℕ) → HasFreeIds (count + 1) (table_rows S.Store tx.old.conn.now 4)
         → OnOk result (HasFreeIds count (table_rows S.Store tx.new.conn.now 4))) }
@@ -320,8 +311,6 @@ pub fn put_with_hint<S: Alter>(
         (PutsRow S.Store tx.new.conn.now book uid.now changed (option_copied card.entry) ms)) }
     ensures writes { GivenMembersTx S.Store tx.old.conn.now tx.new.conn.now
         (λ _. OnOk result (WritesOnly S.Store tx.old.conn.now tx.new.conn.now 4)) }
-    ensures obeys { GivenMembersTx S.Store tx.old.conn.now tx.new.conn.now
-        (λ _. OnOk result (ObeyTables S.Store tx.new.conn.now)) }
     ensures takes_one_id { GivenMembersTx S.Store tx.old.conn.now tx.new.conn.now
         (λ _. (count : ℕ) → HasFreeIds (count + 1) (table_rows S.Store tx.old.conn.now 4)
         → OnOk result (HasFreeIds count (table_rows S.Store tx.new.conn.now 4))) }
@@ -356,8 +345,6 @@ pub fn update_or_put<S: Alter>(
         (PutsRow S.Store tx.new.conn.now book uid.now changed (option_copied card.entry) ms)) }
     ensures writes { GivenMembersTx S.Store tx.old.conn.now tx.new.conn.now
         (λ _. OnOk result (WritesOnly S.Store tx.old.conn.now tx.new.conn.now 4)) }
-    ensures obeys { GivenMembersTx S.Store tx.old.conn.now tx.new.conn.now
-        (λ _. OnOk result (ObeyTables S.Store tx.new.conn.now)) }
     ensures takes_one_id { GivenMembersTx S.Store tx.old.conn.now tx.new.conn.now
         (λ _. (count : ℕ) → HasFreeIds (count + 1) (table_rows S.Store tx.old.conn.now 4)
         → OnOk result (HasFreeIds count (table_rows S.Store tx.new.conn.now 4))) }
@@ -391,8 +378,6 @@ pub fn forget_members<S: Alter>(
         (λ ms. IfOk result (λ count. count ≡ length (filter (is_removed_up_to book upto) ms))) }
     ensures writes { GivenMembersTx S.Store tx.old.conn.now tx.new.conn.now
         (λ _. OnOk result (WritesOnly S.Store tx.old.conn.now tx.new.conn.now 4)) }
-    ensures obeys { GivenMembersTx S.Store tx.old.conn.now tx.new.conn.now
-        (λ _. OnOk result (ObeyTables S.Store tx.new.conn.now)) }
     ensures no_commit { NoCommit S.Store tx.old.conn.now tx.new.conn.now }
     ensures rolled_back { UndoneOnErr S.Store tx.old.conn.now tx.new.conn.now result }
     ensures fails_from_outside { WriteFailsFromOutside S.Store tx.old.conn.now tx.new.conn.now

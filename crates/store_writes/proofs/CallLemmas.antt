@@ -22,7 +22,7 @@ use Rattle.store_rows.specs.TableRows.{TableRows, HoldsRows}
 use Rattle.store_rows.proofs.HeldRows.{books_held}
 use Rattle.store_lookups.specs.CallResults.{FollowsStep, FindsHeader, IsExactly, GivenCounts, GivenSoundRows}
 use Rattle.store_lookups.specs.Faults.{IsDeniedFault}
-use Rattle.store_writes.specs.TableChanges.{AppliesStep, CommitsOnce, HasBookRow, HoldBooksAfter, IsAtomic}
+use Rattle.store_writes.specs.TableChanges.{AppliesStep, CommitsOnce, CommitsStep, HasBookRow, HoldBooksAfter, IsAtomic}
 use Rattle.store_lookups.specs.StoredBooks.{HoldCounts, IsOpenOnHonestDisk, IsCommittedAndSound, KeepsCounts, stored_books}
 
 -- ---- the step of a book
@@ -157,16 +157,20 @@ module _ {A : Type 0} (H : TableRows → A → Database → Type 0) (step : Book
       right rows.rows returned whole order.1 had (books_held old.now rows.rows rows.holds rows.sound)
 
   -- the same after a crash
-  pub wrote_commits : (P : TableRows → Trees → Type 0) → ((rows : TableRows) → HoldsRows mid.now rows → AreSoundRows rows → Q rows → Survives mid new (P rows))
+  pub wrote_commits : (HasCleanDisk mid → IsTrue old.is_open) → (P : TableRows → Trees → Type 0) → ((rows : TableRows) → HoldsRows mid.now rows → AreSoundRows rows → Q rows → Survives mid new (P rows))
       → ((rows : TableRows) → Q rows → (db : Trees) → P rows db → HoldBooksAfter (step (books_of rows)) db) → CommitsOnce old new step
-  wrote_commits P crash holds was =
+  wrote_commits opened P crash holds stays =
+      survives_if old new (CommitsStep old step) (survives_then old mid new _ _ (λ _. ⊤) (λ _ db none. tt) (λ _ db none. tt) left.survives survives)
+      (λ clean.
+      let early = clean_before _ mid new survives clean in
+      let order : IsOpenOnHonestDisk old = (clean_before _ old mid left.survives early, opened early) in
+      let was = stays order in
       let rows = was.sound.rows in
       let held : stored_books old ≡ books_of rows = books_held old.now rows was.sound.holds was.sound.sound in
-      let returned = λ (clean : HasCleanDisk new). found rows (clean_before _ mid new survives clean) was.sound.holds was.sound.sound in
-      survives_if old new (HoldBooksAfter (step (stored_books old))) (survives_then old mid new _ _ (λ _. ⊤) (λ _ db none. tt) (λ _ db none. tt) left.survives survives)
-      (λ clean. survives_then old mid new _ _ (HoldBooksAfter (step (stored_books old))) (λ _ db none. absurd none)
-      (λ _ db made. subst (λ (books : Books). HoldBooksAfter (step books) db) (sym held) (holds rows (returned clean) db made))
-      left.survives (crash rows (holds_still old mid new same survives clean was) was.sound.sound (returned clean)))
+      let returned = found rows early was.sound.holds was.sound.sound in
+      survives_then old mid new _ _ (CommitsStep old step) (λ _ db none. absurd none)
+      (λ _ db made. (order, subst (λ (books : Books). HoldBooksAfter (step books) db) (sym held) (holds rows returned db made)))
+      left.survives (crash rows (holds_still old mid new same survives clean was) was.sound.sound returned))
 
 -- a call that looks up a book and then writes
 module _ {A : Type 0} (H : TableRows → A → Database → Type 0) (step : Books → Result (A × Books) Refusal) (old mid new : State) (name : List ℕ) (header : HeaderRow) (r : Result A Denied)
@@ -186,10 +190,10 @@ module _ {A : Type 0} (H : TableRows → A → Database → Type 0) (step : Book
       wrote_counts H step old mid new r same left Q found survives (λ rows clean holds kept returned. done rows clean (line_found rows holds kept returned)) before after right
 
   -- the same after a crash
-  pub written_commits : (P : TableRows → Trees → Type 0) → ((rows : TableRows) → HasBookRow mid.now rows name header → Survives mid new (P rows))
+  pub written_commits : (HasCleanDisk mid → IsTrue old.is_open) → (P : TableRows → Trees → Type 0) → ((rows : TableRows) → HasBookRow mid.now rows name header → Survives mid new (P rows))
       → ((rows : TableRows) → Q rows → (db : Trees) → P rows db → HoldBooksAfter (step (books_of rows)) db) → CommitsOnce old new step
-  written_commits P crash holds =
-      wrote_commits H step old mid new r same left Q found survives P (λ rows kept sound returned. crash rows (line_found rows kept sound returned)) holds
+  written_commits opened P crash holds =
+      wrote_commits H step old mid new r same left Q found survives opened P (λ rows kept sound returned. crash rows (line_found rows kept sound returned)) holds
 
 -- a failed write leaves the books, and so the numbers are right as they were
 pub failed_counts : {A E : Type 0} (H : A → Database → Type 0) (old new : State) (e : E) (counts : CountsByName) → IsAtomic old new (Err e) H → IsTrue new.is_open → AreCountsOf counts (stored_books old) → AreCountsOf counts (stored_books new)

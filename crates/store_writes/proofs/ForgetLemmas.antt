@@ -18,7 +18,7 @@ use Rattle.store_tables.specs.StatementEffects.{KeepsOtherTables, WritesOnly}
 use Rattle.sqlite.specs.Tree.{Trees}
 use Rattle.store_rows.specs.TableBooks.{HeaderRow, line_row, numbers_row, row_book, books_of, books_in}
 use Rattle.store_rows.specs.TableRows.{TableRows, WritesTable, forgotten_rows, renumbered_rows}
-use Rattle.store_rows.proofs.BookLemmas.{changes_one, renumbering_held}
+use Rattle.store_rows.proofs.BookLemmas.{changes_one, naturals_row, renumbering_held}
 use Rattle.store_rows.proofs.HeldRows.{books_held}
 use Rattle.store_rows.proofs.RemovedLemmas.{forgetting_forgets, forgetting_held}
 use Rattle.store_lookups.specs.Faults.{IsDeniedFault}
@@ -27,7 +27,7 @@ use Rattle.store_lookups.specs.StoredBooks.{stored_books}
 use Rattle.store_writes.proofs.CallLemmas.{fault_does}
 
 pub writes_table : (tree : ℕ) (old new : State) → WritesOnly tree old new → WritesTable tree old.now new.now
-writes_table tree old new w = record { schema = w.schema; other_tables = w.other_tables }
+writes_table tree old new w = record { schema = w.schema; obeys = w.obeys; other_tables = w.other_tables }
 
 pub spares_books : (old new : Trees) → KeepsOtherTables 4 old new → new 2 ≡ old 2
 spares_books old new h = h.1.0 (λ e. cc)
@@ -44,7 +44,7 @@ module _ (old mid new : State) (rows : TableRows) (name : List ℕ) (header : He
       let left = forgotten_rows (pos header.id) (pos upto) rows in
       let numbers = numbers_row header.number upto header.counts in
       let one = forgetting_held old.now mid.now rows (line_row name header) upto line.holds line.sound members (writes_table 4 old mid first) in
-      let two = renumbering_held mid.now new.now left (pos header.id) numbers one.holds one.within.sound books (writes_table 2 mid new second) in
+      let two = renumbering_held mid.now new.now left (pos header.id) numbers one.holds one.within.sound (naturals_row header.number upto header.counts) books (writes_table 2 mid new second) in
       record {
         holds = record {
           sound = record { rows = renumbered_rows (pos header.id) numbers left; holds = two.holds; sound = two.sound };

@@ -1,5 +1,5 @@
 -- What writing a member changes in the tables.
-use Rattle.std.proofs.Common.{◌+◌, ℕ, pos, List, Option, ap, ◌∙◌}
+use Rattle.std.proofs.Common.{◌+◌, ℕ, pos, List, Option, refl, ap, ◌∙◌}
 use Rattle.std.specs.FinMap as finite
 use Rattle.sqlite.specs.State.{State}
 use Rattle.book_model.specs.declared.change.Change.{Change}
@@ -12,7 +12,7 @@ use Rattle.store_tables.specs.StatementEffects.{WritesOnly}
 use Rattle.store_rows.specs.ChangeLaws.{IsCardTextOf}
 use Rattle.store_rows.specs.TableBooks.{HeaderRow, line_row, numbers_row, row_book, books_of}
 use Rattle.store_rows.specs.TableRows.{TableRows, put_rows, renumbered_rows}
-use Rattle.store_rows.proofs.BookLemmas.{changes_one, renumbering_held}
+use Rattle.store_rows.proofs.BookLemmas.{changes_one, naturals_row, renumbering_held}
 use Rattle.store_rows.proofs.WriteLemmas.{put_held, put_is_row}
 use Rattle.store_writes.specs.TableChanges.{HasBookRow, HoldsChange}
 use Rattle.store_writes.proofs.ForgetLemmas.{writes_table}
@@ -23,10 +23,10 @@ module _ (old mid new : State) (rows : TableRows) (name : List ℕ) (header : He
       → HasBooks new (with_book_numbers (pos header.id) (numbers_row (header.number + 1) header.horizon (counts_after_change change header.counts)) rows.books) → WritesOnly 2 mid new
       → HoldsInTx new (λ db. HoldsChange db rows (pos header.id) (finite.insert (books_of rows) name (book_with_row (row_book rows (line_row name header)) uid change)))
   row_put line is put first books second =
-      let one = put_held old.now mid.now rows (line_row name header) uid (pos (header.number + 1)) text line.holds line.sound line.there put (writes_table 4 old mid first) in
+      let one = put_held old.now mid.now rows (line_row name header) uid (pos (header.number + 1)) text line.holds line.sound line.there refl is.canonical put (writes_table 4 old mid first) in
       let with_it = put_rows one.id (pos header.id) uid (pos (header.number + 1)) text rows in
       let numbers = numbers_row (header.number + 1) header.horizon (counts_after_change change header.counts) in
-      let two = renumbering_held mid.now new.now with_it (pos header.id) numbers one.holds one.within.sound books (writes_table 2 mid new second) in
+      let two = renumbering_held mid.now new.now with_it (pos header.id) numbers one.holds one.within.sound (naturals_row (header.number + 1) header.horizon (counts_after_change change header.counts)) books (writes_table 2 mid new second) in
       record {
         holds = record {
           rows_after = renumbered_rows (pos header.id) numbers with_it;

@@ -3,6 +3,7 @@ use Rattle.std.proofs.Common.{◌≡◌, ◌≢◌, inl, inr, ◌≤◌, ℕ, Li
 use Rattle.std.specs.Prelude.{IsErrAnd, MatchResult}
 use Rattle.std.proofs.lemmas.Bool.{cases_Bool}
 use Rattle.std.proofs.lemmas.Int.{ints}
+use Rattle.sqlite.specs.Effect.{IsDatabase}
 use Rattle.sqlite.specs.Order.{Row}
 use Rattle.sqlite.specs.State.{State, IsLive, Survives}
 use Rattle.sqlite.specs.Steps.{FailsToCommit}
@@ -14,9 +15,9 @@ use Rattle.book_model.specs.declared.denied.Denied.{Denied}
 use Rattle.book_model.specs.declared.denied.Denied.TheVariants.{Refused}
 use Rattle.book_model.specs.declared.refusal.Refusal.{Refusal}
 use Rattle.book_model.specs.declared.denied.Fault.TheVariants.{Memory, Store}
-use Rattle.store_tables.specs.Acceptance.{HasFreeIds, ObeyTables}
+use Rattle.store_tables.specs.Acceptance.{HasFreeIds}
 use Rattle.store_tables.specs.Failures.{HasOutsideCause}
-use Rattle.store_tables.specs.Tables.{book_schema}
+use Rattle.store_tables.specs.Tables.{ObeyTables, book_schema}
 use Rattle.store_tables.proofs.FailureLemmas.{outside_of}
 use Rattle.store_lookups.specs.Faults.{denied_by_fault, error_fault}
 use Rattle.store_lookups.proofs.StoreFaultLemmas.{never_store, not_memory, passed_cause}
@@ -31,9 +32,9 @@ outside_sooner old mid new P after (inr (inr limit)) = inr (inr limit)
 pub if_open : (old new : State) → (IsTrue old.is_open → HasOutsideCause old new) → HasOutsideCause old new
 if_open old new h = elim (cases_Bool old.is_open) [ inl up ↦ h up | inr shut ↦ inl shut ]
 
--- the tables of an open connection obey their constraints
+-- an open connection lists its tables, which obey their constraints
 pub live_obeys : (s : State) → IsLive s → s.now.schema ≡ book_schema → IsTrue s.is_open → ObeyTables s.now.trees
-live_obeys s live schema up = subst (λ k. Rattle.sqlite_schema.specs.Rules.Obeys k s.now.trees) schema (live up).0.obeys
+live_obeys s live schema up = subst (λ k. IsDatabase (record { schema = k; trees = s.now.trees })) schema (live up).0
 
 -- the commit failed
 pub commit_fails : (mid end : State) (e : Error) → IsTrue mid.in_transaction → FailsToCommit mid end e → e ≢ SqliteFailure OutOfMemory → HasOutsideCause mid end

@@ -80,6 +80,11 @@ abbrev pub HoldBooksAfter : {A : Type 0} → Result (A × Books) Refusal → Tre
 HoldBooksAfter (Ok done) trees = TreesHold done.1 trees
 HoldBooksAfter (Err refusal) trees = ⊥
 
+-- the same, and the connection was open on an honest disk before
+abbrev pub CommitsStep : {A : Type 0} → State → (Books → Result (A × Books) Refusal) → Trees → Type 0
+CommitsStep old step trees =
+    IsOpenOnHonestDisk old × HoldBooksAfter (step (stored_books old)) trees
+
 -- ---- the contract of a changing call
 
 -- No transaction is open after the call. If the connection is open on an honest disk after it, it
@@ -92,8 +97,10 @@ pub record AppliesStep {A : Type 0} (old new : State) (r : Result A Denied)
   pub matches_step : IsOpenOnHonestDisk new → IsCommittedAndSound old →
       MatchesStep r (step (stored_books old)) (stored_books old) (stored_books new)
 
--- A crash leaves what it could leave before the call, or the one commit, which is the whole step.
+-- A crash leaves what it could leave before the call, or the one commit, which is the whole step. It
+-- is made only over a connection that was open on an honest disk. The condition is that the tables
+-- of such a connection were committed and sound.
 abbrev pub CommitsOnce : {A : Type 0} → State → State → (Books → Result (A × Books) Refusal)
     → Type 0
-CommitsOnce old new step =
-    IsCommittedAndSound old → Survives old new (HoldBooksAfter (step (stored_books old)))
+CommitsOnce old new step = (IsOpenOnHonestDisk old → IsCommittedAndSound old) →
+    Survives old new (CommitsStep old step)

@@ -1,7 +1,7 @@
 //! Column values: the numbers of a book's row, and the text of a card.
 ghost use Rattle.book_model.specs.Counting.{total_changes};
 ghost use Rattle.store_rows.specs.TableBooks.{numbers_row};
-ghost use Rattle.store_rows.specs.Values.{text_card};
+ghost use Rattle.store_rows.specs.Values.{IsCanonical, text_card};
 ghost use Rattle.store_lookups.specs.Faults.{IsDeniedFault};
 ghost use Rattle.store_lookups.specs.StoreFaults.{FailsOnlyForMemory};
 ghost use Rattle.store_tables.specs.Books.{numbers_of};
@@ -42,6 +42,7 @@ pub fn columns_of(number: u64, horizon: u64, counts: Counts) -> Result<BookNumbe
 pub fn text_of_card(alloc: Global, card: &Card) -> Result<String, Denied>
     ensures canonical { IfOk result (λ text. string_bytes text ≡ canonical_text card.now) }
     ensures reads_back { IfOk result (λ text. text_card (string_bytes text) ≡ card.now) }
+    ensures is_canonical { IfOk result (λ text. IsCanonical (string_bytes text)) }
     ensures fault { IfErr result IsDeniedFault }
     ensures memory { FailsOnlyForMemory result }
 {

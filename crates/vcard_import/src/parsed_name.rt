@@ -37,12 +37,36 @@ fn name_of_parts(alloc: Global, parts: &[String]) -> Result<String, NoMemory> {
     Ok(name)
 }
 
+/// The value with spaces in place of the commas between the items of its lists. A comma after a
+/// backslash is one of the text.
+fn with_spaces(alloc: Global, value: &str) -> Result<String, NoMemory> {
+    let mut spaced = String::new(alloc);
+    let mut is_escaped = false;
+    for c in value.chars() {
+        spaced.push(if c == ',' && !is_escaped { ' ' } else { c })?;
+        is_escaped = c == '\\' && !is_escaped;
+    }
+    Ok(spaced)
+}
+
+/// The name that the value of N gives: its words with a space between them.
+fn name_of_n(alloc: Global, value: &str) -> Result<String, NoMemory> {
+    let value = with_spaces(alloc, value)?;
+    let parts = components(alloc, value.as_str())?;
+    let text = name_of_parts(alloc, parts.as_slice())?;
+    let mut name = String::new(alloc);
+    for word in text.as_str().split(' ') {
+        push_word(&mut name, word)?;
+    }
+    Ok(name)
+}
+
 /// The name that a line gives: all components of N, and the first of any other.
 fn name_of_line(alloc: Global, line: &Line) -> Result<String, NoMemory> {
-    let parts = components(alloc, line.value.as_str())?;
     if line.name.as_str() == "N" {
-        return name_of_parts(alloc, parts.as_slice());
+        return name_of_n(alloc, line.value.as_str());
     }
+    let parts = components(alloc, line.value.as_str())?;
     let mut name = String::new(alloc);
     push_word(&mut name, part(parts.as_slice(), 0))?;
     Ok(name)

@@ -99,3 +99,28 @@ pub(crate) fn basic_date(alloc: Global, text: &str) -> Result<String, NoMemory> 
     }
     Ok(out)
 }
+
+/// Whether the text is a date of vCard 4.0 without a time (RFC 6350, section 4.3.1): one in the basic
+/// form, or one without its year, its month or its day.
+fn is_day(text: &str) -> bool {
+    match text.as_bytes() {
+        [b'-', b'-', b'-', a, b] => are_digits(&[*a, *b]),
+        [b'-', b'-', a, b] => are_digits(&[*a, *b]),
+        [b'-', b'-', a, b, c, d] => are_digits(&[*a, *b, *c, *d]),
+        [a, b, c, d] => are_digits(&[*a, *b, *c, *d]),
+        [a, b, c, d, b'-', e, f] => are_digits(&[*a, *b, *c, *d, *e, *f]),
+        [_, _, _, _, _, _, _, _] => has_basic_date(text),
+        _ => false,
+    }
+}
+
+/// Whether the text is a date of vCard 4.0, with or without a time after its T, or a time (section
+/// 4.3.4).
+pub(crate) fn is_date(text: &str) -> bool {
+    match text.split_once('T') {
+        Some((date, time)) => {
+            (date.is_empty() || is_day(date)) && !time.is_empty() && are_of_dates(time.as_bytes())
+        }
+        None => is_day(text),
+    }
+}

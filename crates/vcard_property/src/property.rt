@@ -86,6 +86,12 @@ fn read_params(alloc: Global, property: &mut Property, parts: &[&str]) -> Result
     Ok(())
 }
 
+/// Whether the text before a colon may be a name with its group, as programs write them. In a text
+/// that goes on in another line it has other characters.
+fn may_be_name(head: &str) -> bool {
+    head.chars().all(|c| c.is_ascii_graphic() && c != '=')
+}
+
 /// The property of that value, without parameters. `None` if it has no name.
 fn named_property(
     alloc: Global,
@@ -93,6 +99,9 @@ fn named_property(
     value: &str,
     version: Version,
 ) -> Result<Option<Property>, NoMemory> {
+    if !may_be_name(head) {
+        return Ok(None);
+    }
     let (group, name) = split_group(head);
     let Some(name) = upper_name(alloc, name)? else {
         return Ok(None);

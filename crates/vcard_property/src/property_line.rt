@@ -1,7 +1,7 @@
 //! The line of vCard 4.0 for a property of any version (RFC 6350, section 6 and appendix A).
 
 use crate::binary::{data_uri, decoded_base64, is_format};
-use crate::dates::basic_date;
+use crate::dates::{basic_date, is_date};
 use crate::escapes::{ValueForm, with_escapes};
 use crate::geo::geo_value;
 use crate::line_parts::{make_param, make_value, with_carets};
@@ -38,8 +38,9 @@ const PLAIN_NAMES: [&str; 18] = [
 ];
 
 /// Whether a comma in a value of the name is a part of its text.
-fn escapes_commas(name: &str, version: Version) -> bool {
+fn escapes_commas(name: &str, version: Version, is_text: bool) -> bool {
     match name {
+        "BDAY" | "ANNIVERSARY" => is_text && version != Version::Fourth,
         "FN" | "NOTE" | "TITLE" | "ROLE" | "ORG" => version != Version::Fourth,
         "N" | "ADR" => version == Version::Old,
         _ => false,
@@ -66,9 +67,10 @@ fn says_text(property: &Property) -> bool {
 }
 
 fn form_of(name: &str, property: &Property, version: Version) -> ValueForm {
+    let is_text = says_text(property);
     ValueForm {
-        is_plain: property.is_uri || (is_one_of(name, &PLAIN_NAMES) && !says_text(property)),
-        escapes_commas: escapes_commas(name, version),
+        is_plain: property.is_uri || (is_one_of(name, &PLAIN_NAMES) && !is_text),
+        escapes_commas: escapes_commas(name, version, is_text),
         is_old: version == Version::Old,
     }
 }
@@ -176,10 +178,44 @@ fn omit_year_of_date(alloc: Global, property: &mut Property) -> Result<(), NoMem
     Ok(())
 }
 
+/// Whether the property is one of vCard 4.0 whose value should be a date, and is none.
+fn is_dateless(alloc: Global, property: &Property) -> Result<bool, NoMemory> {
+    let is_dated = matches!(property.name.as_str(), "BDAY" | "ANNIVERSARY");
+    if !is_dated || property.is_uri || property.value.is_empty() || says_text(property) {
+        return Ok(false);
+    }
+    let date = basic_date(alloc, property.value.as_str())?;
+    Ok(!is_date(date.as_str()))
+}
+
+/// The parameters without VALUE.
+fn without_value_type(alloc: Global, params: Items<Param>) -> Result<Items<Param>, NoMemory> {
+    let mut others = Items::new(alloc);
+    for param in params.into_vec() {
+        if param.name.as_str() != "VALUE" {
+            others.push(param)?;
+        }
+    }
+    Ok(others)
+}
+
+/// Says that the value is a text (RFC 6350, sections 6.2.5 and 6.2.6), if it should be a date and is
+/// none.
+fn mark_text(alloc: Global, property: &mut Property) -> Result<(), NoMemory> {
+    if !is_dateless(alloc, property)? {
+        return Ok(());
+    }
+    let params = mem::replace(&mut property.params, Items::new(alloc));
+    property.params = without_value_type(alloc, params)?;
+    property.params.push(make_param(alloc, "VALUE", "text")?)?;
+    Ok(())
+}
+
 /// The line of a text or a URI.
 fn text_or_uri_line(alloc: Global, property: Property, version: Version) -> Result<Line, NoMemory> {
     let mut property = property;
     omit_year_of_date(alloc, &mut property)?;
+    mark_text(alloc, &mut property)?;
     add_agent(alloc, &mut property)?;
     let value = text_value(alloc, &property, version)?;
     let name = name_of(

@@ -6,7 +6,7 @@ use Rattle.sqlite.specs.State.{State}
 use Rattle.sqlite.specs.Tree.{Trees}
 use Rattle.store_tables.specs.Keeps.{AreKeeps, HoldKeeps, KeepRow}
 use Rattle.store_tables.specs.SchemaCreation.{first_schema}
-use Rattle.store_tables.specs.StatementEffects.{WritesOnly}
+use Rattle.store_tables.specs.StatementEffects.{KeepsOtherTables}
 use Rattle.store_tables.specs.Tables.{book_schema}
 use Rattle.store_schema.specs.FirstSchema.{first_number}
 use Rattle.store_migration.specs.internal.FirstRows.{HasOneSchemaNumber}
@@ -17,9 +17,15 @@ pub record IsFirstWithId (id : ℤ) (db : Database) : Type 0 where
   pub schema : db.schema ≡ first_schema
   pub one : HasOneSchemaNumber id first_number db
 
+-- no other table than that of the keeps changed, and the transaction is still open
+pub record ChangesKeeps (old new : State) : Type 0 where
+  pub schema : new.now.schema ≡ book_schema
+  pub other_tables : KeepsOtherTables 9 old.now.trees new.now.trees
+  pub inside : IsTrue new.in_transaction
+
 -- these keeps were written, and no other table changed
 pub record WroteKeeps (keep_rows : List KeepRow) (old new : State) : Type 0 where
-  pub wrote : WritesOnly 9 old new
+  pub wrote : ChangesKeeps old new
   pub hold : HoldKeeps (new.now.trees 9) keep_rows
   pub apart : AreKeeps keep_rows
 

@@ -1,5 +1,5 @@
 -- The tables before, between and after the writes of a resync.
-use Rattle.std.specs.Prelude.{◌≡◌, ◌≢◌, ◌<◌, ◌≤◌, ℕ, pos, false, List, map, Some}
+use Rattle.std.specs.Prelude.{◌≡◌, ◌≢◌, ◌<◌, ◌≤◌, ℕ, pos, false, IfSome, List, map, Some}
 use Rattle.std.specs.List.{slice_get}
 use Rattle.std.specs.Ordering.{int_eq}
 use Rattle.sqlite.specs.Effect.{Database}
@@ -14,6 +14,7 @@ use Rattle.store_rows.specs.TableRows.{TableRows, HoldsRows}
 use Rattle.store_resync.specs.declared.planning.BookPlan.{BookPlan}
 use Rattle.store_resync.specs.declared.stages.Stage.{Stage}
 use Rattle.store_resync.specs.declared.stages.Stage.TheVariants.{Pairs, Forgetting}
+use Rattle.store_resync.specs.internal.Plans.{HasCanonicalText}
 use Rattle.store_resync.specs.internal.Stages.{header_before, header_after, book_after_stage}
 
 -- ---- one book
@@ -59,7 +60,8 @@ abbrev pub AreApart : List BookPlan → Type 0
 AreApart plans = (i j : ℕ) (a b : BookPlan) → slice_get plans i ≡ Some a →
     slice_get plans j ≡ Some b → i ≢ j → int_eq (pos a.header.id) (pos b.header.id) ≡ false
 
--- the tables hold these sound rows, among them the row of each plan before the stage
+-- The tables hold these sound rows, among them the row of each plan before the stage. The text of
+-- each renewed card is canonical.
 pub record HasPlannedRows (db : Database) (rows : TableRows) (plans : List BookPlan)
     (stage : Stage) : Type 0 where
   pub holds : HoldsRows db rows
@@ -67,6 +69,8 @@ pub record HasPlannedRows (db : Database) (rows : TableRows) (plans : List BookP
   pub each : (i : ℕ) (plan : BookPlan) → slice_get plans i ≡ Some plan
       → Has rows.books (line_row plan.name (header_before stage plan))
   pub apart : AreApart plans
+  pub texts : (i : ℕ) (plan : BookPlan) → slice_get plans i ≡ Some plan
+      → IfSome plan.renewed HasCanonicalText
 
 -- the row and the book of the plan are as before the stage
 abbrev pub IsRowBefore : TableRows → TableRows → BookPlan → Stage → Type 0

@@ -1,5 +1,5 @@
 -- Definitions over connections, for private contracts, as in `store_tables`.
-use Rattle.std.specs.Prelude.{ℕ, List, Result, OnOk, IsTrue}
+use Rattle.std.specs.Prelude.{ℕ, IfSome, List, Result, OnOk, IsTrue}
 use Rattle.sqlite.specs.Held.{Held, state}
 use Rattle.store_tables.specs.OnConnections.{Ghosts, HasCleanDisk, HoldsInTx, KeepsCommit, Survives}
 use Rattle.store_rows.specs.TableRows.{TableRows}
@@ -10,14 +10,17 @@ use Rattle.store_resync.specs.declared.stages.Stage.TheVariants.{Pairs}
 use Rattle.store_resync.specs.internal.Changes as changes
 use Rattle.store_resync.specs.internal.Changes.{HoldsMembers, HoldsStage, HoldsResync}
 use Rattle.store_resync.specs.internal.Changes.{TreesHoldResync}
+use Rattle.store_resync.specs.internal.Plans.{HasCanonicalText}
 use Rattle.store_resync.specs.internal.Stages.{header_before}
 
 module _ {S : Type 0} (store : Ghosts S) (old new : Held S) where
   -- ---- one book
 
-  -- inside a transaction, over tables that held the row of the plan before the stage, under a name
+  -- inside a transaction, over tables that held the row of the plan before the stage, under a name;
+  -- the text of the renewed card is canonical
   abbrev pub InTxWithPlan : BookPlan → Stage → (TableRows → List ℕ → Type 0) → Type 0
-  InTxWithPlan plan stage = InTxWithBook store old new (header_before stage plan)
+  InTxWithPlan plan stage Then = IfSome plan.renewed HasCanonicalText →
+      InTxWithBook store old new (header_before stage plan) Then
 
   -- a success writes the members of the plan's book
   abbrev pub WritesMembersInTx : {T E : Type 0} → BookPlan → Stage → Result T E → Type 0

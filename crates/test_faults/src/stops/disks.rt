@@ -4,6 +4,7 @@
 //! `Alter`: a function that names a database over such disks takes 15 to 40 seconds to check, and
 //! only one does, `over_disks`.
 
+use database_files::{into_files, open_again};
 use sqlite::{Alter, Connection, FileStore, Files, Options};
 use sqlite_disk::{Crash, Disk, Fuse, Memory};
 use std::alloc::Global;
@@ -127,14 +128,6 @@ pub(crate) fn empty_disks<D: FusedDisk>(alloc: Global, fuse: FuseAt) -> Files<D>
     }
 }
 
-/// The same disks after a power failure, if no fuse burns.
-pub(crate) fn crash_disks<D: FusedDisk>(disks: Files<D>) -> Files<D> {
-    let mut disks = disks;
-    disks.log.crash();
-    disks.db.crash();
-    disks
-}
-
 /// Work over the tables of disks.
 pub(crate) trait Work {
     /// Does the work. Returns the connection unless the work consumes it.
@@ -157,17 +150,9 @@ fn open_disks<D: Disk + Drop>(
         checkpoint_frames: 12,
         seed,
     };
-    match Connection::open_files(alloc, disks, options) {
+    match open_again(alloc, disks, options) {
         Ok(tables) => Ok(tables),
         Err((_, left)) => Err(left.into_files()),
-    }
-}
-
-/// Does the work over the tables, and closes the connection if the work returns it.
-fn over_tables<S: Alter + Drop, W: Work>(tables: Connection<S>, work: &mut W) -> Option<S> {
-    match work.over(tables) {
-        Some(tables) => Some(tables.into_store()),
-        None => None,
     }
 }
 
@@ -181,8 +166,8 @@ pub(crate) fn over_disks<D: FusedDisk, W: Work>(
     work: &mut W,
 ) -> Option<Files<D>> {
     match open_disks(alloc, disks, seed) {
-        Ok(tables) => match over_tables(tables, work) {
-            Some(store) => Some(store.close()),
+        Ok(tables) => match work.over(tables) {
+            Some(tables) => Some(into_files(tables)),
             None => None,
         },
         Err(disks) => Some(disks),

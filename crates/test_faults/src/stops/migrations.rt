@@ -2,11 +2,12 @@
 
 use crate::first_schema::{create_first_schema, migrate_tables, store_over};
 use crate::stops::disks::{
-    CrashKind, FuseAt, FusedDisk, NO_FUSE, Place, Work, copy_disks, crash_disks, empty_disks,
-    is_burnt, over_disks,
+    CrashKind, FuseAt, FusedDisk, NO_FUSE, Place, Work, copy_disks, empty_disks, is_burnt,
+    over_disks,
 };
 use crate::stops::sweep::{CALLS_MAX, Sweep};
 use book_store::OpenFault;
+use database_files::crash_files;
 use sqlite::{Alter, Connection, Files};
 use std::alloc::Global;
 use sync_core::{BookStore, Limits};
@@ -175,7 +176,7 @@ fn check_both<D: FusedDisk>(
     let alloc = sweep.alloc;
     let found = check_migrated(alloc, copy_disks(alloc, &disks, NO_FUSE)?, expected_books);
     sweep.count_state(calls, CrashKind::Written, found)?;
-    let found = check_migrated(alloc, crash_disks(disks), expected_books);
+    let found = check_migrated(alloc, crash_files(disks), expected_books);
     sweep.count_state(calls, CrashKind::Synced, found)
 }
 

@@ -1,10 +1,9 @@
 //! Stops the list at each call of one file's disk.
 
 use crate::stops::checking::{Stop, check_left};
-use crate::stops::disks::{
-    CrashKind, FuseAt, FusedDisk, NO_FUSE, Place, copy_disks, crash_disks, is_burnt,
-};
+use crate::stops::disks::{CrashKind, FuseAt, FusedDisk, NO_FUSE, Place, copy_disks, is_burnt};
 use crate::stops::run::{Ending, Run, run_list};
+use database_files::crash_files;
 use sqlite::Files;
 use std::alloc::Global;
 use test_support::crash_plans::commands::Kind;
@@ -161,7 +160,7 @@ fn check_both<D: FusedDisk>(
 ) -> Result<(), NoMemory> {
     let written = copy_disks(sweep.alloc, &disks, NO_FUSE)?;
     check_way(stop, written, CrashKind::Written, calls, sweep)?;
-    check_way(stop, crash_disks(disks), CrashKind::Synced, calls, sweep)
+    check_way(stop, crash_files(disks), CrashKind::Synced, calls, sweep)
 }
 
 /// Checks the disks of the run. Returns whether it was stopped.

@@ -68,7 +68,7 @@ module _ (g : given.Over) (c : After-write_create g) where
   crash : CommitsOnce (old g planning) new (step g planning)
   crash =
       wrote_commits made (step g planning) (old g planning) (mid g planning) new (Ok c.in_ok-id.id)
-      c.in_ok-id.ensures.unchanged c.plan_create.ensures.reads_only planned c.in_ok-id.ensures.planned c.write_create.ensures.survives
+      c.in_ok-id.ensures.unchanged c.plan_create.ensures.reads_only planned c.in_ok-id.ensures.planned c.write_create.ensures.survives c.in_ok-id.ensures.was_open
       (λ rows. TreesHold (created rows)) (λ rows holds sound returned. c.write_create.ensures.crash rows (record { holds = holds; sound = sound; free = returned.0 }))
       (λ rows returned db held. created_holds c.args.limits rows c.args.name.now c.in_ok-id.id returned.1 db (subst (λ k. TreesHold (finite.insert (books_of rows) c.args.name.now (fresh_book c.in_ok-id.id k)) db) c.keep.ensures.value held))
 

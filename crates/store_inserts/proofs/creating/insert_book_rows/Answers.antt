@@ -61,7 +61,7 @@ returns-in_err-insert_keep-clause-fails_from_outside g c rows accepts clean insi
     let id : to_z w64 (of_z w64 c.args.id) ≡ c.args.id = to_z-of_z c.ranges.id in
     let added = c.in_ok-insert_book.ensures.adds rows.books early inside schema line.sound.books line.holds.books in
     let one = c.in_ok-insert_book.ensures.writes rows.books early inside schema line.sound.books line.holds.books in
-    let kept = c.in_ok-insert_book.ensures.obeys rows.books early inside schema line.sound.books line.holds.books in
+    let kept = one.obeys in
     let held : HoldKeeps (mid.now.trees 9) rows.keeps = subst (λ k. HoldKeeps k rows.keeps) (sym (spares_keeps old.now.trees mid.now.trees one.other_tables)) line.holds.keeps in
     let unused = subst (λ z. AllByRecursion (λ k. is_keep_of z k ≡ false) rows.keeps) (sym id) accepts.no_keep in
     let listed = some_from (has_id (to_z w64 (of_z w64 c.args.id))) (blank_book (to_z w64 (of_z w64 c.args.id)) c.args.name.now ∷ rows.books) (blank_book (to_z w64 (of_z w64 c.args.id)) c.args.name.now) (inl refl) (int_itself (to_z w64 (of_z w64 c.args.id))) in

@@ -104,7 +104,7 @@ module _ (g : given.Over) (c : After-commit_import g) where
   crash : CommitsOnce (old g planning) new (step g planning)
   crash =
       wrote_commits made (step g planning) (old g planning) (mid g planning) new (Ok c.in-New.tally)
-      c.in_ok-header.ensures.unchanged c.plan_import.ensures.reads_only planned found c.commit_import.ensures.survives
+      c.in_ok-header.ensures.unchanged c.plan_import.ensures.reads_only planned found c.commit_import.ensures.survives c.in_ok-header.ensures.was_open
       (λ rows. TreesHold (whole rows)) (λ rows holds sound h. rw c.as_slice.ensures.value at (c.commit_import.ensures.crash rows c.args.name.now (line rows holds sound h) h.1))
       (λ rows h db held. answered_holds (step g planning (books_of rows)) c.in-New.tally (whole rows) db h.2 held)
 

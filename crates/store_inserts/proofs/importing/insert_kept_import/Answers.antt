@@ -28,7 +28,7 @@ returns-in-Ok-clause-book_after g c rows name book clean inside wrote free =
 
 pub returns-in-Ok-clause-obeys : goal.returns-in-Ok-clause-obeys
 returns-in-Ok-clause-obeys g c rows name book clean inside wrote obeys =
-    c.in-Ok.ensures.obeys wrote.now.imports clean inside wrote.holds.schema wrote.within.sound.imports wrote.holds.imports
+    (c.in-Ok.ensures.writes wrote.now.imports clean inside wrote.holds.schema wrote.within.sound.imports wrote.holds.imports).obeys
 
 -- ---- faults
 

@@ -2,7 +2,8 @@ use Rattle.std.proofs.Common.{◌≡◌, ◌+◌, ℕ, take}
 use Rattle.sqlite.specs.Held.{state}
 use Rattle.sqlite.specs.State.{KeepsCommit, Survives}
 use Rattle.store_inserts.specs.internal.Importing.{InWrittenBookTx, WritesBook, book_with_stored}
-use Rattle.store_tables.specs.Acceptance.{HasFreeIds, ObeyTables}
+use Rattle.store_tables.specs.Acceptance.{HasFreeIds}
+use Rattle.store_tables.specs.Tables.{ObeyTables}
 use Rattle.store_tables.specs.SchemaCreation.{HoldsInTx}
 use Rattle.store_inserts.proofs.importing.write_next_cards.Given as goal
 

@@ -108,7 +108,7 @@ module _ (g : given.Over) (c : After-write_move g) where
   crash =
       let plan = c.in_ok-plan.plan in
       wrote_commits made (step g planning) (old g planning) (mid g planning) new (Ok plan.moved)
-      c.in_ok-plan.ensures.unchanged c.plan_move.ensures.reads_only planned found c.write_move.ensures.survives
+      c.in_ok-plan.ensures.unchanged c.plan_move.ensures.reads_only planned found c.write_move.ensures.survives c.in_ok-plan.ensures.was_open
       (λ rows. TreesHold (moved rows)) (λ rows holds sound returned. c.write_move.ensures.crash rows c.args.from.now c.args.to.now (both_there rows holds sound returned))
       (λ rows returned db held. moved_holds c.args.limits rows c.args.from.now c.args.to.now c.args.uid.now c.args.expect plan.source plan.target plan.card plan.moved plan.drop returned.0.source returned.0.target returned.0.apart returned.0.moving returned.0.drop db held)
 

@@ -100,7 +100,7 @@ module _ (g : given.Over) (c : After-write_remove g) where
   crash =
       let plan = c.in_ok-plan.plan in
       written_commits made (step g planning) (old g planning) (mid g planning) new c.args.name.now plan.header (Ok plan.number)
-      c.in_ok-plan.ensures.unchanged c.plan_remove.ensures.reads_only planned found (λ rows h. h.0.named) c.write_remove.ensures.survives
+      c.in_ok-plan.ensures.unchanged c.plan_remove.ensures.reads_only planned found (λ rows h. h.0.named) c.write_remove.ensures.survives c.in_ok-plan.ensures.was_open
       (λ rows. TreesHold (removed rows)) (λ rows line. c.write_remove.ensures.crash rows c.args.name.now line)
       (λ rows h db held. named_row_held rows c.args.name.now plan.header (remove_of c.args.limits (books_of rows) c.args.name.now c.args.uid.now c.args.expect) db h.0.named
       (removed_holds rows c.args.name.now plan.header c.args.uid.now c.args.limits c.args.expect plan.number plan.drop h.0.number h.0.drop db held))

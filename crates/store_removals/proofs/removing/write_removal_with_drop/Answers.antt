@@ -3,7 +3,7 @@
 -- of books, which both spare (`spares_books`); `row_dropped` joins all three. None of them commits
 -- (`keeps_commit`).
 -- A fourth statement breaks `returns-clause-books_after` first.
-use Rattle.std.proofs.Common.{◌≡◌, ◌+◌, IsTrue, List, ℕ, None, pos, to_z, of_z, w64, sym, subst, ◌∙◌, rules, ◌≢◌, Err, IfErr}
+use Rattle.std.proofs.Common.{◌≡◌, ◌+◌, IsTrue, List, ℕ, None, pos, to_z, of_z, w64, sym, subst, refl, ◌∙◌, rules, ◌≢◌, Err, IfErr}
 use Rattle.sqlite.specs.declared.error.Error.TheVariants.{SqliteFailure}
 use Rattle.sqlite.specs.declared.error.ErrorCode.TheVariants.{OutOfMemory}
 use Rattle.store_tables.specs.Acceptance.{AcceptsMember}
@@ -80,7 +80,7 @@ returns-clause-books_after g c header why last changed_is upto_is columns rows n
     let uid = c.args.uid.now in
     let puts = subst (λ z. PutsRow a.now.trees z uid (pos (header.number + 1)) None rows.members) id (subst (λ z. PutsRow a.now.trees (to_z w64 (of_z w64 c.args.id)) uid z None rows.members) at (c.in_ok-put_member.ensures.puts rows.members second inside line.holds.schema line.sound.members line.holds.members)) in
     let first = c.in_ok-put_member.ensures.writes rows.members second inside line.holds.schema line.sound.members line.holds.members in
-    let one = put_held (old g p).now a.now rows (line_row name header) uid (pos (header.number + 1)) None line.holds line.sound line.there puts (writes_table 4 (old g p) a first) in
+    let one = put_held (old g p).now a.now rows (line_row name header) uid (pos (header.number + 1)) None line.holds line.sound line.there refl tt puts (writes_table 4 (old g p) a first) in
     let ms = upsert_member one.id (pos header.id) uid (pos (header.number + 1)) None rows.members in
     let members = subst (λ z. HasMembers b (without_removed z (pos last) ms)) id (subst (λ z. HasMembers b (without_removed (to_z w64 (of_z w64 c.args.id)) z ms)) until (c.in_ok-forget_members.ensures.forgets ms third first.inside first.schema one.within.sound.members one.holds.members)) in
     let two = c.in_ok-forget_members.ensures.writes ms third first.inside first.schema one.within.sound.members one.holds.members in
@@ -123,7 +123,7 @@ returns-in_err-forget_members-clause-fails_from_outside g c rows name header id_
     let line = accepts.book.line in
     let early : HasCleanDisk mid = clean_before _ mid new c.forget_members.ensures.no_commit.survives clean in
     let one = c.in_ok-put_member.ensures.writes rows.members early inside schema line.sound.members line.holds.members in
-    let kept = c.in_ok-put_member.ensures.obeys rows.members early inside schema line.sound.members line.holds.members in
+    let kept = one.obeys in
     let said : c.from_residual-in_err-forget_members.result ≡ Err c.in_err-forget_members.field-0.0 = search rules in
     subst (λ r. IfErr r (λ e. e ≢ SqliteFailure OutOfMemory → HasOutsideCause old new)) (sym said)
     (λ room. outside_later old mid new _ _ c.put_member.ensures.no_commit.survives early c.forget_members.ensures.no_commit.survives
@@ -142,7 +142,7 @@ returns-in_err-renumber_book-clause-fails_from_outside g c rows name header id_i
     let first = c.in_ok-put_member.ensures.writes rows.members second inside schema line.sound.members line.holds.members in
     let ms = upsert_member puts.id (to_z w64 (of_z w64 c.args.id)) c.args.uid.now (to_z w64 (of_z w64 c.args.changed)) None rows.members in
     let two = c.in_ok-forget_members.ensures.writes ms third first.inside first.schema puts.kept puts.hold in
-    let kept = c.in_ok-forget_members.ensures.obeys ms third first.inside first.schema puts.kept puts.hold in
+    let kept = two.obeys in
     let held : HoldBooks (b.now.trees 2) rows.books = subst (λ k. HoldBooks k rows.books) (sym (spares_books a.now.trees b.now.trees two.other_tables ∙ spares_books (old g p).now.trees a.now.trees first.other_tables)) line.holds.books in
     let both = survives_then (old g p) a b _ _ (λ _. ⊥) (λ _ db none. none) (λ _ db none. none) c.put_member.ensures.no_commit.survives c.forget_members.ensures.no_commit.survives in
     let said : c.from_residual-in_err-renumber_book.result ≡ Err c.in_err-renumber_book.field-0.0 = search rules in

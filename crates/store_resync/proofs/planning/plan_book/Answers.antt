@@ -70,7 +70,7 @@ returns-then-has_room-clause-planned g c rows clean holds sound book at =
     let room : has_room c.args.limits (live_count header.counts) ≡ true = search rules in
     book_planned c.args.limits c.args.pairs rows c.args.name.now header book named at c.in_ok-own_name.own_name c.in_ok-last.last c.counts_after_pairs-counts.result None
     (search rules) (value g p) (sum g p) (search rules) (last_is g p) (search rules) (search rules)
-    (with_room c.args.limits (row_book rows (line_row c.args.name.now header)) room) tt
+    (with_room c.args.limits (row_book rows (line_row c.args.name.now header)) room) tt tt
 
 pub returns-in_err-live-clause-planned : goal.returns-in_err-live-clause-planned
 returns-in_err-live-clause-planned g c rows clean holds sound book at =
@@ -100,7 +100,7 @@ returns-clause-planned g c rows clean holds sound book at =
     subst (λ m. IsRenewed c.in_ok-renewed.renewed (slice_get (finite.entries m) 0)) live (rw c.from_map.ensures at c.in_ok-renewed.ensures.renewed) in
     book_planned c.args.limits c.args.pairs rows c.args.name.now header book named at c.in_ok-own_name.own_name c.in_ok-last.last c.counts_after_pairs-counts.result c.in_ok-renewed.renewed
     (search rules) (value g p) (sum g p) (search rules) (last_is g p) (search rules) (search rules)
-    (without_room c.args.limits own c.in_ok-renewed.renewed full renewed) c.in_ok-renewed.ensures.short
+    (without_room c.args.limits own c.in_ok-renewed.renewed full renewed) c.in_ok-renewed.ensures.short c.in_ok-renewed.ensures.canonical
 
 -- ---- reads
 

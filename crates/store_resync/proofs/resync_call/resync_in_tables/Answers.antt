@@ -91,7 +91,7 @@ module _ (g : given.Over) (c : After-commit_resync g) where
   crash : CommitsOnce (old g planning) new (step g planning)
   crash =
       wrote_commits made (step g planning) (old g planning) (mid g planning) new (Ok (length plans))
-      c.in_ok-plans.ensures.unchanged c.plan_resync.ensures.reads_only IsPlanned found c.commit_resync.ensures.survives
+      c.in_ok-plans.ensures.unchanged c.plan_resync.ensures.reads_only IsPlanned found c.commit_resync.ensures.survives c.in_ok-plans.ensures.was_open
       (λ rows. TreesHoldResync rows plans)
       (λ rows holds sound h. rw c.as_slice.ensures.value at (c.commit_resync.ensures.crash rows (rw c.as_slice.ensures.value (planned_rows c.args.limits c.args.pairs rows plans h.sound h.are (mid g planning).now holds))))
       (λ rows h db done. resync_left c.args.limits (books_of rows) c.args.pairs db h.accepted (held rows _ h done))

@@ -25,9 +25,10 @@ pub returns-clause-writes : goal.returns-clause-writes
 returns-clause-writes g c bs clean inside has kept rows b there is =
     let old = state g.S.Store c.args.tx.now.conn.now in
     let new = state g.S.Store c.execute.new.self.conn.now in
-    let all = updates_rows old new (numbers c.args.number c.args.horizon c.args.created c.args.edited c.args.imported c.args.import_edited c.args.moved_in c.args.deleted c.args.moved_out) bs b c.execute.result has kept there rows
-    (rw (c.params-to_sql.ensures, c.params-to_sql-2.ensures, c.params-to_sql-3.ensures, c.params-to_sql-4.ensures, c.params-to_sql-5.ensures, c.params-to_sql-6.ensures, c.params-to_sql-7.ensures, c.params-to_sql-8.ensures, c.params-to_sql-9.ensures, c.params-to_sql-10.ensures, to_z-of_z c.ranges.id, to_z-of_z c.ranges.number, to_z-of_z c.ranges.horizon, to_z-of_z c.ranges.created, to_z-of_z c.ranges.edited, to_z-of_z c.ranges.imported, to_z-of_z c.ranges.import_edited, to_z-of_z c.ranges.moved_in, to_z-of_z c.ranges.deleted, to_z-of_z c.ranges.moved_out, is) at (c.execute.ensures.runs clean inside)) in
-    written_by 2 old new c.execute.result (on_ok_weaker c.execute.result (λ h. (h.0, h.2)) all) (executed_inside _ _ old new c.execute.result (c.execute.ensures.runs clean inside))
+    let ran = rw (c.params-to_sql.ensures, c.params-to_sql-2.ensures, c.params-to_sql-3.ensures, c.params-to_sql-4.ensures, c.params-to_sql-5.ensures, c.params-to_sql-6.ensures, c.params-to_sql-7.ensures, c.params-to_sql-8.ensures, c.params-to_sql-9.ensures, c.params-to_sql-10.ensures, to_z-of_z c.ranges.id, to_z-of_z c.ranges.number, to_z-of_z c.ranges.horizon, to_z-of_z c.ranges.created, to_z-of_z c.ranges.edited, to_z-of_z c.ranges.imported, to_z-of_z c.ranges.import_edited, to_z-of_z c.ranges.moved_in, to_z-of_z c.ranges.deleted, to_z-of_z c.ranges.moved_out, is) at (c.execute.ensures.runs clean inside) in
+    let all = updates_rows old new (numbers c.args.number c.args.horizon c.args.created c.args.edited c.args.imported c.args.import_edited c.args.moved_in c.args.deleted c.args.moved_out) bs b c.execute.result has kept there rows ran in
+    written_by 2 old new c.execute.result (on_ok_weaker c.execute.result (λ h. (h.0, h.2)) all)
+    (executed_obeys update_text _ old new has (Update 1 (record { lets = []; body = update_query })) update_is.0 update_is.1 tt c.execute.result ran (on_ok_weaker c.execute.result (λ h. h.0) all)) (executed_inside _ _ old new c.execute.result ran)
 
 pub returns-clause-no_commit : goal.returns-clause-no_commit
 returns-clause-no_commit g c =
@@ -41,13 +42,5 @@ pub returns-clause-fails_from_outside : goal.returns-clause-fails_from_outside
 returns-clause-fails_from_outside g c bs clean inside has kept rows accepts _ _ _ obeys =
     let is : c.args.id ≡ accepts.0.id = accepts.2 in
     update_fails (state g.S.Store c.args.tx.now.conn.now) (state g.S.Store c.execute.new.self.conn.now) (numbers c.args.number c.args.horizon c.args.created c.args.edited c.args.imported c.args.import_edited c.args.moved_in c.args.deleted c.args.moved_out) bs accepts.0 c.execute.result
-    has kept rows accepts.1 (subst (FitsSigned w64) is c.ranges.id) accepts.3 obeys
+    has kept rows accepts.1 (subst (FitsSigned w64) is c.ranges.id) accepts.3 obeys.obeys
     (rw (c.params-to_sql.ensures, c.params-to_sql-2.ensures, c.params-to_sql-3.ensures, c.params-to_sql-4.ensures, c.params-to_sql-5.ensures, c.params-to_sql-6.ensures, c.params-to_sql-7.ensures, c.params-to_sql-8.ensures, c.params-to_sql-9.ensures, c.params-to_sql-10.ensures, to_z-of_z c.ranges.id, to_z-of_z c.ranges.number, to_z-of_z c.ranges.horizon, to_z-of_z c.ranges.created, to_z-of_z c.ranges.edited, to_z-of_z c.ranges.imported, to_z-of_z c.ranges.import_edited, to_z-of_z c.ranges.moved_in, to_z-of_z c.ranges.deleted, to_z-of_z c.ranges.moved_out, is) at (c.execute.ensures.runs clean inside))
-
-pub returns-clause-obeys : goal.returns-clause-obeys
-returns-clause-obeys g c bs clean inside has kept rows b there is =
-    let old = state g.S.Store c.args.tx.now.conn.now in
-    let new = state g.S.Store c.execute.new.self.conn.now in
-    let ran = rw (c.params-to_sql.ensures, c.params-to_sql-2.ensures, c.params-to_sql-3.ensures, c.params-to_sql-4.ensures, c.params-to_sql-5.ensures, c.params-to_sql-6.ensures, c.params-to_sql-7.ensures, c.params-to_sql-8.ensures, c.params-to_sql-9.ensures, c.params-to_sql-10.ensures, to_z-of_z c.ranges.id, to_z-of_z c.ranges.number, to_z-of_z c.ranges.horizon, to_z-of_z c.ranges.created, to_z-of_z c.ranges.edited, to_z-of_z c.ranges.imported, to_z-of_z c.ranges.import_edited, to_z-of_z c.ranges.moved_in, to_z-of_z c.ranges.deleted, to_z-of_z c.ranges.moved_out, is) at (c.execute.ensures.runs clean inside) in
-    executed_obeys update_text _ old new has (Update 1 (record { lets = []; body = update_query })) update_is.0 update_is.1 tt c.execute.result ran
-    (on_ok_weaker c.execute.result (λ h. h.0) (updates_rows old new (numbers c.args.number c.args.horizon c.args.created c.args.edited c.args.imported c.args.import_edited c.args.moved_in c.args.deleted c.args.moved_out) bs b c.execute.result has kept there rows ran))

@@ -22,11 +22,13 @@ returns-clause-dropped g c ms clean inside has kept rows =
     (rw (c.params-to_sql.ensures, c.params-to_sql-2.ensures, to_z-of_z c.ranges.book, to_z-of_z c.ranges.upto) at (c.execute.ensures.runs clean inside))
 
 pub returns-clause-writes : goal.returns-clause-writes
-returns-clause-writes g c ms clean inside has kept rows =
+returns-clause-writes g c xs clean inside has kept rows =
     let old = state g.S.Store c.args.tx.now.conn.now in
     let new = state g.S.Store c.execute.new.self.conn.now in
     let ran = rw (c.params-to_sql.ensures, c.params-to_sql-2.ensures, to_z-of_z c.ranges.book, to_z-of_z c.ranges.upto) at (c.execute.ensures.runs clean inside) in
-    written_by 4 old new c.execute.result (on_ok_weaker c.execute.result (λ h. (h.0, h.2)) (forgets_inside old new c.args.book c.args.upto ms c.execute.result has kept rows ran)) (executed_inside _ _ old new c.execute.result ran)
+    let all = forgets_inside old new c.args.book c.args.upto xs c.execute.result has kept rows ran in
+    written_by 4 old new c.execute.result (on_ok_weaker c.execute.result (λ h. (h.0, h.2)) all)
+    (executed_obeys forget_text _ old new has (Delete 2 (record { lets = []; body = forget_query })) forget_is.0 forget_is.1 tt c.execute.result ran (on_ok_weaker c.execute.result (λ h. h.0) all)) (executed_inside _ _ old new c.execute.result ran)
 
 pub returns-clause-no_commit : goal.returns-clause-no_commit
 returns-clause-no_commit g c =
@@ -38,12 +40,5 @@ returns-clause-rolled_back g c clean inside =
 
 pub returns-clause-fails_from_outside : goal.returns-clause-fails_from_outside
 returns-clause-fails_from_outside g c clean inside has obeys =
-    forget_fails (state g.S.Store c.args.tx.now.conn.now) (state g.S.Store c.execute.new.self.conn.now) c.args.book c.args.upto c.execute.result has obeys
+    forget_fails (state g.S.Store c.args.tx.now.conn.now) (state g.S.Store c.execute.new.self.conn.now) c.args.book c.args.upto c.execute.result has obeys.obeys
     (rw (c.params-to_sql.ensures, c.params-to_sql-2.ensures, to_z-of_z c.ranges.book, to_z-of_z c.ranges.upto) at (c.execute.ensures.runs clean inside))
-
-pub returns-clause-obeys : goal.returns-clause-obeys
-returns-clause-obeys g c xs clean inside has kept rows =
-    let old = state g.S.Store c.args.tx.now.conn.now in
-    let new = state g.S.Store c.execute.new.self.conn.now in
-    let ran = rw (c.params-to_sql.ensures, c.params-to_sql-2.ensures, to_z-of_z c.ranges.book, to_z-of_z c.ranges.upto) at (c.execute.ensures.runs clean inside) in
-    executed_obeys forget_text _ old new has (Delete 2 (record { lets = []; body = forget_query })) forget_is.0 forget_is.1 tt c.execute.result ran (on_ok_weaker c.execute.result (λ h. h.0) (forgets_inside old new c.args.book c.args.upto xs c.execute.result has kept rows ran))

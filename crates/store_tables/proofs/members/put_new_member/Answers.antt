@@ -2,11 +2,10 @@ use Rattle.std.proofs.Common.{◌≡◌}
 use Rattle.std.proofs.Math.Facts.{to_z-of_z}
 use Rattle.sqlite.specs.Held.{state}
 use Rattle.sqlite.specs.State.{HasCleanDisk}
-use Rattle.sqlite_schema.specs.Rules.{Obeys}
 use Rattle.store_tables.specs.Acceptance.{HasFreeIds}
 use Rattle.store_tables.specs.Books.{HoldBooks}
 use Rattle.store_tables.specs.Members.{HoldMembers}
-use Rattle.store_tables.specs.Tables.{book_schema}
+use Rattle.store_tables.specs.Tables.{ObeyTables, book_schema}
 use Rattle.store_tables.proofs.FailureLemmas.{outside_later}
 use Rattle.store_tables.proofs.ReturningLemmas.{if_err_weaker, still, still_inside}
 use Rattle.store_tables.proofs.SchemaCreationLemmas.{clean_before}
@@ -23,7 +22,7 @@ returns-then-is_violation-clause-fails_from_outside g c ms clean inside has kept
     let named = still old mid same (λ db. db.schema ≡ book_schema) has in
     if_err_weaker c.put_member.result (λ e outside room. outside_later old mid new _ _ c.insert_member.ensures.no_commit.survives early c.put_member.ensures.no_commit.survives (outside room))
     (c.put_member.ensures.fails_from_outside ms clean on named kept (still old mid same (λ db. HoldMembers (db.trees 4) ms) rows) bs (still old mid same (λ db. HoldBooks (db.trees 2) bs) books)
-    (still old mid same (λ db. HasFreeIds 1 (db.trees 4)) ids) (rw (to_z-of_z c.ranges.book, to_z-of_z c.ranges.changed) accepts) clean on named (still old mid same (λ db. Obeys book_schema db.trees) obeys))
+    (still old mid same (λ db. HasFreeIds 1 (db.trees 4)) ids) (rw (to_z-of_z c.ranges.book, to_z-of_z c.ranges.changed) accepts) clean on named (still old mid same (λ db. ObeyTables db.trees) obeys))
 
 pub returns-else-is_violation-clause-fails_from_outside : goal.returns-else-is_violation-clause-fails_from_outside
 returns-else-is_violation-clause-fails_from_outside g c ms clean inside has kept rows bs books ids accepts _ _ _ obeys room =

@@ -37,9 +37,11 @@ pub returns-clause-writes : goal.returns-clause-writes
 returns-clause-writes g c ms clean inside has kept rows =
     let old = state g.S.Store c.args.tx.now.conn.now in
     let new = state g.S.Store c.execute.new.self.conn.now in
-    written_by 4 old new c.execute.result (on_ok_of c.execute.result (λ count h. (h.schema, h.others)) (changes_inside (state g.S.Store c.args.tx.now.conn.now) (state g.S.Store c.execute.new.self.conn.now) c.args.book c.args.uid.now c.args.changed (option_copied c.args.card) ms c.execute.result has kept rows
-    (rw (c.params-to_sql.ensures, c.params-to_sql-2.ensures, c.params-to_sql-3.ensures, c.params-to_sql-4.ensures, card_bound c.args.card, to_z-of_z c.ranges.book, to_z-of_z c.ranges.changed) at (c.execute.ensures.runs clean inside))))
-    (executed_inside _ _ old new c.execute.result (c.execute.ensures.runs clean inside))
+    let ran = rw (c.params-to_sql.ensures, c.params-to_sql-2.ensures, c.params-to_sql-3.ensures, c.params-to_sql-4.ensures, card_bound c.args.card, to_z-of_z c.ranges.book, to_z-of_z c.ranges.changed) at (c.execute.ensures.runs clean inside) in
+    let all = changes_inside old new c.args.book c.args.uid.now c.args.changed (option_copied c.args.card) ms c.execute.result has kept rows ran in
+    written_by 4 old new c.execute.result (on_ok_of c.execute.result (λ count h. (h.schema, h.others)) all)
+    (executed_obeys change_text _ old new has (Update 2 (record { lets = []; body = change_query })) change_is.0 change_is.1 tt c.execute.result ran (on_ok_of c.execute.result (λ count h. h.schema) all))
+    (executed_inside _ _ old new c.execute.result ran)
 
 pub returns-clause-no_commit : goal.returns-clause-no_commit
 returns-clause-no_commit g c =
@@ -56,17 +58,9 @@ returns-clause-fails_from_outside g c ms clean inside has kept rows bs books ids
     let free = next_unused 1 (trees 4) (have_ids member_row member_cells (λ _. refl) member_id (λ _. refl) ms (trees 4) rows) ids in
     let wide = column_ids member_row member_cells (λ _. refl) member_id (λ _. refl) ms (trees 4) rows 1 ids in
     change_fails (state g.S.Store c.args.tx.now.conn.now) (state g.S.Store c.execute.new.self.conn.now) c.args.book c.args.uid.now c.args.changed (option_copied c.args.card) bs ms c.execute.result
-    has kept books rows accepts.listed accepts.unused accepts.short_uid accepts.short_card fits free wide obeys
+    has kept books rows accepts.listed accepts.unused accepts.short_uid accepts.short_card fits free wide obeys.obeys
     (rw (c.params-to_sql.ensures, c.params-to_sql-2.ensures, c.params-to_sql-3.ensures, c.params-to_sql-4.ensures, card_bound c.args.card, to_z-of_z c.ranges.book, to_z-of_z c.ranges.changed) at (c.execute.ensures.runs clean inside))
 
 pub returns-clause-takes_one_id : goal.returns-clause-takes_one_id
 returns-clause-takes_one_id g c ms clean inside has kept rows count ids = on_ok_of c.execute.result (λ n h. h.ids count ids) (changes_inside (state g.S.Store c.args.tx.now.conn.now) (state g.S.Store c.execute.new.self.conn.now) c.args.book c.args.uid.now c.args.changed (option_copied c.args.card) ms c.execute.result has kept rows
     (rw (c.params-to_sql.ensures, c.params-to_sql-2.ensures, c.params-to_sql-3.ensures, c.params-to_sql-4.ensures, card_bound c.args.card, to_z-of_z c.ranges.book, to_z-of_z c.ranges.changed) at (c.execute.ensures.runs clean inside)))
-
-pub returns-clause-obeys : goal.returns-clause-obeys
-returns-clause-obeys g c ms clean inside has kept rows =
-    let old = state g.S.Store c.args.tx.now.conn.now in
-    let new = state g.S.Store c.execute.new.self.conn.now in
-    executed_obeys change_text _ old new has (Update 2 (record { lets = []; body = change_query })) change_is.0 change_is.1 tt c.execute.result (rw (c.params-to_sql.ensures, c.params-to_sql-2.ensures, c.params-to_sql-3.ensures, c.params-to_sql-4.ensures, card_bound c.args.card, to_z-of_z c.ranges.book, to_z-of_z c.ranges.changed) at (c.execute.ensures.runs clean inside))
-    (on_ok_of c.execute.result (λ count h. h.schema) (changes_inside (state g.S.Store c.args.tx.now.conn.now) (state g.S.Store c.execute.new.self.conn.now) c.args.book c.args.uid.now c.args.changed (option_copied c.args.card) ms c.execute.result has kept rows
-    (rw (c.params-to_sql.ensures, c.params-to_sql-2.ensures, c.params-to_sql-3.ensures, c.params-to_sql-4.ensures, card_bound c.args.card, to_z-of_z c.ranges.book, to_z-of_z c.ranges.changed) at (c.execute.ensures.runs clean inside))))

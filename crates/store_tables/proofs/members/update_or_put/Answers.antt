@@ -26,7 +26,7 @@ returns-in_err-put_new_member-clause-fails_from_outside g c ms clean inside has 
     let said : c.from_residual-in_err-put_new_member.result ≡ Err c.in_err-put_new_member.field-0.0 = search rules in
     rw said (λ room. outside_later old mid new _ _ c.update_member.ensures.no_commit.survives early c.put_new_member.ensures.no_commit.survives
     (c.in_err-put_new_member.ensures.fails_from_outside ms clean one.inside one.schema kept (subst (λ l. HoldMembers l ms) (sym same) rows) bs still_books (subst (HasFreeIds 1) (sym same) ids)
-    (rw (to_z-of_z c.ranges.book, to_z-of_z c.ranges.changed) accepts) clean one.inside one.schema (c.in_ok-updated.ensures.obeys ms early inside has kept rows) room))
+    (rw (to_z-of_z c.ranges.book, to_z-of_z c.ranges.changed) accepts) clean one.inside one.schema one.obeys room))
 
 pub returns-in_ok-put_new_member-clause-takes_one_id : goal.returns-in_ok-put_new_member-clause-takes_one_id
 returns-in_ok-put_new_member-clause-takes_one_id g c ms clean inside has kept rows count ids =

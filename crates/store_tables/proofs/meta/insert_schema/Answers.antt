@@ -3,6 +3,9 @@ use Rattle.std.proofs.lemmas.Result.{on_ok_weaker}
 use Rattle.sqlite.specs.Held.{state}
 use Rattle.store_tables.proofs.ReturningLemmas.{keeps_executed, stays_executed, undone_executed, executed_inside, written_by}
 use Rattle.store_tables.proofs.MetaLemmas.{adds_schema_inside}
+use Rattle.store_tables.proofs.ObeyLemmas.{executed_obeys}
+use Rattle.store_tables.proofs.Queries.{add_schema_command, add_schema_text}
+use Rattle.store_tables.proofs.Texts.{add_schema_is}
 use Rattle.store_tables.proofs.meta.insert_schema.Goals as goal
 
 pub returns-clause-adds : goal.returns-clause-adds
@@ -15,7 +18,9 @@ returns-clause-writes g c clean inside has =
     let old = state g.S.Store c.args.tx.now.conn.now in
     let new = state g.S.Store c.execute.new.self.conn.now in
     let ran = rw (c.params-to_sql.ensures, to_z-of_z c.ranges.number) at (c.execute.ensures.runs clean inside) in
-    written_by 0 old new c.execute.result (on_ok_weaker c.execute.result (λ h. (h.0, h.2)) (adds_schema_inside old new c.args.number c.execute.result has ran)) (executed_inside _ _ old new c.execute.result ran)
+    let all = adds_schema_inside old new c.args.number c.execute.result has ran in
+    written_by 0 old new c.execute.result (on_ok_weaker c.execute.result (λ h. (h.0, h.2)) all)
+    (executed_obeys add_schema_text _ old new has add_schema_command add_schema_is.0 add_schema_is.1 tt c.execute.result ran (on_ok_weaker c.execute.result (λ h. h.0) all)) (executed_inside _ _ old new c.execute.result ran)
 
 pub returns-clause-no_commit : goal.returns-clause-no_commit
 returns-clause-no_commit g c = stays_executed _ _ (state g.S.Store c.args.tx.now.conn.now) (state g.S.Store c.execute.new.self.conn.now) c.execute.result c.execute.ensures.runs c.execute.ensures.survives

@@ -79,7 +79,7 @@ module _ (g : given.Over) (c : After-write_forget g) where
   crash : CommitsOnce (old g found) new (step g found)
   crash =
       written_commits made (step g found) (old g found) (mid g found) new c.args.name.now c.in_ok-header.header c.write_forget.result
-      c.in_ok-header.ensures.unchanged c.open_header.ensures.reads_only (λ rows. FindsHeader rows c.args.name.now (Ok c.in_ok-header.header)) c.in_ok-header.ensures.finds (λ rows h. h) c.write_forget.ensures.survives
+      c.in_ok-header.ensures.unchanged c.open_header.ensures.reads_only (λ rows. FindsHeader rows c.args.name.now (Ok c.in_ok-header.header)) c.in_ok-header.ensures.finds (λ rows h. h) c.write_forget.ensures.survives c.in_ok-header.ensures.was_open
       (λ rows. TreesHold (finite.insert (books_of rows) c.args.name.now (book_after_forget (row_book rows (line_row c.args.name.now c.in_ok-header.header)) c.args.upto))) (λ rows line. c.write_forget.ensures.crash rows c.args.name.now line)
       (λ rows named db made. named_row_held rows c.args.name.now c.in_ok-header.header (forget_of (books_of rows) c.args.name.now c.args.upto) db named (forget_holds rows c.args.name.now c.in_ok-header.header c.args.upto db may made))
 

@@ -62,7 +62,7 @@ returns-in_err-renumber_book-clause-fails_from_outside g c rows name header id_i
     let early : HasCleanDisk mid = clean_before _ mid new c.renumber_book.ensures.no_commit.survives clean in
     let id : to_z w64 (of_z w64 c.args.id) ≡ pos header.id = to_z-of_z c.ranges.id ∙ id_is in
     let one = c.in_ok-dropped.ensures.writes rows.members early inside schema line.sound.members line.holds.members in
-    let kept = c.in_ok-dropped.ensures.obeys rows.members early inside schema line.sound.members line.holds.members in
+    let kept = (c.in_ok-dropped.ensures.writes rows.members early inside schema line.sound.members line.holds.members).obeys in
     let held : HoldBooks (mid.now.trees 2) rows.books = subst (λ k. HoldBooks k rows.books) (sym (spares_books old.now.trees mid.now.trees one.other_tables)) line.holds.books in
     let said : c.from_residual-in_err-renumber_book.result ≡ Err c.in_err-renumber_book.field-0.0 = search rules in
     subst (λ r. IfErr r (λ e. e ≢ SqliteFailure OutOfMemory → HasOutsideCause old new)) (sym said)

@@ -87,7 +87,7 @@ module _ (g : given.Over) (c : After-write_put g) where
   crash : CommitsOnce (old g plan) new (step g plan)
   crash =
       written_commits made (step g plan) (old g plan) (mid g plan) new c.args.name.now c.in_ok-header.header (Ok c.in_ok-header.answer)
-      c.in_ok-header.ensures.unchanged c.plan_put.ensures.reads_only planned c.in_ok-header.ensures.planned (λ rows h. h.0) c.write_put.ensures.survives
+      c.in_ok-header.ensures.unchanged c.plan_put.ensures.reads_only planned c.in_ok-header.ensures.planned (λ rows h. h.0) c.write_put.ensures.survives c.in_ok-header.ensures.was_open
       (λ rows. TreesHold (put rows)) (λ rows line. c.write_put.ensures.crash rows c.args.name.now line)
       (λ rows h db held. named_row_held rows c.args.name.now c.in_ok-header.header (put_of c.args.limits (books_of rows) c.args.name.now c.args.card.now c.args.expect) db h.0
       (put_holds rows c.args.name.now c.in_ok-header.header c.args.limits c.args.card.now c.args.expect c.in_ok-header.answer c.in-Some.reason h.1 stores db held))

@@ -71,7 +71,7 @@ pub returns-clause-obeys : goal.returns-clause-obeys
 returns-clause-obeys g c header id_is rows name clean inside line =
     let p = (goal.at.returns-clause-obeys g c).After-renumber_book in
     let first = one g p rows name header id_is clean inside line in
-    c.in_ok-renumber_book.ensures.obeys rows.books clean first.inside first.schema line.sound.books (held g p rows name header id_is clean inside line) (line_row name header) line.there (id g p rows name header id_is clean inside line)
+    (c.in_ok-renumber_book.ensures.writes rows.books clean first.inside first.schema line.sound.books (held g p rows name header id_is clean inside line) (line_row name header) line.there (id g p rows name header id_is clean inside line)).obeys
 
 pub returns-clause-takes_one_id : goal.returns-clause-takes_one_id
 returns-clause-takes_one_id g c header id_is rows name clean inside line count free =
@@ -104,7 +104,7 @@ returns-in_err-renumber_book-clause-fails_from_outside g c rows name header id_i
     let line = accepts.book.line in
     let first = one g p rows name header id_is clean inside line in
     let early = clean_mid g p clean in
-    let kept = c.in_ok-update_or_put.ensures.obeys rows.members early inside schema line.sound.members line.holds.members in
+    let kept = first.obeys in
     let said : c.from_residual-in_err-renumber_book.result ≡ Err c.in_err-renumber_book.field-0.0 = search rules in
     subst (λ r. IfErr r (λ e. e ≢ SqliteFailure OutOfMemory → HasOutsideCause (old g p) (new g p))) (sym said)
     (λ room. outside_later (old g p) (mid g p) (new g p) _ _ c.update_or_put.ensures.survives early c.renumber_book.ensures.no_commit.survives

@@ -3,7 +3,7 @@
 -- nothing of a number that fits (`back_of`). For faults: numbers of rows that can be changed fit
 -- (`header_fits`), and the table accepts the member, as its number is unused and the rules of a
 -- card keep its UID and its text short (`accepts_member`).
-use Rattle.std.proofs.Common.{rules, ◌≡◌, ◌+◌, Some, option_copied, pos, to_z, of_z, w64, ap, arith, subst, sym}
+use Rattle.std.proofs.Common.{rules, ◌≡◌, ◌+◌, Some, option_copied, option_map, pos, string_bytes, to_z, of_z, w64, ap, arith, subst, sym}
 use Rattle.vcard_text.specs.Cards.{canonical_text, uid_of}
 use Rattle.store_lookups.proofs.ChangeFaultLemmas.{header_fits}
 use Rattle.store_writes.specs.AcceptedChanges.{AcceptsMemberOf}
@@ -12,7 +12,9 @@ use Rattle.store_writes.proofs.TransactionFaults.{mapped_faults, memory_cause}
 use Rattle.book_model.specs.declared.change.Change.{Change}
 use Rattle.book_model.specs.declared.change.Change.TheVariants.{Stores}
 use Rattle.sqlite.specs.Held.{state}
+use Rattle.book_model.specs.BookChanges.{card_after}
 use Rattle.store_rows.specs.ChangeLaws.{IsCardTextOf, header_after}
+use Rattle.store_rows.specs.Values.{IsCanonical, text_card}
 use Rattle.store_lookups.proofs.FindLemmas.{back_of}
 use Rattle.store_writes.specs.TableChanges.{AreHeaderColumns}
 use Rattle.store_writes.proofs.ChangeLemmas.{mapped_atomic}
@@ -26,7 +28,10 @@ module _ (g : given.Over) (c : After-commit_member g) where
   change = Stores c.args.card.now c.args.why
 
   text_is : IsCardTextOf (option_copied (Some c.as_str.result)) change
-  text_is = search rules
+  text_is =
+      let octets : c.as_str.result.now ≡ string_bytes c.in_ok-text.text = search rules in
+      let card : option_map text_card (Some c.as_str.result.now) ≡ card_after change = search rules in
+      record { canonical = subst IsCanonical (sym octets) c.in_ok-text.ensures.is_canonical; card = card }
 
   changed_is : to_z w64 (of_z w64 c.in_ok-changed.changed) ≡ pos (c.args.header.number + 1)
   changed_is = back_of c.in_ok-changed.changed (c.number.result + 1) (c.args.header.number + 1) c.in_ok-changed.ensures.ok c.in_ok-changed.ensures.fits (ap (λ k. k + 1) c.number.ensures)

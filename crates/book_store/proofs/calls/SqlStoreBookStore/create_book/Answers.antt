@@ -5,6 +5,8 @@ use Rattle.book_model.specs.Creating.{create_step}
 use Rattle.book_store.specs.StoreViews.{ChangesStore, StoreView}
 use Rattle.sqlite.specs.Held.{state}
 use Rattle.book_store.proofs.CountLemmas.{stepped_counts, created_counts}
+use Rattle.book_laws.proofs.WellFormedSteps.{creating_keeps_form}
+use Rattle.store_check.specs.OpenResults.{max_limits}
 use Rattle.book_store.proofs.StoreLemmas.{changed_store, changes_store}
 use Rattle.book_store.proofs.calls.SqlStoreBookStore.create_book.Goals as goal
 
@@ -22,7 +24,7 @@ pub invariant_of-self : goal.invariant_of-self
 invariant_of-self g c =
     let old = state g.S.Store c.self.inside.conn in
     let new = state g.S.Store c.create_in_tables.new.conn in (
-      changed_store old new c.self.inside.limits c.create_in_tables.result _ c.self.invariant.0 c.create_in_tables.ensures.changes,
+      changed_store old new c.self.inside.limits c.create_in_tables.result _ c.self.invariant.0 (λ fits books well. creating_keeps_form c.self.inside.limits max_limits books c.args.name.now c.self.invariant.0.range fits well) c.create_in_tables.ensures.changes c.create_in_tables.ensures.crash,
       stepped_counts old new c.self.inside.limits c.self.inside.counts c.self.inside.counts c.create_in_tables.result _ c.self.invariant.0 c.create_in_tables.ensures.changes c.self.invariant.1
           (λ from to matches right. created_counts c.self.inside.counts c.self.inside.limits c.args.name.now c.create_in_tables.result from to matches right),
     )

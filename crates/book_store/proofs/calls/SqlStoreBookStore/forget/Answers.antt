@@ -5,6 +5,8 @@ use Rattle.book_model.specs.Forgetting.{forget_step}
 use Rattle.book_store.specs.StoreViews.{ChangesStore, StoreView}
 use Rattle.sqlite.specs.Held.{state}
 use Rattle.book_store.proofs.CountLemmas.{kept_counts}
+use Rattle.book_laws.proofs.WellFormedSteps.{forgetting_keeps_form}
+use Rattle.store_check.specs.OpenResults.{max_limits}
 use Rattle.book_store.proofs.StoreLemmas.{changed_store, changes_store}
 use Rattle.book_store.proofs.calls.SqlStoreBookStore.forget.Goals as goal
 
@@ -22,6 +24,6 @@ pub invariant_of-self : goal.invariant_of-self
 invariant_of-self g c =
     let old = state g.S.Store c.self.inside.conn in
     let new = state g.S.Store c.forget_in_book.new.conn in (
-      changed_store old new c.self.inside.limits c.forget_in_book.result _ c.self.invariant.0 c.forget_in_book.ensures.changes,
+      changed_store old new c.self.inside.limits c.forget_in_book.result _ c.self.invariant.0 (λ fits books well. forgetting_keeps_form max_limits books c.args.book.now c.args.upto well) c.forget_in_book.ensures.changes c.forget_in_book.ensures.crash,
       kept_counts old new c.self.inside.limits c.self.inside.counts c.forget_in_book.new.counts c.forget_in_book.result _ c.self.invariant.0 c.forget_in_book.ensures.changes c.self.invariant.1 c.forget_in_book.ensures.counts,
     )

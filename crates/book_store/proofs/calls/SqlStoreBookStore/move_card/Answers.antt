@@ -5,6 +5,8 @@ use Rattle.book_model.specs.Moving.{move_step}
 use Rattle.book_store.specs.StoreViews.{ChangesStore, StoreView}
 use Rattle.sqlite.specs.Held.{state}
 use Rattle.book_store.proofs.CountLemmas.{kept_counts}
+use Rattle.book_laws.proofs.WellFormedSteps.{moving_keeps_form}
+use Rattle.store_check.specs.OpenResults.{max_limits}
 use Rattle.book_store.proofs.StoreLemmas.{changed_store, changes_store}
 use Rattle.book_store.proofs.calls.SqlStoreBookStore.move_card.Goals as goal
 
@@ -22,6 +24,6 @@ pub invariant_of-self : goal.invariant_of-self
 invariant_of-self g c =
     let old = state g.S.Store c.self.inside.conn in
     let new = state g.S.Store c.move_in_tables.new.conn in (
-      changed_store old new c.self.inside.limits c.move_in_tables.result _ c.self.invariant.0 c.move_in_tables.ensures.changes,
+      changed_store old new c.self.inside.limits c.move_in_tables.result _ c.self.invariant.0 (λ fits books well. moving_keeps_form c.self.inside.limits max_limits books c.args.from.now c.args.to.now c.args.uid.now c.args.expect fits well) c.move_in_tables.ensures.changes c.move_in_tables.ensures.crash,
       kept_counts old new c.self.inside.limits c.self.inside.counts c.move_in_tables.new.counts c.move_in_tables.result _ c.self.invariant.0 c.move_in_tables.ensures.changes c.self.invariant.1 c.move_in_tables.ensures.counts,
     )

@@ -5,6 +5,8 @@ use Rattle.book_model.specs.Removing.{remove_step}
 use Rattle.book_store.specs.StoreViews.{ChangesStore, StoreView}
 use Rattle.sqlite.specs.Held.{state}
 use Rattle.book_store.proofs.CountLemmas.{kept_counts}
+use Rattle.book_laws.proofs.WellFormedSteps.{removing_keeps_form}
+use Rattle.store_check.specs.OpenResults.{max_limits}
 use Rattle.book_store.proofs.StoreLemmas.{changed_store, changes_store}
 use Rattle.book_store.proofs.calls.SqlStoreBookStore.remove.Goals as goal
 
@@ -22,6 +24,6 @@ pub invariant_of-self : goal.invariant_of-self
 invariant_of-self g c =
     let old = state g.S.Store c.self.inside.conn in
     let new = state g.S.Store c.remove_in_book.new.conn in (
-      changed_store old new c.self.inside.limits c.remove_in_book.result _ c.self.invariant.0 c.remove_in_book.ensures.changes,
+      changed_store old new c.self.inside.limits c.remove_in_book.result _ c.self.invariant.0 (λ fits books well. removing_keeps_form c.self.inside.limits max_limits books c.args.book.now c.args.uid.now c.args.expect fits well) c.remove_in_book.ensures.changes c.remove_in_book.ensures.crash,
       kept_counts old new c.self.inside.limits c.self.inside.counts c.remove_in_book.new.counts c.remove_in_book.result _ c.self.invariant.0 c.remove_in_book.ensures.changes c.self.invariant.1 c.remove_in_book.ensures.counts,
     )

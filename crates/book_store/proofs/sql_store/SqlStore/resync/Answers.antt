@@ -1,14 +1,21 @@
-use Rattle.std.proofs.Common.{◌≡◌, ℕ, Result, refl, subst, sym}
+use Rattle.std.proofs.Common.{◌≡◌, ◌≤◌, ℕ, Result, Ok, Err, refl, subst, sym}
+use Rattle.std.specs.FinMap as finite
+use Rattle.book_model.specs.declared.refusal.Refusal.{Refusal}
+use Rattle.book_model.specs.Books.{Books}
+use Rattle.book_model.specs.WellFormed.{IsWellFormed}
+use Rattle.book_laws.specs.WellFormedLaws.{AreWithin, LeavesWellFormed}
 use Rattle.book_model.specs.declared.denied.Denied.{Denied}
-use Rattle.book_model.specs.Bounds.{IsInRange}
-use Rattle.book_resync.specs.Resyncing.{resync_step}
+use Rattle.book_model.specs.Bounds.{Bounds, IsInRange}
+use Rattle.book_resync.specs.Resyncing.{accept_books, books_after_resync, resync_step}
+use Rattle.book_resync.proofs.AllBooksLemmas.{resyncs_keep_well_formed}
+use Rattle.store_check.specs.OpenResults.{max_limits}
 use Rattle.book_store.specs.StoreResyncs.{ResyncsStore}
 use Rattle.book_store.specs.StoreViews.{IsStore, StoreView}
 use Rattle.sqlite.specs.Held.{state}
 use Rattle.sqlite_trees.specs.declared.store.Store.{Ghosts}
 use Rattle.store_writes.specs.TableChanges.{AppliesStep, CommitsOnce}
 use Rattle.book_store.proofs.CountLemmas.{kept_counts}
-use Rattle.book_store.proofs.StoreLemmas.{changed_store}
+use Rattle.book_store.proofs.StoreLemmas.{changed_store, max_in_range}
 use Rattle.book_store.proofs.sql_store.SqlStore.resync.Goals as goal
 
 resyncs_store : {S : Type 0} (g : Ghosts S) (old new : StoreView S) (pairs : ℕ) (r : Result ℕ Denied) → IsStore (state g old.conn) old.limits → new.limits ≡ old.limits
@@ -20,8 +27,16 @@ resyncs_store g old new pairs r store same changed commits = record {
     range = subst IsInRange (sym same) store.range;
   };
   matches_step = λ order. changed.matches_step order (store.stays_sound (changed.was_open_on_honest_disk order));
-  crash = λ order. commits (store.stays_sound order);
+  crash = commits store.stays_sound;
 }
+
+-- a resync that isn't refused keeps books well formed
+resync_leaves : (limits : Bounds) (pairs : ℕ) → 1 ≤ pairs → IsInRange limits → AreWithin limits max_limits → (books : Books) → IsWellFormed max_limits books → LeavesWellFormed max_limits (resync_step limits books pairs)
+resync_leaves limits pairs some range fits books well = by (accept_books limits pairs (finite.entries books)) refl
+  where
+    by : (r : Result (Unit {0}) Refusal) → accept_books limits pairs (finite.entries books) ≡ r → LeavesWellFormed max_limits (resync_step limits books pairs)
+    by (Ok done) e = rw e (resyncs_keep_well_formed limits max_limits books (books_after_resync limits books pairs) pairs range max_in_range fits well (record { some = some; accepted = rw e refl }))
+    by (Err refusal) e = rw e tt
 
 pub returns : goal.returns
 returns g c =
@@ -36,6 +51,6 @@ pub invariant_of-self : goal.invariant_of-self
 invariant_of-self g c =
     let old = state g.S.Store c.self.inside.conn in
     let new = state g.S.Store c.resync_in_tables.new.conn in (
-      changed_store old new c.self.inside.limits c.resync_in_tables.result _ c.self.invariant.0 c.resync_in_tables.ensures.changes,
+      changed_store old new c.self.inside.limits c.resync_in_tables.result _ c.self.invariant.0 (resync_leaves c.self.inside.limits c.args.pairs c.requires c.self.invariant.0.range) c.resync_in_tables.ensures.changes c.resync_in_tables.ensures.crash,
       kept_counts old new c.self.inside.limits c.self.inside.counts c.resync_in_tables.new.counts c.resync_in_tables.result _ c.self.invariant.0 c.resync_in_tables.ensures.changes c.self.invariant.1 c.resync_in_tables.ensures.counts,
     )

@@ -1,0 +1,172 @@
+"""`contacts convert`: columns whose names mean something only beside others, and files none of whose
+people would have a name or an address.
+
+The expected cards and reports are worked out by hand: by RFC 6350, and by what the programs mean
+that write such columns.
+"""
+
+import unittest
+
+from conversion_reports import digest
+from order_trials import OrderTest
+from program import run
+from test_convert_contacts import rows_of
+
+# A title, a header and one row, all lines of the card but the UID, and the report.
+CELLS = [
+    (
+        "common words that mean a property in another language or program alone",
+        "Name,Partner,Service,User Name,Email,Photo\nAnn,Yes,Plumbing,ann,a@x.test,ann.jpg\n",
+        ["EMAIL:a@x.test", "FN:Ann", "X-PARTNER:Yes", "X-PHOTO:ann.jpg", "X-SERVICE:Plumbing",
+         "X-USER-NAME:ann"],
+        ["Partner kept as X-PARTNER", "Service kept as X-SERVICE",
+         "User Name kept as X-USER-NAME", "Photo kept as X-PHOTO"],
+    ),
+    (
+        "a cell without an @ is no address of electronic mail",
+        "Name,Email,Secondary Email\nAnn,none,a@x.test\n",
+        ["EMAIL:a@x.test", "FN:Ann", "X-EMAIL:none"],
+        ["Email kept as X-EMAIL"],
+    ),
+    (
+        "a path is no URI of a picture",
+        "Name,Email,Photo\nAnn,a@x.test,C:\\ann.jpg\n",
+        ["EMAIL:a@x.test", "FN:Ann", "X-PHOTO:C:\\\\ann.jpg"],
+        ["Photo kept as X-PHOTO"],
+    ),
+    (
+        "a salutation without a family name or a given name",
+        "Name,Anrede,E-Mail\nAnn Lee,Frau,a@x.test\n",
+        ["EMAIL:a@x.test", "FN:Ann Lee", "X-ANREDE:Frau"],
+        ["Anrede kept as X-ANREDE"],
+    ),
+    (
+        "three columns of a birthday",
+        "Name,Primary Email,Birth Year,Birth Month,Birth Day\nAnn,a@x.test,1980,4,5\n",
+        ["BDAY:19800405", "EMAIL:a@x.test", "FN:Ann"],
+        ["Birth Year rewritten", "Birth Month rewritten", "Birth Day rewritten"],
+    ),
+    (
+        "three columns of no birthday",
+        "Name,Primary Email,Birth Year,Birth Month,Birth Day\nAnn,a@x.test,1980,4,31\n",
+        ["EMAIL:a@x.test", "FN:Ann", "X-BIRTH-DAY:31", "X-BIRTH-MONTH:4", "X-BIRTH-YEAR:1980"],
+        ["Birth Year kept as X-BIRTH-YEAR", "Birth Month kept as X-BIRTH-MONTH",
+         "Birth Day kept as X-BIRTH-DAY"],
+    ),
+    (
+        "a whole name beside a given name",
+        "Name,First Name,Email\nAnn Lee,Ann,a@x.test\n",
+        ["EMAIL:a@x.test", "FN:Ann Lee", "N:;Ann;;;", "X-NAME:Ann Lee"],
+        ["Name kept as X-NAME"],
+    ),
+    (
+        "a whole name beside a family name",
+        "Name,Surname,Email\n\"Lee, Ann\",Lee,a@x.test\n",
+        ["EMAIL:a@x.test", "FN:Lee\\, Ann", "N:Lee;;;;", "X-NAME:Lee\\, Ann"],
+        ["Name kept as X-NAME"],
+    ),
+    (
+        "several addresses in a cell",
+        "Name,Email\nAnn,a@x.test; b@x.test\n",
+        ["EMAIL:a@x.test", "EMAIL:b@x.test", "FN:Ann", "X-EMAIL:a@x.test\\; b@x.test"],
+        ["Email kept as X-EMAIL"],
+    ),
+    (
+        "several addresses in a cell of two lines",
+        "Name,Email\nAnn,\"a@x.test\nb@x.test\"\n",
+        ["EMAIL:a@x.test", "EMAIL:b@x.test", "FN:Ann", "X-EMAIL:a@x.test\\nb@x.test"],
+        ["Email kept as X-EMAIL"],
+    ),
+    (
+        "what is neither an address nor a number",
+        "Name,Email,Phone\nAnn,NULL,#N/A\n",
+        ["FN:Ann", "X-EMAIL:NULL", "X-PHONE:#N/A"],
+        ["Email kept as X-EMAIL", "Phone kept as X-PHONE"],
+    ),
+    (
+        "a year alone",
+        "Name,Primary Email,Birth Year,Birth Month,Birth Day\nAnn,a@x.test,1980,,\n",
+        ["EMAIL:a@x.test", "FN:Ann", "X-BIRTH-YEAR:1980"],
+        ["Birth Year kept as X-BIRTH-YEAR"],
+    ),
+]
+
+# Columns of Outlook in Dutch and in Danish.
+DUTCH = ("Titel,Voornaam,Tweede voornaam,Achternaam,Bedrijf,Telefoon op werk,Mobiele telefoon,"
+         "E-mailadres,Pager,Telex,ISDN\nDhr.,Jan,de,Vries,Acme,1,2,j@x.test,,,\n")
+DANISH = ("Titel,Fornavn,Efternavn,Firma,Telefon (arbejde),Mobiltelefon,E-mail-adresse,ISDN\n"
+          "Dr.,Ann,Lee,Acme,1,2,a@x.test,\n")
+
+
+class ConvertColumns(OrderTest):
+    def convert(self, text, *options):
+        """Converts a file with this text."""
+        (self.folder / "a.csv").write_bytes(text.encode())
+        return run("convert", "a.csv", *options, cwd=self.folder)
+
+    def lines(self, ended):
+        """The lines of the only card, but its UID, in order."""
+        [[_uid, card]] = rows_of(ended.out)
+        lines = card.replace("\r\n ", "").split("\r\n")[2:-2]
+        return sorted(line for line in lines if not line.startswith("UID:"))
+
+    def test_cells(self):
+        for title, text, lines, told in CELLS:
+            with self.subTest(title):
+                ended = self.convert(text)
+                changes = [f"row 1, line 2: the cell of {words}" for words in told]
+                self.assertEqual(lines, self.lines(ended))
+                self.assertEqual((0, digest(changes, 1, 1, 0)),
+                                 (ended.status, ended.err.decode()))
+
+    def refused(self, text, unread, columns):
+        """The file isn't converted. The names that aren't known are told, and what to say."""
+        ended = self.convert(text)
+        words = f"fault device 1: a.csv has a header whose columns aren't known: {unread}; say "
+        words += f"what its columns are, beginning with --columns '{columns}'\n"
+        self.assertEqual((3, b"", words), (ended.status, ended.out, ended.err.decode()))
+
+    def test_names_of_another_language(self):
+        """A file isn't converted if no name of a person in it would be one, or no address."""
+        dutch = ("Voornaam=n.given,Tweede voornaam=n.additional,Achternaam=n.family,Bedrijf=org,"
+                 "Telefoon op werk=tel,Mobiele telefoon=tel;type=cell,E-mailadres=email")
+        self.refused(DUTCH, "Voornaam, Tweede voornaam, Achternaam, Telefoon op werk, "
+                     "Mobiele telefoon, E-mailadres", dutch)
+        ended = self.convert(DUTCH, "--columns", dutch)
+        self.assertEqual(
+            ["EMAIL:j@x.test", "FN:Dhr. Jan de Vries", "N:Vries;Jan;de;Dhr.;", "ORG:Acme",
+             "TEL:1", "TEL;TYPE=cell:2"], self.lines(ended))
+        self.assertEqual(0, ended.status)
+        self.refused(DANISH, "Fornavn, Efternavn, Telefon (arbejde)",
+                     "Fornavn=n.given,Efternavn=n.family,Telefon (arbejde)=tel")
+
+    def test_an_address_that_would_go_aside(self):
+        """A file isn't converted if its addresses of electronic mail would all be kept aside, though
+        numbers are known."""
+        self.refused("Name,Phone,Mail (work)\nAnn,1,a@x.test\n", "Mail (work)",
+                     "Mail (work)=email")
+        self.refused("Name,Phonetic First Name,E-mail privat\nAnn,An,a@x.test\n", "E-mail privat",
+                     "E-mail privat=email")
+        ended = self.convert("Name,Phone,Mailing City\nAnn,1,Town\n")
+        self.assertEqual((0, ["FN:Ann", "TEL:1", "X-MAILING-CITY:Town"]),
+                         (ended.status, self.lines(ended)))
+
+    def test_properties_in_any_case(self):
+        ended = self.convert("A,B,C\nAnn,a@x.test,Town\n", "--columns", "a=FN,B=Email,C=ADR.City")
+        self.assertEqual((0, ["ADR:;;;Town;;;", "EMAIL:a@x.test", "FN:Ann"]),
+                         (ended.status, self.lines(ended)))
+
+    def test_what_the_user_says_counts_for_other_columns(self):
+        """An address is the street beside a city, and a title the job, also if the user says so."""
+        ended = self.convert("Name,Email,Address,Town\nAnn,a@x.test,1 Main St,Town\n",
+                             "--columns", "Town=adr.city")
+        self.assertEqual((0, ["ADR:;;1 Main St;Town;;;", "EMAIL:a@x.test", "FN:Ann"]),
+                         (ended.status, self.lines(ended)))
+        ended = self.convert("First Name,Last Name,Title,Email,Job\nAnn,Lee,Dr.,a@x.test,Boss\n",
+                             "--columns", "Job=title")
+        self.assertEqual((0, ["EMAIL:a@x.test", "FN:Dr. Ann Lee", "N:Lee;Ann;;Dr.;",
+                              "TITLE:Boss"]), (ended.status, self.lines(ended)))
+
+
+if __name__ == "__main__":
+    unittest.main()
