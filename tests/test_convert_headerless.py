@@ -118,8 +118,6 @@ class Headerless(ConvertTest):
                 ended = self.convert(octets, said=said)
                 told = f"fault device 1: a.csv, --columns: {why}\n"
                 self.assertEqual((3, told), (ended.status, ended.err.decode()))
-        ended = self.convert(b"uid,vcard\n", said="#1=fn,#2=email")
-        self.assertIn(b"--columns: the file has cards, and no columns\n", ended.err)
 
     def test_the_form_of_rows(self):
         """It is what the entry says, whatever most rows look like."""

@@ -354,7 +354,7 @@ class Refused(ConvertTest):
 
     def test_wide_lines_after_the_header(self):
         """They don't matter, nor where the header is known by what is said alone."""
-        note = b'Ann,a@x.test,"' + b"a, " * 1_500 + b'"\n'
+        note = b'Ann,a@x.test,"' + b"a, " * 1_100 + b'"\n'
         for header, query in [(b"Name,Email,Notes\n", ""), (b"List\n\nName,Email,Notes\n", ""),
                               (b"Wer,Wo,Was\n", "?columns=" + quote("Wer=fn,Wo=email,Was=note"))]:
             for end in b"\n", b"\r":

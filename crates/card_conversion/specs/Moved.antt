@@ -1,6 +1,6 @@
 -- A card under a UID of its own, where an earlier card of its file has the same UID.
-use Rattle.std.specs.Prelude.{ℕ, ◌≡◌, ◌++◌, List, [], ◌∷◌, map, flat_map, codes, count_by, nat_lt}
-use Rattle.std.specs.Prelude.{if◌then◌else◌}
+use Rattle.std.specs.Prelude.{ℕ, ◌≡◌, ◌++◌, Bool, List, [], ◌∷◌, map, flat_map, codes, count_by}
+use Rattle.std.specs.Prelude.{if◌then◌else◌, nat_lt}
 use Rattle.base_types.specs.Octets.{line_feed}
 use Rattle.import_text.specs.declared.raw_line.RawLine.{RawLine}
 use Rattle.vcard_import.specs.Conversions.{left_out_lines}
@@ -11,16 +11,21 @@ use Rattle.vcard_text.specs.Cards.{IsCard, canonical_text, line_is_named}
 use Rattle.vcard_import.specs.DerivedUid.{derived_uid}
 use Rattle.vcard_import.specs.declared.conversion.Conversion.{Conversion}
 
--- the logical lines, with a line feed after each
-abbrev pub ended_lines : List RawLine → List ℕ
-ended_lines lines = flat_map (λ line. line.octets ++ line_feed ∷ []) lines
+-- the logical line, with a line feed after it
+abbrev pub ended_line : RawLine → List ℕ
+ended_line line = line.octets ++ line_feed ∷ []
+
+-- more than 1,000 of the changes say that a line is left out
+abbrev pub are_many : List Change → Bool
+are_many changes = nat_lt 1000 (count_by is_left_out changes)
 
 -- What a card is carried without: the logical lines of its octets that the changes call left out.
 -- If they are more than 1,000, all its octets stand for them.
 abbrev pub left_out_text : List ℕ → List Change → List ℕ
 left_out_text octets changes =
-    if has_left_out changes then (if nat_lt 1000 (count_by is_left_out changes) then octets
-    else ended_lines (left_out_lines octets changes)) else []
+    if has_left_out changes
+    then (if are_many changes then octets else flat_map ended_line (left_out_lines octets changes))
+    else []
 
 -- The UID of its own that a card gets that was made of the octets: that of its canonical text, with
 -- what it is carried without after it. So two cards have the same one only if they have the same

@@ -1,9 +1,10 @@
 //! Gives a card a UID of its own, where an earlier card of its file has the same UID.
-ghost use Rattle.std.specs.Prelude.{◌≡◌, IfOk, IfSome, None, codes, count_by, string_bytes};
-ghost use Rattle.card_conversion.specs.Moved.{ended_lines, left_out_text, line_under, lines_under};
-ghost use Rattle.card_conversion.specs.Moved.{own_uid};
-ghost use Rattle.vcard_import.specs.LeftOut.{is_left_out};
-ghost use Rattle.vcard_text.specs.Cards.{IsCard, line_is_named};
+ghost use Rattle.std.specs.Prelude.{◌≡◌, ◌++◌, IfOk, IfSome, None, OnOk, codes, count_by};
+ghost use Rattle.std.specs.Prelude.{flat_map, string_bytes};
+ghost use Rattle.card_conversion.specs.Moved.{are_many, ended_line, left_out_text, line_under};
+ghost use Rattle.card_conversion.specs.Moved.{lines_under, own_uid};
+ghost use Rattle.vcard_import.specs.LeftOut.{has_left_out, is_left_out};
+ghost use Rattle.vcard_text.specs.Cards.{IsCard, canonical_text, line_is_named};
 
 use import_text::RawLine;
 use std::alloc::Global;
@@ -21,14 +22,36 @@ pub(crate) fn count_left_out(changes: &[Change]) -> usize
     changes.iter().filter(|change| is_left_out(*change)).count()
 }
 
+/// Whether one of the changes says that a line is left out.
+fn has_left_out(changes: &[Change]) -> bool
+    ensures { result ≡ has_left_out changes.now }
+{
+    changes.iter().any(|change| is_left_out(change))
+}
+
+/// Whether more than 1,000 of the changes say that a line is left out.
+fn are_many(changes: &[Change]) -> bool
+    ensures { result ≡ are_many changes.now }
+{
+    count_left_out(changes) > LEFT_OUT_MAX
+}
+
+/// Appends a logical line, and a line feed.
+fn push_line(text: &mut Vec<u8>, line: &RawLine) -> Result<(), NoMemory>
+    ensures { OnOk result (text.new.items ≡ text.old.items ++ ended_line line.now) }
+{
+    text.extend_from_slice(line.octets.as_slice())?;
+    text.push(b'\n')?;
+    Ok(())
+}
+
 /// The logical lines, with a line feed after each.
 fn ended_lines(alloc: Global, lines: &[RawLine]) -> Result<Vec<u8>, NoMemory>
-    ensures { IfOk result (λ text. text.items ≡ ended_lines lines.now) }
+    ensures { IfOk result (λ text. text.items ≡ flat_map ended_line lines.now) }
 {
     let mut text = Vec::new(alloc);
     for line in lines {
-        text.extend_from_slice(line.octets.as_slice())?;
-        text.push(b'\n')?;
+        push_line(&mut text, line)?;
     }
     Ok(text)
 }
@@ -38,11 +61,11 @@ fn ended_lines(alloc: Global, lines: &[RawLine]) -> Result<Vec<u8>, NoMemory>
 fn left_out_text(alloc: Global, octets: &[u8], changes: &[Change]) -> Result<Vec<u8>, NoMemory>
     ensures { IfOk result (λ text. text.items ≡ left_out_text octets.now changes.now) }
 {
-    if !changes.iter().any(|change| is_left_out(change)) {
-        return Ok(Vec::new(alloc));
+    let mut text = Vec::new(alloc);
+    if !has_left_out(changes) {
+        return Ok(text);
     }
-    if count_left_out(changes) > LEFT_OUT_MAX {
-        let mut text = Vec::new(alloc);
+    if are_many(changes) {
         text.extend_from_slice(octets)?;
         return Ok(text);
     }
@@ -50,14 +73,24 @@ fn left_out_text(alloc: Global, octets: &[u8], changes: &[Change]) -> Result<Vec
     ended_lines(alloc, lines.as_slice())
 }
 
+/// The canonical text of a card that was made of the octets, and after it what it is carried
+/// without.
+fn text_of_both(alloc: Global, octets: &[u8], made: &Conversion) -> Result<Vec<u8>, NoMemory>
+    ensures { IfOk result (λ text.
+        text.items ≡ canonical_text made.now.card ++ left_out_text octets.now made.now.changes) }
+{
+    let mut text = write_card(alloc, &made.card)?;
+    let left_out = left_out_text(alloc, octets, made.changes.as_slice())?;
+    text.extend_from_slice(left_out.as_slice())?;
+    Ok(text)
+}
+
 /// The UID of its own that a card gets that was made of the octets: that of its canonical text,
 /// with what it is carried without after it.
 pub(crate) fn own_uid(alloc: Global, octets: &[u8], made: &Conversion) -> Result<String, NoMemory>
     ensures { IfOk result (λ uid. string_bytes uid ≡ own_uid octets.now made.now) }
 {
-    let mut text = write_card(alloc, &made.card)?;
-    let left_out = left_out_text(alloc, octets, made.changes.as_slice())?;
-    text.extend_from_slice(left_out.as_slice())?;
+    let text = text_of_both(alloc, octets, made)?;
     derived_uid(alloc, text.as_slice())
 }
 

@@ -46,8 +46,8 @@ kind_word Sound = codes "-sound"
 
 -- RIFF, four octets and WEBP
 abbrev pub is_webp : List ℕ → Bool
-is_webp octets =
-    starts_with nat_eq octets (codes "RIFF") && starts_with nat_eq (drop 8 octets) (codes "WEBP")
+is_webp octets = starts_with nat_eq octets (codes "RIFF") && nat_le 8 (length octets)
+    && starts_with nat_eq (drop 8 octets) (codes "WEBP")
 
 -- the ending by the first octets: those of JPEG, PNG, GIF, WebP and BMP, which are 255 216 255, 137
 -- PNG, GIF8, those of `is_webp`, and BM
