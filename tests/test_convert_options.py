@@ -44,11 +44,11 @@ LINES = [
     "GENDER:F;weiblich",
     "IMPP:xmpp:ann@x.test",
     "LANG:de",
-    "N:;;;Dr.;",
     "NICKNAME:Annie",
     "ORG:Acme\\; GmbH;Verkauf",
     "TEL;TYPE=work,fax:+49 30 2",
     "TEL;TYPE=work:+49 30 1",
+    "TITLE:Dr.",
     "UID:K-17",
 ]
 
@@ -168,14 +168,14 @@ class ConvertOptions(OrderTest):
         wanted = {
             "fn": "FN:v", "n.family": "N:v;;;;", "n.given": "N:;v;;;", "n.additional": "N:;;v;;",
             "n.prefix": "N:;;;v;", "n.suffix": "N:;;;;v", "nickname": "NICKNAME:v", "org": "ORG:v",
-            "org.unit": "ORG:;v", "title": "TITLE:v", "role": "ROLE:v", "email": "EMAIL:v",
-            "tel": "TEL:v", "adr": "ADR;LABEL=v:;;;;;;", "adr.street": "ADR:;;v;;;;",
+            "org.unit": "ORG:;v", "title": "TITLE:v", "role": "ROLE:v",
+            "adr": "ADR;LABEL=v:;;;;;;", "adr.street": "ADR:;;v;;;;",
             "adr.city": "ADR:;;;v;;;", "adr.region": "ADR:;;;;v;;", "adr.code": "ADR:;;;;;v;",
             "adr.country": "ADR:;;;;;;v", "adr.box": "ADR:v;;;;;;", "adr.extended": "ADR:;v;;;;;",
             "url": "URL:v", "bday": "BDAY;VALUE=text:v", "anniversary": "ANNIVERSARY;VALUE=text:v",
             "note": "NOTE:v", "categories": "CATEGORIES:v", "uid": "UID:v", "gender": "GENDER:;v",
             # These take no such text: it is kept aside.
-            "lang": "X-C1:v", "impp": "X-C1:v",
+            "lang": "X-C1:v", "impp": "X-C1:v", "email": "X-C1:v", "tel": "X-C1:v",
         }
         told = re.split(", (?:and )?", TARGETS)
         self.assertEqual(set(told[:-1]), set(wanted))
@@ -210,7 +210,6 @@ class ConvertOptions(OrderTest):
         octets = b"Wer,Mail,Tel\nAnn,a@x.test,1\n"
         for said, why in [
             ("Wer=name", f"'name' is no property here; there are {TARGETS}"),
-            ("Wer=FN", f"'FN' is no property here; there are {TARGETS}"),
             ("Wer", "'Wer' isn't COLUMN=PROPERTY"),
             ("Wer=fn,", "'' isn't COLUMN=PROPERTY"),
             ("=fn", "'=fn' isn't COLUMN=PROPERTY"),
@@ -245,7 +244,7 @@ class ConvertOptions(OrderTest):
     def test_a_suggestion(self):
         """Where a header isn't known, the message has what to begin with, and it can be typed."""
         for text, said in [
-            ("Imię,Nazwisko,Poczta\nAnn,Lee,a@x.test\n", "Imię=fn"),
+            ("Imię,Nazwisko,Poczta\nAnn,Lee,a@x.test\n", "Imię=n.given,Nazwisko=n.family"),
             ("First Name;Labels;Mail (priv.);Mobil 2\nA;b;a@x.test;1\n",
              "Mail (priv.)=email,Mobil 2=tel;type=cell"),
             ("Wer,Mail,alt,Tel=2,O'Hara Fax\n", "Wer=fn,#4=tel,#5=tel;type=fax"),
