@@ -51,6 +51,6 @@ pub invariant_of-self : goal.invariant_of-self
 invariant_of-self g c =
     let old = state g.S.Store c.self.inside.conn in
     let new = state g.S.Store c.resync_in_tables.new.conn in (
-      changed_store old new c.self.inside.limits c.resync_in_tables.result _ c.self.invariant.0 (resync_leaves c.self.inside.limits c.args.pairs c.requires c.self.invariant.0.range) c.resync_in_tables.ensures.changes c.resync_in_tables.ensures.crash,
+      changed_store old new c.self.inside.limits c.resync_in_tables.result _ c.self.invariant.0 (resync_leaves c.self.inside.limits c.args.pairs c.requires.some c.self.invariant.0.range) c.resync_in_tables.ensures.changes c.resync_in_tables.ensures.crash,
       kept_counts old new c.self.inside.limits c.self.inside.counts c.resync_in_tables.new.counts c.resync_in_tables.result _ c.self.invariant.0 c.resync_in_tables.ensures.changes c.self.invariant.1 c.resync_in_tables.ensures.counts,
     )
