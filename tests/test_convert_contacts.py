@@ -363,7 +363,7 @@ class ConvertContacts(OrderTest):
                 rows[10] = row
                 rows[50] = rows[50].replace("plain", other)
                 if other.endswith(","):
-                    rows[50] = "A51,Lee,with a quote\",a\n"
+                    rows[50] = "A51,Lee,a51@x with a quote\",a\n"
                 ended = self.convert((header + "".join(rows)).encode())
                 self.assertEqual((1, report), (ended.status, ended.err))
                 self.assertEqual(wanted, self.names(ended))
