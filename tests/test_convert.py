@@ -312,9 +312,9 @@ class Convert(OrderTest):
             ("words between cards", ann + "words\nmore\n" + ann.replace("UID:a", "UID:b"), 2,
              "line 6: not carried: no card begins here"),
             ("too long", ann.replace("Ann", "x" * 270_000), 0,
-             "card 1, line 1: not carried: the text is too long"),
+             "card 1, line 1: not carried: the text is too long; its longest line is line 4, FN"),
             ("too long in vCard 3.0", "BEGIN:VCARD\nVERSION:3.0\nNOTE:" + "a" * 262_144, 0,
-             "card 1, line 1: not carried: the text is too long"),
+             "card 1, line 1: not carried: the text is too long; its longest line is line 3, NOTE"),
             ("no card", "x", 0, "line 1: not carried: no card begins here"),
         ]:
             with self.subTest(title):
