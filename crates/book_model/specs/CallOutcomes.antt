@@ -52,6 +52,11 @@ abbrev pub ReturnsExactly : {A S : Type 0} → Result A Denied → Result A Refu
 ReturnsExactly result reading old new =
     MatchesQuery (λ expected answer. answer ≡ expected) result reading old new
 
+-- these are the books, or other state, after the step, which isn't refused
+abbrev pub IsAfterStep : {A S : Type 0} → Result (A × S) Refusal → S → Type 0
+IsAfterStep (Ok done) state = state ≡ done.1
+IsAfterStep (Err refusal) state = ⊥
+
 -- a refused call returns the refusal, never a fault, even when memory runs out
 abbrev pub RefusalsPrecedeFaults : {A T : Type 0} → Result A Denied → Result T Refusal → Type 0
 RefusalsPrecedeFaults result (Ok wanted) = Unit {0}
@@ -66,3 +71,9 @@ abbrev pub IfFault : {A : Type 0} → Result A Denied → (FaultKind → Type 0)
 IfFault (Ok answer) may = Unit {0}
 IfFault (Err (Refused refusal)) may = Unit {0}
 IfFault (Err (Fault fault)) may = may fault
+
+-- unless the call returned a fault, this holds
+abbrev pub UnlessFault : {A : Type 0} → Result A Denied → Type 0 → Type 0
+UnlessFault (Ok answer) Then = Then
+UnlessFault (Err (Refused refusal)) Then = Then
+UnlessFault (Err (Fault fault)) Then = Unit {0}
