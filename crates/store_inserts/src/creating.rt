@@ -6,6 +6,7 @@ ghost use Rattle.store_rows.specs.TableBooks.{books_of};
 ghost use Rattle.store_inserts.specs.internal.Creating.{AreNameAndCount, IsCreationPlanned};
 ghost use Rattle.store_inserts.specs.internal.Creating.{IsNameFound};
 ghost use Rattle.store_lookups.specs.OnConnections.{
+  AnswersOpen,
   ChangeFaultsFromOutside,
   FaultsFromOutside,
   GivenSoundRows,
@@ -125,6 +126,7 @@ fn has_book<S: Alter>(conn: &mut Connection<S>, name: &str) -> Result<bool, Deni
     ensures fault { IfErr result IsDeniedFault }
     ensures store_fault { FaultsFromOutside S.Store conn.old conn.new result }
     ensures unchanged { UnchangedOnOk S.Store conn.old conn.new result }
+    ensures answered { AnswersOpen S.Store conn.old conn.new result }
     ensures reads_only { OnlyReads S.Store conn.old conn.new }
 {
     let _row = match find_book(conn, name) {
@@ -142,6 +144,7 @@ fn number_of_books<S: Alter>(conn: &mut Connection<S>) -> Result<u64, Denied>
     ensures fault { IfErr result IsDeniedFault }
     ensures store_fault { ChangeFaultsFromOutside S.Store conn.old conn.new result }
     ensures unchanged { UnchangedOnOk S.Store conn.old conn.new result }
+    ensures answered { AnswersOpen S.Store conn.old conn.new result }
     ensures reads_only { OnlyReads S.Store conn.old conn.new }
 {
     match count_books(conn) {
@@ -157,6 +160,7 @@ fn name_and_count<S: Alter>(conn: &mut Connection<S>, name: &str) -> Result<(boo
     ensures fault { IfErr result IsDeniedFault }
     ensures store_fault { ChangeFaultsFromOutside S.Store conn.old conn.new result }
     ensures unchanged { UnchangedOnOk S.Store conn.old conn.new result }
+    ensures answered { AnswersOpen S.Store conn.old conn.new result }
     ensures reads_only { OnlyReads S.Store conn.old conn.new }
 {
     let has_name_already = has_book(conn, name)?;
@@ -176,6 +180,7 @@ fn plan_create<S: Alter>(
     ensures store_fault { ChangeFaultsFromOutside S.Store conn.old conn.new result }
     ensures unchanged { UnchangedOnOk S.Store conn.old conn.new result }
     ensures was_open { WasOpenOnOk S.Store conn.old conn.new result }
+    ensures answered { AnswersOpen S.Store conn.old conn.new result }
     ensures reads_only { OnlyReads S.Store conn.old conn.new }
 {
     // The proof needs the greatest limit of books, which this call ensures.
@@ -198,6 +203,7 @@ pub fn create_in_tables<S: Alter>(
     requires { conn.old.in_transaction ≡ false }
     ensures changes { AppliesStep S.Store conn.old conn.new result
         (λ books. create_step limits books name.now) }
+    ensures answered { AnswersOpen S.Store conn.old conn.new result }
     ensures store_fault { ChangeFaultsFromOutside S.Store conn.old conn.new result }
     ensures crash { CommitsOnce S.Store conn.old conn.new
         (λ books. create_step limits books name.now) }

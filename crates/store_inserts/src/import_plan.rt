@@ -16,6 +16,7 @@ ghost use Rattle.store_inserts.specs.internal.Importing.{counts_after_plan, repl
 ghost use Rattle.store_inserts.specs.internal.Importing.{ReplacesFor, ReplacesTombstones};
 ghost use Rattle.store_rows.specs.TableBooks.{line_row, row_book};
 ghost use Rattle.store_lookups.specs.OnConnections.{
+  AnswersOpen,
   FaultsFromOutside,
   FaultsFromOutsideInBook,
   GivenBook,
@@ -153,6 +154,7 @@ fn plan_cards<'a, S: Alter>(
     ensures fault { IfErr result IsDeniedFault }
     ensures store_fault { FaultsFromOutsideInBook S.Store conn.old conn.new header result }
     ensures unchanged { UnchangedOnOk S.Store conn.old conn.new result }
+    ensures answered { AnswersOpen S.Store conn.old conn.new result }
     ensures reads_only { OnlyReads S.Store conn.old conn.new }
 {
     // An import without cards looks none up, and must also fail on a closed connection.
@@ -212,6 +214,7 @@ fn find_import_key<S: Alter>(
     ensures store_fault { FaultsFromOutside S.Store conn.old conn.new result }
     ensures unchanged { UnchangedOnOk S.Store conn.old conn.new result }
     ensures was_open { WasOpenOnOk S.Store conn.old conn.new result }
+    ensures answered { AnswersOpen S.Store conn.old conn.new result }
     ensures reads_only { OnlyReads S.Store conn.old conn.new }
 {
     let header = open_header(conn, name)?;
@@ -241,6 +244,7 @@ fn plan_new_import<'a, S: Alter>(
     ensures few { IfOk result (λ order. length order.0.stored.items < 2 ^ 62) }
     ensures store_fault { FaultsFromOutsideInBook S.Store conn.old conn.new header result }
     ensures unchanged { UnchangedOnOk S.Store conn.old conn.new result }
+    ensures answered { AnswersOpen S.Store conn.old conn.new result }
     ensures reads_only { OnlyReads S.Store conn.old conn.new }
 {
     let plan = plan_cards(alloc, conn, header, cards)?;
@@ -269,6 +273,7 @@ pub(crate) fn plan_import<'a, S: Alter>(
     ensures store_fault { FaultsFromOutside S.Store conn.old conn.new result }
     ensures unchanged { UnchangedOnOk S.Store conn.old conn.new result }
     ensures was_open { WasOpenOnOk S.Store conn.old conn.new result }
+    ensures answered { AnswersOpen S.Store conn.old conn.new result }
     ensures reads_only { OnlyReads S.Store conn.old conn.new }
 {
     let (header, kept) = find_import_key(conn, name, key)?;

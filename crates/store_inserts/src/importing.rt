@@ -24,6 +24,7 @@ ghost use Rattle.store_inserts.specs.internal.OnConnections.{
 };
 ghost use Rattle.book_model.specs.Books.{Book};
 ghost use Rattle.store_lookups.specs.OnConnections.{
+  AnswersOpen,
   ChangeFaultsFromOutside,
   HasOutsideCauseOfFault,
   KeepsCounts,
@@ -333,6 +334,7 @@ pub fn import_in_book<S: Alter>(
     requires distinct { HaveDistinctUids cards.now }
     ensures changes { AppliesStep S.Store conn.old conn.new result
         (λ books. import_step limits books name.now key.now cards.now) }
+    ensures answered { AnswersOpen S.Store conn.old conn.new result }
     ensures counts { KeepsCounts S.Store conn.old conn.new counts.old counts.new }
     ensures same_counts_on_err { OnErr result (counts.new ≡ counts.old) }
     ensures store_fault { ChangeFaultsFromOutside S.Store conn.old conn.new result }

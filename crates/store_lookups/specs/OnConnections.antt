@@ -33,6 +33,12 @@ module _ {S : Type 0} (store : Ghosts S) (old new : Held S) where
   abbrev pub GivenBook : HeaderRow → (Book → Type 0) → Type 0
   GivenBook = calls.GivenBook (state store old) (state store new)
 
+  abbrev pub AnswersOpen : {A : Type 0} → Result A Denied → Type 0
+  AnswersOpen = stored.AnswersOpen (state store old) (state store new)
+
+  abbrev pub StaysOpen : {A : Type 0} → Result A Denied → Type 0
+  StaysOpen = stored.StaysOpen (state store old) (state store new)
+
   abbrev pub KeepsCounts : CountsByName → CountsByName → Type 0
   KeepsCounts = stored.KeepsCounts (state store old) (state store new)
 

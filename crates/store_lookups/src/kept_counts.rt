@@ -2,7 +2,11 @@
 ghost use Rattle.book_model.specs.Counts.{AreCountsOf};
 ghost use Rattle.book_model.specs.BookQueries.{tombstone_count};
 ghost use Rattle.store_lookups.specs.Faults.{IsDeniedFault};
-ghost use Rattle.store_lookups.specs.OnConnections.{FaultsFromOutsideInBook, GivenCounts};
+ghost use Rattle.store_lookups.specs.OnConnections.{
+  FaultsFromOutsideInBook,
+  GivenCounts,
+  StaysOpen,
+};
 ghost use Rattle.store_rows.specs.LookupLaws.{IsBookNamed};
 ghost use Rattle.store_rows.specs.TableBooks.{books_of, line_row, row_book};
 ghost use Rattle.store_tables.specs.OnConnections.{IsConnectionOpen, OnlyReads, UnchangedOnOk};
@@ -30,6 +34,7 @@ pub fn remembered<S: Alter>(
     ensures store_fault { FaultsFromOutsideInBook S.Store conn.old conn.new header result }
     ensures unchanged { IsConnectionOpen S.Store conn.old
         → UnchangedOnOk S.Store conn.old conn.new result }
+    ensures stays_open { StaysOpen S.Store conn.old conn.new result }
     ensures reads_only { OnlyReads S.Store conn.old conn.new }
 {
     if let Some(number) = counts.get(name) {

@@ -8,6 +8,7 @@ ghost use Rattle.store_lookups.specs.CallResults.{FindsHeader};
 ghost use Rattle.store_lookups.specs.Faults.{IsDeniedFault};
 ghost use Rattle.store_lookups.specs.MemberStates.{member_state};
 ghost use Rattle.store_lookups.specs.OnConnections.{
+  AnswersOpen,
   ChangeFaultsFromOutsideInBook,
   FaultsFromOutside,
   FaultsFromOutsideInBook,
@@ -38,6 +39,7 @@ pub fn find_header<S: Alter>(conn: &mut Connection<S>, name: &str) -> Result<Boo
         (λ rows. FindsHeader rows name.now result) }
     ensures store_fault { FaultsFromOutside S.Store conn.old conn.new result }
     ensures unchanged { UnchangedOnOk S.Store conn.old conn.new result }
+    ensures answered { AnswersOpen S.Store conn.old conn.new result }
     ensures reads_only { OnlyReads S.Store conn.old conn.new }
 {
     let row = match find_book(conn, name) {
@@ -61,6 +63,7 @@ pub fn find_live<S: Alter>(
     ensures fault { IfErr result IsDeniedFault }
     ensures store_fault { FaultsFromOutsideInBook S.Store conn.old conn.new header result }
     ensures unchanged { UnchangedOnOk S.Store conn.old conn.new result }
+    ensures answered { AnswersOpen S.Store conn.old conn.new result }
     ensures reads_only { OnlyReads S.Store conn.old conn.new }
 {
     let id = column_of(header.id())?;
@@ -84,6 +87,7 @@ pub fn find_member_state<S: Alter>(
     ensures fault { IfErr result IsDeniedFault }
     ensures store_fault { FaultsFromOutsideInBook S.Store conn.old conn.new header result }
     ensures unchanged { UnchangedOnOk S.Store conn.old conn.new result }
+    ensures answered { AnswersOpen S.Store conn.old conn.new result }
     ensures reads_only { OnlyReads S.Store conn.old conn.new }
 {
     let id = column_of(header.id())?;
@@ -106,6 +110,7 @@ pub fn find_import_tally<S: Alter>(
     ensures fault { IfErr result IsDeniedFault }
     ensures store_fault { FaultsFromOutsideInBook S.Store conn.old conn.new header result }
     ensures unchanged { UnchangedOnOk S.Store conn.old conn.new result }
+    ensures answered { AnswersOpen S.Store conn.old conn.new result }
     ensures reads_only { OnlyReads S.Store conn.old conn.new }
 {
     let id = column_of(header.id())?;
@@ -126,6 +131,7 @@ pub fn fetch_keep<S: Alter>(conn: &mut Connection<S>, header: BookHeader) -> Res
     ensures fault { IfErr result IsDeniedFault }
     ensures store_fault { ChangeFaultsFromOutsideInBook S.Store conn.old conn.new header result }
     ensures unchanged { UnchangedOnOk S.Store conn.old conn.new result }
+    ensures answered { AnswersOpen S.Store conn.old conn.new result }
     ensures reads_only { OnlyReads S.Store conn.old conn.new }
 {
     let id = column_of(header.id())?;
@@ -143,6 +149,7 @@ pub fn count_removals<S: Alter>(conn: &mut Connection<S>, header: BookHeader) ->
     ensures fault { IfErr result IsDeniedFault }
     ensures store_fault { FaultsFromOutsideInBook S.Store conn.old conn.new header result }
     ensures unchanged { UnchangedOnOk S.Store conn.old conn.new result }
+    ensures answered { AnswersOpen S.Store conn.old conn.new result }
     ensures reads_only { OnlyReads S.Store conn.old conn.new }
 {
     let id = column_of(header.id())?;

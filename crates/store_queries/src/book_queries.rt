@@ -20,12 +20,14 @@ ghost use Rattle.store_lookups.specs.Faults.{IsDeniedFault};
 ghost use Rattle.store_lookups.specs.StoreFaults.{FailsOnlyForMemory};
 ghost use Rattle.store_queries.specs.internal.QuerySteps.{import_tally_step, missing_card_step};
 ghost use Rattle.store_lookups.specs.OnConnections.{
+  AnswersOpen,
   ChangeFaultsFromOutside,
   FaultsFromOutside,
   FaultsFromOutsideInBook,
   GivenBook,
   GivenCounts,
   GivenSoundRows,
+  StaysOpen,
 };
 ghost use Rattle.store_tables.specs.OnConnections.{OnlyReads};
 ghost use Rattle.std.specs.Prelude.{◌≡◌, IfErr, IfOk, Ok};
@@ -62,6 +64,7 @@ pub fn line_of_book<S: Alter>(
     ensures answers { GivenSoundRows S.Store conn.old conn.new
         (λ rows. FollowsStep IsExactly result (book_line_step (books_of rows) name.now)) }
     ensures store_fault { FaultsFromOutside S.Store conn.old conn.new result }
+    ensures answered { AnswersOpen S.Store conn.old conn.new result }
     ensures reads_only { OnlyReads S.Store conn.old conn.new }
 {
     let header = find_header(conn, name)?;
@@ -74,6 +77,7 @@ fn refuse_missing<S: Alter>(conn: &mut Connection<S>, name: &str) -> Result<Stor
     ensures answers { GivenSoundRows S.Store conn.old conn.new
         (λ rows. FollowsStep IsExactly result (missing_card_step (books_of rows) name.now)) }
     ensures store_fault { FaultsFromOutside S.Store conn.old conn.new result }
+    ensures answered { AnswersOpen S.Store conn.old conn.new result }
     ensures reads_only { OnlyReads S.Store conn.old conn.new }
 {
     find_header(conn, name)?;
@@ -94,6 +98,7 @@ pub fn stored_of_book<S: Alter>(
     ensures answers { GivenSoundRows S.Store conn.old conn.new
         (λ rows. FollowsStep IsExactly result (get_step (books_of rows) name.now uid.now)) }
     ensures store_fault { FaultsFromOutside S.Store conn.old conn.new result }
+    ensures answered { AnswersOpen S.Store conn.old conn.new result }
     ensures reads_only { OnlyReads S.Store conn.old conn.new }
 {
     let row = match find_named_member(conn, name, uid) {
@@ -115,6 +120,7 @@ fn import_at<S: Alter>(
     ensures answers { GivenBook S.Store conn.old conn.new header
         (λ book. FollowsStep IsExactly result (import_tally_step key.now book)) }
     ensures store_fault { FaultsFromOutsideInBook S.Store conn.old conn.new header result }
+    ensures stays_open { StaysOpen S.Store conn.old conn.new result }
     ensures reads_only { OnlyReads S.Store conn.old conn.new }
 {
     if !is_import_key(key) {
@@ -134,6 +140,7 @@ pub fn import_of_book<S: Alter>(
     ensures answers { GivenSoundRows S.Store conn.old conn.new
         (λ rows. FollowsStep IsExactly result (kept_import_step (books_of rows) name.now key.now)) }
     ensures store_fault { FaultsFromOutside S.Store conn.old conn.new result }
+    ensures answered { AnswersOpen S.Store conn.old conn.new result }
     ensures reads_only { OnlyReads S.Store conn.old conn.new }
 {
     let header = find_header(conn, name)?;
@@ -153,6 +160,7 @@ fn tally_at<S: Alter>(
     ensures counts { GivenCounts S.Store conn.old conn.new counts.old (λ rows.
         IsBookNamed rows name.now header → AreCountsOf counts.new (books_of rows)) }
     ensures store_fault { FaultsFromOutsideInBook S.Store conn.old conn.new header result }
+    ensures stays_open { StaysOpen S.Store conn.old conn.new result }
     ensures reads_only { OnlyReads S.Store conn.old conn.new }
 {
     let tombstones = remembered(conn, counts, header, name)?;
@@ -177,6 +185,7 @@ pub fn tally_of_book<S: Alter>(
     ensures counts { GivenCounts S.Store conn.old conn.new counts.old
         (λ rows. AreCountsOf counts.new (books_of rows)) }
     ensures store_fault { FaultsFromOutside S.Store conn.old conn.new result }
+    ensures answered { AnswersOpen S.Store conn.old conn.new result }
     ensures reads_only { OnlyReads S.Store conn.old conn.new }
 {
     let header = find_header(conn, name)?;
@@ -189,6 +198,7 @@ pub fn keep_of_book<S: Alter>(conn: &mut Connection<S>, name: &str) -> Result<u6
     ensures answers { GivenSoundRows S.Store conn.old conn.new
         (λ rows. FollowsStep IsExactly result (keep_step (books_of rows) name.now)) }
     ensures store_fault { ChangeFaultsFromOutside S.Store conn.old conn.new result }
+    ensures answered { AnswersOpen S.Store conn.old conn.new result }
     ensures reads_only { OnlyReads S.Store conn.old conn.new }
 {
     let header = find_header(conn, name)?;

@@ -10,6 +10,7 @@ ghost use Rattle.store_lookups.specs.Faults.{IsDeniedFault};
 ghost use Rattle.store_lookups.specs.StoreFaults.{FailsOnlyForMemory, ShowsFaultlessMember};
 ghost use Rattle.store_queries.specs.internal.RowLists.{ShowCards};
 ghost use Rattle.store_lookups.specs.OnConnections.{
+  AnswersOpen,
   FaultsFromOutside,
   FaultsFromOutsideInBook,
   GivenBook,
@@ -38,6 +39,7 @@ pub fn lines_of_books<S: Alter>(
         (Ok (book_lines (books_of rows)))) }
     ensures store_fault { FaultsFromOutside S.Store conn.old conn.new result }
     ensures unchanged { UnchangedOnOk S.Store conn.old conn.new result }
+    ensures answered { AnswersOpen S.Store conn.old conn.new result }
     ensures reads_only { OnlyReads S.Store conn.old conn.new }
 {
     match all_books(conn) {
@@ -65,6 +67,7 @@ fn cards_at<S: Alter>(
         (Ok (live_cards book))) }
     ensures store_fault { FaultsFromOutsideInBook S.Store conn.old conn.new header result }
     ensures unchanged { UnchangedOnOk S.Store conn.old conn.new result }
+    ensures answered { AnswersOpen S.Store conn.old conn.new result }
     ensures reads_only { OnlyReads S.Store conn.old conn.new }
 {
     let id = column_of(header.id())?;
@@ -86,6 +89,7 @@ pub fn cards_of_book<S: Alter>(
         (cards_step (books_of rows) name.now)) }
     ensures store_fault { FaultsFromOutside S.Store conn.old conn.new result }
     ensures unchanged { UnchangedOnOk S.Store conn.old conn.new result }
+    ensures answered { AnswersOpen S.Store conn.old conn.new result }
     ensures reads_only { OnlyReads S.Store conn.old conn.new }
 {
     let header = find_header(conn, name)?;

@@ -13,10 +13,12 @@ ghost use Rattle.store_lookups.specs.Faults.{IsDeniedFault};
 ghost use Rattle.store_lookups.specs.StoreFaults.{FailsOnlyForMemory, ShowsFaultlessMember};
 ghost use Rattle.store_queries.specs.internal.QuerySteps.{request_for, page_step};
 ghost use Rattle.store_lookups.specs.OnConnections.{
+  AnswersOpen,
   FaultsFromOutside,
   FaultsFromOutsideInBook,
   GivenBook,
   GivenSoundRows,
+  StaysOpen,
 };
 ghost use Rattle.store_tables.specs.OnConnections.{OnlyReads};
 ghost use Rattle.std.specs.List.{AllByRecursion};
@@ -68,6 +70,7 @@ fn page_at<S: Alter>(
         (λ book. FollowsStep IsReport result (Ok (request_for book mark size))) }
     ensures store_fault { mark.at < 2 ^ 63 → mark.base < 2 ^ 63
         → FaultsFromOutsideInBook S.Store conn.old conn.new header result }
+    ensures answered { AnswersOpen S.Store conn.old conn.new result }
     ensures reads_only { OnlyReads S.Store conn.old conn.new }
 {
     let id = column_of(header.id())?;
@@ -91,6 +94,7 @@ fn page_in<S: Alter>(
     ensures answers { GivenBook S.Store conn.old conn.new header
         (λ book. FollowsStep IsReport result (page_step limits token limit book)) }
     ensures store_fault { FaultsFromOutsideInBook S.Store conn.old conn.new header result }
+    ensures stays_open { StaysOpen S.Store conn.old conn.new result }
     ensures reads_only { OnlyReads S.Store conn.old conn.new }
 {
     let mark = mark_of(header.id(), header.number(), header.horizon(), token)?;
@@ -116,6 +120,7 @@ pub fn page_of_book<S: Alter>(
         (λ rows. FollowsStep IsReport result
         (report_step limits (books_of rows) name.now token limit)) }
     ensures store_fault { FaultsFromOutside S.Store conn.old conn.new result }
+    ensures answered { AnswersOpen S.Store conn.old conn.new result }
     ensures reads_only { OnlyReads S.Store conn.old conn.new }
 {
     let header = find_header(conn, name)?;

@@ -5,6 +5,7 @@ ghost use Rattle.book_model.specs.BookChanges.{oldest_tombstone};
 ghost use Rattle.book_model.specs.BookQueries.{tombstone_count};
 ghost use Rattle.store_lookups.specs.Faults.{IsDeniedFault};
 ghost use Rattle.store_lookups.specs.OnConnections.{
+  AnswersOpen,
   ChangeFaultsFromOutsideInBook,
   GivenBook,
   GivenCounts,
@@ -49,6 +50,7 @@ fn keep_and_tombstones<S: Alter>(
     ensures fault { IfErr result IsDeniedFault }
     ensures store_fault { ChangeFaultsFromOutsideInBook S.Store conn.old conn.new header result }
     ensures unchanged { UnchangedOnOk S.Store conn.old conn.new result }
+    ensures answered { AnswersOpen S.Store conn.old conn.new result }
     ensures reads_only { OnlyReads S.Store conn.old conn.new }
 {
     let keep = fetch_keep(conn, header)?;
@@ -67,6 +69,7 @@ fn oldest_removal_of<S: Alter>(
     ensures fault { IfErr result IsDeniedFault }
     ensures store_fault { ChangeFaultsFromOutsideInBook S.Store conn.old conn.new header result }
     ensures unchanged { UnchangedOnOk S.Store conn.old conn.new result }
+    ensures answered { AnswersOpen S.Store conn.old conn.new result }
     ensures reads_only { OnlyReads S.Store conn.old conn.new }
 {
     let id = column_of(header.id())?;
@@ -125,6 +128,7 @@ pub(crate) fn plan_drop<S: Alter>(
     ensures fault { IfErr result IsDeniedFault }
     ensures store_fault { ChangeFaultsFromOutsideInBook S.Store conn.old conn.new header result }
     ensures unchanged { UnchangedOnOk S.Store conn.old conn.new result }
+    ensures answered { AnswersOpen S.Store conn.old conn.new result }
     ensures reads_only { OnlyReads S.Store conn.old conn.new }
 {
     // The proof needs the horizon to be at most the number, which this call ensures.

@@ -12,6 +12,7 @@ ghost use Rattle.store_removals.specs.internal.Moves.{AreBothNamed, IsMovePlanne
 ghost use Rattle.store_removals.specs.internal.Moves.{moving_between_books};
 ghost use Rattle.store_lookups.specs.StoreFaults.{IsFaultlessHeader};
 ghost use Rattle.store_lookups.specs.OnConnections.{
+  AnswersOpen,
   ChangeFaultsFromOutside,
   FaultsFromOutside,
   FaultsFromOutsideInBook,
@@ -64,6 +65,7 @@ fn find_both_headers<S: Alter>(
     ensures store_fault { FaultsFromOutside S.Store conn.old conn.new result }
     ensures unchanged { UnchangedOnOk S.Store conn.old conn.new result }
     ensures was_open { WasOpenOnOk S.Store conn.old conn.new result }
+    ensures answered { AnswersOpen S.Store conn.old conn.new result }
     ensures reads_only { OnlyReads S.Store conn.old conn.new }
 {
     let source = open_header(conn, from)?;
@@ -86,6 +88,7 @@ fn find_both<S: Alter>(
     ensures store_fault { IsFaultlessHeader target
         → FaultsFromOutsideInBook S.Store conn.old conn.new source result }
     ensures unchanged { UnchangedOnOk S.Store conn.old conn.new result }
+    ensures answered { AnswersOpen S.Store conn.old conn.new result }
     ensures reads_only { OnlyReads S.Store conn.old conn.new }
 {
     let here = find_live(alloc, conn, source, uid)?;
@@ -133,6 +136,7 @@ fn decide_move<S: Alter>(
     ensures store_fault { IsFaultlessHeader target
         → FaultsFromOutsideInBook S.Store conn.old conn.new source result }
     ensures unchanged { UnchangedOnOk S.Store conn.old conn.new result }
+    ensures answered { AnswersOpen S.Store conn.old conn.new result }
     ensures reads_only { OnlyReads S.Store conn.old conn.new }
 {
     // The proof needs the greatest limit of changes, which this call ensures.
@@ -169,6 +173,7 @@ fn plan_move<S: Alter>(
     ensures store_fault { ChangeFaultsFromOutside S.Store conn.old conn.new result }
     ensures unchanged { UnchangedOnOk S.Store conn.old conn.new result }
     ensures was_open { WasOpenOnOk S.Store conn.old conn.new result }
+    ensures answered { AnswersOpen S.Store conn.old conn.new result }
     ensures reads_only { OnlyReads S.Store conn.old conn.new }
 {
     let (source, target) = find_both_headers(conn, from, to)?;
@@ -210,6 +215,7 @@ pub fn move_in_tables<S: Alter>(
     requires counts { HoldCounts S.Store conn.old counts.old }
     ensures changes { AppliesStep S.Store conn.old conn.new result
         (λ books. move_step limits books from.now to.now uid.now expect) }
+    ensures answered { AnswersOpen S.Store conn.old conn.new result }
     ensures counts { KeepsCounts S.Store conn.old conn.new counts.old counts.new }
     ensures store_fault { ChangeFaultsFromOutside S.Store conn.old conn.new result }
     ensures crash { CommitsOnce S.Store conn.old conn.new

@@ -5,6 +5,7 @@ ghost use Rattle.store_lookups.specs.CallResults.{FollowsStep, IsExactly};
 ghost use Rattle.store_removals.specs.internal.Removals.{IsRemovalPlanned, removal_number_in};
 ghost use Rattle.store_rows.specs.TableBooks.{books_of};
 ghost use Rattle.store_lookups.specs.OnConnections.{
+  AnswersOpen,
   ChangeFaultsFromOutside,
   FaultsFromOutsideInBook,
   GivenBook,
@@ -52,6 +53,7 @@ fn decide_removal<S: Alter>(
     ensures number_fits { OnOk result (header.number + 1 < 2 ^ 63) }
     ensures store_fault { FaultsFromOutsideInBook S.Store conn.old conn.new header result }
     ensures unchanged { UnchangedOnOk S.Store conn.old conn.new result }
+    ensures answered { AnswersOpen S.Store conn.old conn.new result }
     ensures reads_only { OnlyReads S.Store conn.old conn.new }
 {
     // The proof needs the greatest limit of changes, which this call ensures.
@@ -87,6 +89,7 @@ fn plan_remove<S: Alter>(
     ensures store_fault { ChangeFaultsFromOutside S.Store conn.old conn.new result }
     ensures unchanged { UnchangedOnOk S.Store conn.old conn.new result }
     ensures was_open { WasOpenOnOk S.Store conn.old conn.new result }
+    ensures answered { AnswersOpen S.Store conn.old conn.new result }
     ensures reads_only { OnlyReads S.Store conn.old conn.new }
 {
     let header = open_header(conn, name)?;
@@ -120,6 +123,7 @@ pub fn remove_in_book<S: Alter>(
     requires counts { HoldCounts S.Store conn.old counts.old }
     ensures changes { AppliesStep S.Store conn.old conn.new result
         (λ books. remove_step limits books name.now uid.now expect) }
+    ensures answered { AnswersOpen S.Store conn.old conn.new result }
     ensures counts { KeepsCounts S.Store conn.old conn.new counts.old counts.new }
     ensures store_fault { ChangeFaultsFromOutside S.Store conn.old conn.new result }
     ensures crash { CommitsOnce S.Store conn.old conn.new

@@ -5,7 +5,11 @@ ghost use Rattle.book_model.specs.Books.{Book};
 ghost use Rattle.book_resync.specs.Resyncing.{accept_books, last_number_of};
 ghost use Rattle.store_lookups.specs.CallResults.{FollowsStep};
 ghost use Rattle.store_lookups.specs.Faults.{IsDeniedFault};
-ghost use Rattle.store_lookups.specs.OnConnections.{FaultsFromOutside, GivenSoundRows};
+ghost use Rattle.store_lookups.specs.OnConnections.{
+  AnswersOpen,
+  FaultsFromOutside,
+  GivenSoundRows,
+};
 ghost use Rattle.store_lookups.specs.StoreFaults.{FailsOnlyForMemory};
 ghost use Rattle.store_resync.specs.internal.Plans.{ArePlans, HasCanonicalText, HasShortText};
 ghost use Rattle.store_resync.specs.internal.Plans.{IsBookPlan, IsRenewed};
@@ -97,6 +101,7 @@ fn plan_book<S: Alter>(
         (last_number_of limits pairs book)) }
     ensures store_fault { FaultsFromOutside S.Store conn.old conn.new result }
     ensures unchanged { UnchangedOnOk S.Store conn.old conn.new result }
+    ensures answered { AnswersOpen S.Store conn.old conn.new result }
     ensures reads_only { OnlyReads S.Store conn.old conn.new }
 {
     let header = find_header(conn, name)?;
@@ -141,6 +146,7 @@ fn plan_books<S: Alter>(
     ensures store_fault { FaultsFromOutside S.Store conn.old conn.new result }
     ensures unchanged { UnchangedOnOk S.Store conn.old conn.new result }
     ensures was_open { WasOpenOnOk S.Store conn.old conn.new result }
+    ensures answered { AnswersOpen S.Store conn.old conn.new result }
     ensures reads_only { OnlyReads S.Store conn.old conn.new }
 {
     // A store without books must also fail on a closed connection.
@@ -168,6 +174,7 @@ pub(crate) fn plan_resync<S: Alter>(
     ensures store_fault { FaultsFromOutside S.Store conn.old conn.new result }
     ensures unchanged { UnchangedOnOk S.Store conn.old conn.new result }
     ensures was_open { WasOpenOnOk S.Store conn.old conn.new result }
+    ensures answered { AnswersOpen S.Store conn.old conn.new result }
     ensures reads_only { OnlyReads S.Store conn.old conn.new }
 {
     let lines = lines_of_books(alloc, conn)?;

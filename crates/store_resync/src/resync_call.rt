@@ -1,6 +1,9 @@
 //! The resync: all books of a store start again.
 ghost use Rattle.book_resync.specs.Resyncing.{resync_step};
-ghost use Rattle.store_lookups.specs.OnConnections.{KeepsCounts};
+ghost use Rattle.store_lookups.specs.OnConnections.{
+  AnswersOpen,
+  KeepsCounts,
+};
 ghost use Rattle.store_writes.specs.OnConnections.{AppliesStep, CommitsOnce};
 ghost use Rattle.std.specs.Prelude.{◌≡◌, ◌≤◌, OnErr, false};
 
@@ -31,6 +34,7 @@ pub fn resync_in_tables<S: Alter>(
     requires some { 1 ≤ pairs }
     ensures changes { AppliesStep S.Store conn.old conn.new result
         (λ books. resync_step limits books pairs) }
+    ensures answered { AnswersOpen S.Store conn.old conn.new result }
     ensures counts { KeepsCounts S.Store conn.old conn.new counts.old counts.new }
     ensures same_counts_on_err { OnErr result (counts.new ≡ counts.old) }
     ensures crash { CommitsOnce S.Store conn.old conn.new

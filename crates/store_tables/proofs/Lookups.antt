@@ -1,5 +1,5 @@
 -- The result of a look-up by a query over one table, for any SQL text.
-use Rattle.std.proofs.Common.{◌≡◌, ◌⊎◌, inl, inr, ℕ, Bool, false, List, [], ◌∷◌, map, filter, Option, Ok, Err, Result, IsTrue, refl, sym, ap, subst, ◌∙◌}
+use Rattle.std.proofs.Common.{◌≡◌, ◌⊎◌, inl, inr, ℕ, Bool, false, List, [], ◌∷◌, map, filter, Option, Some, None, Ok, Err, Result, IsTrue, refl, sym, ap, subst, ◌∙◌}
 use Rattle.std.specs.List.{AllByRecursion}
 use Rattle.std.proofs.lemmas.List.{nil_from_length}
 use Rattle.std.proofs.lemmas.List.Sorted.{length_permutation, IsPermutation-map, IsPermutation-trans}
@@ -20,6 +20,7 @@ use Rattle.sqlite.specs.Effect.{Database, RefusesQuery, RefusesToRead}
 use Rattle.sqlite.specs.Listing.{understood, reads_listing}
 use Rattle.sqlite.specs.Clock.{timed}
 use Rattle.sqlite.specs.Schema.{Schema}
+use Rattle.sqlite_schema.specs.declared.command.Returning.{Returning}
 use Rattle.sqlite_schema.specs.declared.program.Program.{Program}
 use Rattle.sqlite_trees.specs.declared.error.StoreError.{StoreError}
 use Rattle.sqlite_trees.specs.declared.error.StoreError.TheVariants as broken
@@ -110,6 +111,31 @@ module _ {X : Type 0} (sql : List ℕ) (params : Row) (schema : Schema) (tree : 
   finds old new xs (Err e) has rows (inr h) = λ none.
       let got = (reads_as sql _ old new schema has _ is.0 is.2 is.1 [] h.1).answer in
       nil_from_length _ (sym (length-map (filter test xs) show) ∙ sym (length_permutation _ [] (answers old.now.trees xs [] rows got)))
+
+-- ---- only an open connection answers
+
+-- a query that found no row was run
+none_open : (sql : List ℕ) (params : Row) (old new : State) → FailsToQuery sql params old new QueryReturnedNoRows → IsTrue old.is_open
+unfolding FailsToQuery IsNotRun
+none_open sql params old new (inl (inl h)) = h.1.0.was_open
+none_open sql params old new (inl (inr h)) = absurd (store_fault h.0 h.1)
+none_open sql params old new (inr h) = go h.0.returning h.2
+  where
+    go : (what : Option Returning) → FailsToShow old new sql h.0 (timed params h.0.formats h.1.now) QueryReturnedNoRows what → IsTrue old.is_open
+    go None k = k.3.0.was_open
+    go (Some it) (inl k) = k.1.0.was_open
+    go (Some it) (inr k) = absurd (store_fault k.0 k.1)
+
+pub row_answered : (sql : List ℕ) (params : Row) (old new : State) (r : Result Row Error) → QueriesRow sql params old new r → IfAnswered r (IsTrue old.is_open)
+unfolding QueriesRow
+row_answered sql params old new (Ok row) (inl h) = h.1.0.was_open
+row_answered sql params old new (Ok row) (inr h) = shown_open sql params old new h.0 h.1
+row_answered sql params old new (Err e) (inl h) = λ none. none_open sql params old new (subst (FailsToQuery sql params old new) none h)
+row_answered sql params old new (Err e) (inr h) = λ none. shown_open sql params old new [] h.1
+
+pub all_answered : (sql : List ℕ) (params : Row) (old new : State) (r : Result (Vec Row Global) Error) → IfOk r (λ rows. Shown sql params old new rows.items) → OnOk r (IsTrue old.is_open)
+all_answered sql params old new (Ok rows) h = shown_open sql params old new rows.items h
+all_answered sql params old new (Err e) h = tt
 
 -- ---- the effect of a query
 

@@ -186,6 +186,11 @@ module _ {S : Type 0} (store : Ghosts S) (old new : Held S) where
   WasOpenOnOk result =
       states.HasCleanDisk (state store new) → OnOk result (IsTrue (state store old).is_open)
 
+  -- only an open connection returns a row, or finds none
+  abbrev pub WasOpenIfAnswered : Result Row Error → Type 0
+  WasOpenIfAnswered result =
+      states.HasCleanDisk (state store new) → IfAnswered result (IsTrue (state store old).is_open)
+
   -- inside a transaction, a failed statement has no effect, or undoes the whole transaction
   abbrev pub UndoneOnErr : {T E : Type 0} → Result T E → Type 0
   UndoneOnErr result =

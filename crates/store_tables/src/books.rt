@@ -27,6 +27,8 @@ ghost use Rattle.store_tables.specs.OnConnections.{
   UnchangedIfAnswered,
   UnchangedOnOk,
   UndoneOnErr,
+  WasOpenIfAnswered,
+  WasOpenOnOk,
   WriteFailsFromOutside,
   WritesOnly,
 };
@@ -65,6 +67,7 @@ pub fn find_book<S: Alter>(conn: &mut Connection<S>, name: &str) -> Result<Row, 
     ensures finds { GivenBooks S.Store conn.old conn.new
         (λ bs. FindsRow (has_name name.now) numbers_shown bs result) }
     ensures unchanged { UnchangedIfAnswered S.Store conn.old conn.new result }
+    ensures was_open { WasOpenIfAnswered S.Store conn.old conn.new result }
     ensures fails_from_outside { MissesOrFailsFromOutside S.Store conn.old conn.new result }
     ensures reads_only { OnlyReads S.Store conn.old conn.new }
 {
@@ -80,6 +83,7 @@ pub fn count_books<S: Alter>(conn: &mut Connection<S>) -> Result<Row, Error>
     ensures counts { GivenBooks S.Store conn.old conn.new
         (λ bs. IfOk result (λ row. row ≡ count_value (length bs) ∷ [])) }
     ensures unchanged { UnchangedIfAnswered S.Store conn.old conn.new result }
+    ensures was_open { WasOpenIfAnswered S.Store conn.old conn.new result }
     ensures fails_from_outside { FailsFromOutside S.Store conn.old conn.new result }
     ensures reads_only { OnlyReads S.Store conn.old conn.new }
 {
@@ -202,6 +206,7 @@ pub fn all_books<S: Alter>(conn: &mut Connection<S>) -> Result<Vec<Row>, Error>
     ensures lists { GivenTables S.Store conn.old conn.new
         (ListsTable S.Store conn.old 2 book_listed result) }
     ensures unchanged { UnchangedOnOk S.Store conn.old conn.new result }
+    ensures was_open { WasOpenOnOk S.Store conn.old conn.new result }
     ensures fails_from_outside { FailsFromOutside S.Store conn.old conn.new result }
     ensures reads_only { OnlyReads S.Store conn.old conn.new }
 {

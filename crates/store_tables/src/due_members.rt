@@ -6,6 +6,7 @@ ghost use Rattle.store_tables.specs.OnConnections.{
   GivenMembers,
   OnlyReads,
   UnchangedOnOk,
+  WasOpenOnOk,
 };
 ghost use Rattle.std.specs.Prelude.{IfOk, filter};
 
@@ -29,6 +30,7 @@ pub fn first_due<S: Alter>(
         (λ rows. AreFirstRowsInOrder by_changed member_shown most
         (filter (is_member_due book at base) ms) rows.items)) }
     ensures unchanged { UnchangedOnOk S.Store conn.old conn.new result }
+    ensures was_open { WasOpenOnOk S.Store conn.old conn.new result }
     ensures fails_from_outside { FailsFromOutside S.Store conn.old conn.new result }
     ensures reads_only { OnlyReads S.Store conn.old conn.new }
 {

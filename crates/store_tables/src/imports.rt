@@ -17,6 +17,8 @@ ghost use Rattle.store_tables.specs.OnConnections.{
   UnchangedIfAnswered,
   UnchangedOnOk,
   UndoneOnErr,
+  WasOpenIfAnswered,
+  WasOpenOnOk,
   WriteFailsFromOutside,
   WritesOnly,
   table_rows,
@@ -33,6 +35,7 @@ pub fn find_import<S: Alter>(conn: &mut Connection<S>, book: i64, key: &str) -> 
     ensures finds { GivenImports S.Store conn.old conn.new
         (λ imports. FindsRow (has_key book key.now) import_shown imports result) }
     ensures unchanged { UnchangedIfAnswered S.Store conn.old conn.new result }
+    ensures was_open { WasOpenIfAnswered S.Store conn.old conn.new result }
     ensures fails_from_outside { MissesOrFailsFromOutside S.Store conn.old conn.new result }
     ensures reads_only { OnlyReads S.Store conn.old conn.new }
 {
@@ -83,6 +86,7 @@ pub fn all_imports<S: Alter>(conn: &mut Connection<S>) -> Result<Vec<Row>, Error
     ensures lists { GivenTables S.Store conn.old conn.new
         (ListsTable S.Store conn.old 7 import_cells result) }
     ensures unchanged { UnchangedOnOk S.Store conn.old conn.new result }
+    ensures was_open { WasOpenOnOk S.Store conn.old conn.new result }
     ensures fails_from_outside { FailsFromOutside S.Store conn.old conn.new result }
     ensures reads_only { OnlyReads S.Store conn.old conn.new }
 {

@@ -18,6 +18,8 @@ ghost use Rattle.store_tables.specs.OnConnections.{
   UnchangedIfAnswered,
   UnchangedOnOk,
   UndoneOnErr,
+  WasOpenIfAnswered,
+  WasOpenOnOk,
   WriteFailsFromOutside,
   WritesOnly,
 };
@@ -32,6 +34,7 @@ pub fn find_keep<S: Alter>(conn: &mut Connection<S>, book: i64) -> Result<Row, E
     ensures finds { GivenKeeps S.Store conn.old conn.new
         (λ keeps. FindsRow (is_keep_of book) keep_shown keeps result) }
     ensures unchanged { UnchangedIfAnswered S.Store conn.old conn.new result }
+    ensures was_open { WasOpenIfAnswered S.Store conn.old conn.new result }
     ensures fails_from_outside { MissesOrFailsFromOutside S.Store conn.old conn.new result }
     ensures reads_only { OnlyReads S.Store conn.old conn.new }
 {
@@ -69,6 +72,7 @@ pub fn all_keeps<S: Alter>(conn: &mut Connection<S>) -> Result<Vec<Row>, Error>
     ensures lists { GivenTables S.Store conn.old conn.new
         (ListsTable S.Store conn.old 9 keep_listed result) }
     ensures unchanged { UnchangedOnOk S.Store conn.old conn.new result }
+    ensures was_open { WasOpenOnOk S.Store conn.old conn.new result }
     ensures fails_from_outside { FailsFromOutside S.Store conn.old conn.new result }
     ensures reads_only { OnlyReads S.Store conn.old conn.new }
 {

@@ -33,6 +33,8 @@ ghost use Rattle.store_tables.specs.OnConnections.{
   UnchangedIfAnswered,
   UnchangedOnOk,
   UndoneOnErr,
+  WasOpenIfAnswered,
+  WasOpenOnOk,
   WriteFailsFromOutside,
   WritesOnly,
   table_rows,
@@ -67,6 +69,7 @@ pub fn find_member<S: Alter>(conn: &mut Connection<S>, book: i64, uid: &str) -> 
     ensures finds { GivenMembers S.Store conn.old conn.new
         (λ ms. FindsRow (has_uid book uid.now) number_card_shown ms result) }
     ensures unchanged { UnchangedIfAnswered S.Store conn.old conn.new result }
+    ensures was_open { WasOpenIfAnswered S.Store conn.old conn.new result }
     ensures fails_from_outside { MissesOrFailsFromOutside S.Store conn.old conn.new result }
     ensures reads_only { OnlyReads S.Store conn.old conn.new }
 {
@@ -88,6 +91,7 @@ pub fn count_removed<S: Alter>(
         (λ ms. IfOk result
         (λ row. row ≡ count_value (length (filter (is_removed_above book horizon) ms)) ∷ [])) }
     ensures unchanged { UnchangedIfAnswered S.Store conn.old conn.new result }
+    ensures was_open { WasOpenIfAnswered S.Store conn.old conn.new result }
     ensures fails_from_outside { FailsFromOutside S.Store conn.old conn.new result }
     ensures reads_only { OnlyReads S.Store conn.old conn.new }
 {
@@ -111,6 +115,7 @@ pub fn first_removed<S: Alter>(
         (λ ms. FindsFirstRow by_changed number_shown (filter (is_removed_above book horizon) ms)
         result) }
     ensures unchanged { UnchangedIfAnswered S.Store conn.old conn.new result }
+    ensures was_open { WasOpenIfAnswered S.Store conn.old conn.new result }
     ensures fails_from_outside { MissesOrFailsFromOutside S.Store conn.old conn.new result }
     ensures reads_only { OnlyReads S.Store conn.old conn.new }
 {
@@ -128,6 +133,7 @@ pub fn members_of<S: Alter>(conn: &mut Connection<S>, book: i64) -> Result<Vec<R
         (λ ms. IfOk result
         (λ rows. AreRowsInOrder by_changed member_shown (filter (is_in_book book) ms) rows.items)) }
     ensures unchanged { UnchangedOnOk S.Store conn.old conn.new result }
+    ensures was_open { WasOpenOnOk S.Store conn.old conn.new result }
     ensures fails_from_outside { FailsFromOutside S.Store conn.old conn.new result }
     ensures reads_only { OnlyReads S.Store conn.old conn.new }
 {

@@ -6,6 +6,7 @@ ghost use Rattle.store_tables.specs.OnConnections.{
   MissesOrFailsFromOutside,
   OnlyReads,
   UnchangedIfAnswered,
+  WasOpenIfAnswered,
 };
 
 use sqlite::{Alter, Connection, Error, Row, params};
@@ -22,6 +23,7 @@ pub fn find_named_member<S: Alter>(
     ensures finds { GivenBooksAndMembers S.Store conn.old conn.new
         (λ bs ms. FindsNamedMember name.now uid.now bs ms result) }
     ensures unchanged { UnchangedIfAnswered S.Store conn.old conn.new result }
+    ensures was_open { WasOpenIfAnswered S.Store conn.old conn.new result }
     ensures fails_from_outside { MissesOrFailsFromOutside S.Store conn.old conn.new result }
     ensures reads_only { OnlyReads S.Store conn.old conn.new }
 {

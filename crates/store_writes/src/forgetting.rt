@@ -12,6 +12,7 @@ ghost use Rattle.store_tables.specs.OnConnections.{
   WriteFailsFromOutside,
 };
 ghost use Rattle.store_lookups.specs.OnConnections.{
+  AnswersOpen,
   ChangeFaultsFromOutside,
   ChangeFaultsFromOutsideInBook,
   KeepsCounts,
@@ -144,6 +145,7 @@ pub fn forget_in_book<S: Alter>(
     requires { conn.old.in_transaction ≡ false }
     ensures changes { AppliesStep S.Store conn.old conn.new result
         (λ books. forget_step books name.now upto) }
+    ensures answered { AnswersOpen S.Store conn.old conn.new result }
     ensures counts { KeepsCounts S.Store conn.old conn.new counts.old counts.new }
     ensures same_counts_on_err { OnErr result (counts.new ≡ counts.old) }
     ensures store_fault { ChangeFaultsFromOutside S.Store conn.old conn.new result }

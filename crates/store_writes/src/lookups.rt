@@ -2,7 +2,11 @@
 ghost use Rattle.book_model.specs.Books.{as_stored};
 ghost use Rattle.store_lookups.specs.CallResults.{FindsHeader};
 ghost use Rattle.store_lookups.specs.Faults.{IsDeniedFault};
-ghost use Rattle.store_lookups.specs.OnConnections.{FaultsFromOutside, GivenSoundRows};
+ghost use Rattle.store_lookups.specs.OnConnections.{
+  AnswersOpen,
+  FaultsFromOutside,
+  GivenSoundRows,
+};
 ghost use Rattle.store_tables.specs.OnConnections.{
   HasCleanDisk,
   IsUnchanged,
@@ -24,6 +28,7 @@ pub fn check_open<S: Alter>(conn: &mut Connection<S>) -> Result<(), Denied>
         → OnOk result (IsUnchanged S.Store conn.old conn.new) }
     ensures fault { IfErr result IsDeniedFault }
     ensures store_fault { FaultsFromOutside S.Store conn.old conn.new result }
+    ensures answered { AnswersOpen S.Store conn.old conn.new result }
     ensures reads_only { OnlyReads S.Store conn.old conn.new }
 {
     match conn.prepare("COMMIT") {
@@ -40,6 +45,7 @@ pub fn open_header<S: Alter>(conn: &mut Connection<S>, name: &str) -> Result<Boo
     ensures store_fault { FaultsFromOutside S.Store conn.old conn.new result }
     ensures unchanged { UnchangedOnOk S.Store conn.old conn.new result }
     ensures was_open { WasOpenOnOk S.Store conn.old conn.new result }
+    ensures answered { AnswersOpen S.Store conn.old conn.new result }
     ensures reads_only { OnlyReads S.Store conn.old conn.new }
 {
     check_open(conn)?;

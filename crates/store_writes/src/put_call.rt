@@ -4,6 +4,7 @@ ghost use Rattle.book_model.specs.Putting.{found_in_book, put_answer, put_step, 
 ghost use Rattle.store_lookups.specs.CallResults.{FollowsStep};
 ghost use Rattle.store_writes.specs.internal.PutPlans.{IsPutPlanned};
 ghost use Rattle.store_lookups.specs.OnConnections.{
+  AnswersOpen,
   ChangeFaultsFromOutside,
   FaultsFromOutside,
   FaultsFromOutsideInBook,
@@ -46,6 +47,7 @@ fn decide_put<S: Alter>(
         (λ decided. IsSome (put_store_reason decided.0) → header.number + 1 < 2 ^ 63) }
     ensures store_fault { FaultsFromOutsideInBook S.Store conn.old conn.new header result }
     ensures unchanged { UnchangedOnOk S.Store conn.old conn.new result }
+    ensures answered { AnswersOpen S.Store conn.old conn.new result }
     ensures reads_only { OnlyReads S.Store conn.old conn.new }
 {
     // The proof needs the greatest limit of changes, which this call ensures.
@@ -78,6 +80,7 @@ fn plan_put<S: Alter>(
     ensures store_fault { FaultsFromOutside S.Store conn.old conn.new result }
     ensures unchanged { UnchangedOnOk S.Store conn.old conn.new result }
     ensures was_open { WasOpenOnOk S.Store conn.old conn.new result }
+    ensures answered { AnswersOpen S.Store conn.old conn.new result }
     ensures reads_only { OnlyReads S.Store conn.old conn.new }
 {
     let header = open_header(conn, name)?;
@@ -105,6 +108,7 @@ pub fn put_in_book<S: Alter>(
     requires { conn.old.in_transaction ≡ false }
     ensures changes { AppliesStep S.Store conn.old conn.new result
         (λ books. put_step limits books name.now card.now expect) }
+    ensures answered { AnswersOpen S.Store conn.old conn.new result }
     ensures counts { KeepsCounts S.Store conn.old conn.new counts.old counts.new }
     ensures store_fault { ChangeFaultsFromOutside S.Store conn.old conn.new result }
     ensures crash { CommitsOnce S.Store conn.old conn.new

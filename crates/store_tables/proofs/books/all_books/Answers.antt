@@ -2,7 +2,7 @@ use Rattle.sqlite.specs.Held.{state}
 use Rattle.store_tables.proofs.Queries.{books_text}
 use Rattle.store_tables.proofs.Texts.{books_is, books_selects}
 use Rattle.store_tables.proofs.ListLemmas.{books_in_order, books_listed}
-use Rattle.store_tables.proofs.Lookups.{all_reads, all_unchanged}
+use Rattle.store_tables.proofs.Lookups.{all_answered, all_reads, all_unchanged}
 use Rattle.store_tables.proofs.QueryFailures.{all_books_fails}
 use Rattle.store_tables.proofs.books.all_books.Goals as goal
 
@@ -20,3 +20,6 @@ returns-clause-lists g c clean has = books_listed (state g.S.Store c.args.conn.n
 
 pub returns-clause-fails_from_outside : goal.returns-clause-fails_from_outside
 returns-clause-fails_from_outside g c clean has = all_books_fails (state g.S.Store c.args.conn.now) (state g.S.Store c.query_all.new.self) c.query_all.result has (c.query_all.ensures.err clean)
+
+pub returns-clause-was_open : goal.returns-clause-was_open
+returns-clause-was_open g c clean = all_answered books_text _ (state g.S.Store c.args.conn.now) (state g.S.Store c.query_all.new.self) c.query_all.result (c.query_all.ensures.ok clean)

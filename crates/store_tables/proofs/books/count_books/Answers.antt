@@ -2,7 +2,7 @@ use Rattle.sqlite.specs.Held.{state}
 use Rattle.store_tables.proofs.Queries.{books_count_text}
 use Rattle.store_tables.proofs.Texts.{books_count_is, books_count_selects}
 use Rattle.store_tables.proofs.CountLemmas.{counts_books}
-use Rattle.store_tables.proofs.Lookups.{only_reads, ok_unchanged}
+use Rattle.store_tables.proofs.Lookups.{ok_unchanged, only_reads, row_answered}
 use Rattle.store_tables.proofs.QueryFailures.{count_books_fails}
 use Rattle.store_tables.proofs.books.count_books.Goals as goal
 
@@ -18,3 +18,6 @@ returns-clause-unchanged g c clean has = ok_unchanged books_count_text _ (state 
 
 pub returns-clause-fails_from_outside : goal.returns-clause-fails_from_outside
 returns-clause-fails_from_outside g c clean has = count_books_fails (state g.S.Store c.args.conn.now) (state g.S.Store c.query_row.new.self) c.query_row.result has (c.query_row.ensures.row clean)
+
+pub returns-clause-was_open : goal.returns-clause-was_open
+returns-clause-was_open g c clean = row_answered books_count_text _ (state g.S.Store c.args.conn.now) (state g.S.Store c.query_row.new.self) c.query_row.result (c.query_row.ensures.row clean)

@@ -2,7 +2,7 @@ use Rattle.sqlite.specs.Held.{state}
 use Rattle.store_tables.proofs.Queries.{book_text}
 use Rattle.store_tables.proofs.Texts.{book_is, book_selects}
 use Rattle.store_tables.proofs.FindLemmas.{finds_book}
-use Rattle.store_tables.proofs.Lookups.{only_reads, ok_unchanged}
+use Rattle.store_tables.proofs.Lookups.{ok_unchanged, only_reads, row_answered}
 use Rattle.store_tables.proofs.QueryFailures.{find_book_fails}
 use Rattle.store_tables.proofs.books.find_book.Goals as goal
 
@@ -18,3 +18,6 @@ returns-clause-unchanged g c clean has = ok_unchanged book_text _ (state g.S.Sto
 
 pub returns-clause-fails_from_outside : goal.returns-clause-fails_from_outside
 returns-clause-fails_from_outside g c clean has = find_book_fails (state g.S.Store c.args.conn.now) (state g.S.Store c.query_row.new.self) c.args.name.now c.query_row.result has (rw (c.params-to_sql.ensures) at (c.query_row.ensures.row clean))
+
+pub returns-clause-was_open : goal.returns-clause-was_open
+returns-clause-was_open g c clean = row_answered book_text _ (state g.S.Store c.args.conn.now) (state g.S.Store c.query_row.new.self) c.query_row.result (c.query_row.ensures.row clean)

@@ -4,7 +4,7 @@ use Rattle.sqlite.specs.Held.{state}
 use Rattle.store_tables.proofs.Queries.{due_text}
 use Rattle.store_tables.proofs.Texts.{due_is, due_selects}
 use Rattle.store_tables.proofs.DueLemmas.{due_first}
-use Rattle.store_tables.proofs.Lookups.{all_reads, all_unchanged}
+use Rattle.store_tables.proofs.Lookups.{all_answered, all_reads, all_unchanged}
 use Rattle.store_tables.proofs.QueryFailures.{first_due_fails}
 use Rattle.store_tables.proofs.due_members.first_due.Goals as goal
 
@@ -25,3 +25,6 @@ returns-clause-fails_from_outside g c clean has =
     first_due_fails (state g.S.Store c.args.conn.now) (state g.S.Store c.query_all.new.self) c.args.book c.args.at c.args.base (pos c.args.most) c.query_all.result has
     (rw (c.params-to_sql.ensures, c.params-to_sql-2.ensures, c.params-to_sql-3.ensures, c.params-to_sql-4.ensures, to_z-of_z c.ranges.book, to_z-of_z c.ranges.at, to_z-of_z c.ranges.base, to_z-of_z {w = w64} {z = c.from-most.result} (record { sfits = c.from-most.type_inv }), c.from-most.ensures)
     at (c.query_all.ensures.err clean))
+
+pub returns-clause-was_open : goal.returns-clause-was_open
+returns-clause-was_open g c clean = all_answered due_text _ (state g.S.Store c.args.conn.now) (state g.S.Store c.query_all.new.self) c.query_all.result (c.query_all.ensures.ok clean)

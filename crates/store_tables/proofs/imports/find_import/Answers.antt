@@ -3,7 +3,7 @@ use Rattle.sqlite.specs.Held.{state}
 use Rattle.store_tables.proofs.Queries.{import_text}
 use Rattle.store_tables.proofs.Texts.{import_is, import_selects}
 use Rattle.store_tables.proofs.FindLemmas.{finds_import}
-use Rattle.store_tables.proofs.Lookups.{only_reads, ok_unchanged}
+use Rattle.store_tables.proofs.Lookups.{ok_unchanged, only_reads, row_answered}
 use Rattle.store_tables.proofs.QueryFailures.{find_import_fails}
 use Rattle.store_tables.proofs.imports.find_import.Goals as goal
 
@@ -19,3 +19,6 @@ returns-clause-unchanged g c clean has = ok_unchanged import_text _ (state g.S.S
 
 pub returns-clause-fails_from_outside : goal.returns-clause-fails_from_outside
 returns-clause-fails_from_outside g c clean has = find_import_fails (state g.S.Store c.args.conn.now) (state g.S.Store c.query_row.new.self) c.args.book c.args.key.now c.query_row.result has (rw (c.params-to_sql.ensures, c.params-to_sql-2.ensures, to_z-of_z c.ranges.book) at (c.query_row.ensures.row clean))
+
+pub returns-clause-was_open : goal.returns-clause-was_open
+returns-clause-was_open g c clean = row_answered import_text _ (state g.S.Store c.args.conn.now) (state g.S.Store c.query_row.new.self) c.query_row.result (c.query_row.ensures.row clean)

@@ -3,7 +3,7 @@ use Rattle.sqlite.specs.Held.{state}
 use Rattle.store_tables.proofs.Queries.{all_keeps_text, all_keeps_terms}
 use Rattle.store_tables.proofs.Texts.{all_keeps_is, all_keeps_selects}
 use Rattle.store_tables.proofs.ListLemmas.{lists_rows}
-use Rattle.store_tables.proofs.Lookups.{all_reads, all_unchanged}
+use Rattle.store_tables.proofs.Lookups.{all_answered, all_reads, all_unchanged}
 use Rattle.store_tables.proofs.QueryFailures.{all_keeps_fails}
 use Rattle.store_tables.proofs.keeps.all_keeps.Goals as goal
 
@@ -18,3 +18,6 @@ returns-clause-unchanged g c clean has = all_unchanged all_keeps_text _ (state g
 
 pub returns-clause-fails_from_outside : goal.returns-clause-fails_from_outside
 returns-clause-fails_from_outside g c clean has = all_keeps_fails (state g.S.Store c.args.conn.now) (state g.S.Store c.query_all.new.self) c.query_all.result has (c.query_all.ensures.err clean)
+
+pub returns-clause-was_open : goal.returns-clause-was_open
+returns-clause-was_open g c clean = all_answered all_keeps_text _ (state g.S.Store c.args.conn.now) (state g.S.Store c.query_all.new.self) c.query_all.result (c.query_all.ensures.ok clean)

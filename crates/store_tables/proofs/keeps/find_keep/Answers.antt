@@ -3,7 +3,7 @@ use Rattle.sqlite.specs.Held.{state}
 use Rattle.store_tables.proofs.Queries.{keep_text}
 use Rattle.store_tables.proofs.Texts.{keep_is, keep_selects}
 use Rattle.store_tables.proofs.FindLemmas.{finds_keep}
-use Rattle.store_tables.proofs.Lookups.{only_reads, ok_unchanged}
+use Rattle.store_tables.proofs.Lookups.{ok_unchanged, only_reads, row_answered}
 use Rattle.store_tables.proofs.QueryFailures.{find_keep_fails}
 use Rattle.store_tables.proofs.keeps.find_keep.Goals as goal
 
@@ -19,3 +19,6 @@ returns-clause-unchanged g c clean has = ok_unchanged keep_text _ (state g.S.Sto
 
 pub returns-clause-fails_from_outside : goal.returns-clause-fails_from_outside
 returns-clause-fails_from_outside g c clean has = find_keep_fails (state g.S.Store c.args.conn.now) (state g.S.Store c.query_row.new.self) c.args.book c.query_row.result has (rw (c.params-to_sql.ensures, to_z-of_z c.ranges.book) at (c.query_row.ensures.row clean))
+
+pub returns-clause-was_open : goal.returns-clause-was_open
+returns-clause-was_open g c clean = row_answered keep_text _ (state g.S.Store c.args.conn.now) (state g.S.Store c.query_row.new.self) c.query_row.result (c.query_row.ensures.row clean)

@@ -3,7 +3,7 @@ use Rattle.sqlite.specs.Held.{state}
 use Rattle.store_tables.proofs.Queries.{count_text}
 use Rattle.store_tables.proofs.Texts.{count_is, count_selects}
 use Rattle.store_tables.proofs.CountLemmas.{counts_removed}
-use Rattle.store_tables.proofs.Lookups.{only_reads, ok_unchanged}
+use Rattle.store_tables.proofs.Lookups.{ok_unchanged, only_reads, row_answered}
 use Rattle.store_tables.proofs.QueryFailures.{count_removed_fails}
 use Rattle.store_tables.proofs.members.count_removed.Goals as goal
 
@@ -19,3 +19,6 @@ returns-clause-unchanged g c clean has = ok_unchanged count_text _ (state g.S.St
 
 pub returns-clause-fails_from_outside : goal.returns-clause-fails_from_outside
 returns-clause-fails_from_outside g c clean has = count_removed_fails (state g.S.Store c.args.conn.now) (state g.S.Store c.query_row.new.self) c.args.book c.args.horizon c.query_row.result has (rw (c.params-to_sql.ensures, c.params-to_sql-2.ensures, to_z-of_z c.ranges.book, to_z-of_z c.ranges.horizon) at (c.query_row.ensures.row clean))
+
+pub returns-clause-was_open : goal.returns-clause-was_open
+returns-clause-was_open g c clean = row_answered count_text _ (state g.S.Store c.args.conn.now) (state g.S.Store c.query_row.new.self) c.query_row.result (c.query_row.ensures.row clean)

@@ -3,7 +3,7 @@ use Rattle.sqlite.specs.Held.{state}
 use Rattle.store_tables.proofs.Queries.{members_text}
 use Rattle.store_tables.proofs.Texts.{members_is, members_selects}
 use Rattle.store_tables.proofs.DueLemmas.{members_in_order}
-use Rattle.store_tables.proofs.Lookups.{all_reads, all_unchanged}
+use Rattle.store_tables.proofs.Lookups.{all_answered, all_reads, all_unchanged}
 use Rattle.store_tables.proofs.QueryFailures.{members_of_fails}
 use Rattle.store_tables.proofs.members.members_of.Goals as goal
 
@@ -19,3 +19,6 @@ returns-clause-unchanged g c clean has = all_unchanged members_text _ (state g.S
 
 pub returns-clause-fails_from_outside : goal.returns-clause-fails_from_outside
 returns-clause-fails_from_outside g c clean has = members_of_fails (state g.S.Store c.args.conn.now) (state g.S.Store c.query_all.new.self) c.args.book c.query_all.result has (rw (c.params-to_sql.ensures, to_z-of_z c.ranges.book) at (c.query_all.ensures.err clean))
+
+pub returns-clause-was_open : goal.returns-clause-was_open
+returns-clause-was_open g c clean = all_answered members_text _ (state g.S.Store c.args.conn.now) (state g.S.Store c.query_all.new.self) c.query_all.result (c.query_all.ensures.ok clean)

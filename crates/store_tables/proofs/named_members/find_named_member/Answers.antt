@@ -1,5 +1,5 @@
 use Rattle.sqlite.specs.Held.{state}
-use Rattle.store_tables.proofs.Lookups.{only_reads, ok_unchanged}
+use Rattle.store_tables.proofs.Lookups.{ok_unchanged, only_reads, row_answered}
 use Rattle.store_tables.proofs.JoinQueries.{named_text}
 use Rattle.store_tables.proofs.JoinTexts.{named_is, named_selects}
 use Rattle.store_tables.proofs.NamedMemberLemmas.{finds_named, named_fails}
@@ -17,3 +17,6 @@ returns-clause-unchanged g c clean has = ok_unchanged named_text _ (state g.S.St
 
 pub returns-clause-fails_from_outside : goal.returns-clause-fails_from_outside
 returns-clause-fails_from_outside g c clean has = named_fails c.args.name.now c.args.uid.now (state g.S.Store c.args.conn.now) (state g.S.Store c.query_row.new.self) c.query_row.result has (rw (c.params-to_sql.ensures, c.params-to_sql-2.ensures) at (c.query_row.ensures.row clean))
+
+pub returns-clause-was_open : goal.returns-clause-was_open
+returns-clause-was_open g c clean = row_answered named_text _ (state g.S.Store c.args.conn.now) (state g.S.Store c.query_row.new.self) c.query_row.result (c.query_row.ensures.row clean)
