@@ -4,7 +4,7 @@ ghost use Rattle.book_store.specs.StoreViews.{table_model};
 ghost use Rattle.store_lookups.specs.CallResults.{IsExactly};
 ghost use Rattle.store_lookups.specs.OnConnections.{ChangeFaultsFromOutside};
 ghost use Rattle.store_tables.specs.OnConnections.{OnlyReads};
-ghost use Rattle.sync_core.specs.StoreModels.{AnswersQuery, KeepsTerms};
+ghost use Rattle.sync_core.specs.StoreModels.{AnswersQuery, KeepsTerms, LeavesNoMore};
 
 use crate::sql_store::SqlStore;
 use book_model::Denied;
@@ -19,6 +19,7 @@ impl<S: Alter> SqlStore<S> {
         ensures terms { KeepsTerms (table_model S.Store) self.old self.new }
         ensures answers { AnswersQuery (table_model S.Store) IsExactly self.old self.new result
             (λ _ books. keep_step books book.now) }
+        ensures leaves_no_more { LeavesNoMore (table_model S.Store) self.old self.new result }
         ensures reads_only { OnlyReads S.Store self.old.conn self.new.conn }
         ensures store_fault { ChangeFaultsFromOutside S.Store self.old.conn self.new.conn result }
     {

@@ -22,8 +22,8 @@ pub record IsCommittedAndSound (s : State) : Type 0 where
   pub sound : HoldsSoundRows s.now
 
 -- Only an open connection answers: unless the call returned a fault, the connection is open after
--- it. The condition is that the tables of a connection that was open on an honest disk were committed
--- and sound.
+-- it. The condition is that the tables of a connection that was open on an honest disk were
+-- committed and sound.
 abbrev pub AnswersOpen : {A : Type 0} → State → State → Result A Denied → Type 0
 AnswersOpen old new result = HasCleanDisk new → (IsOpenOnHonestDisk old → IsCommittedAndSound old) →
     UnlessFault result (IsTrue new.is_open)

@@ -4,6 +4,7 @@ use Rattle.book_model.specs.Books.{Books}
 use Rattle.book_model.specs.Bounds.{Bounds}
 use Rattle.book_store.specs.StoreViews.{ReadsStore, StoreView}
 use Rattle.sqlite.specs.Held.{state}
+use Rattle.sqlite.specs.Tree.{Trees}
 use Rattle.book_store.proofs.CountLemmas.{still_counts}
 use Rattle.book_store.proofs.StoreLemmas.{only_reads_store, still_store}
 use Rattle.book_store.proofs.calls.SqlStoreBookStore.books.Goals as goal
@@ -15,7 +16,7 @@ returns g c =
     let query = λ (limits : Bounds) (books : Books). Ok (book_lines books) in
     record {
       reads = subst (λ (v : StoreView _). ReadsStore g.S.Store (λ expected lines. lines.items ≡ expected) v new c.lines_of_books.result query) c.self.view_is
-          (only_reads_store g.S.Store (λ expected lines. lines.items ≡ expected) old new c.lines_of_books.result query c.self.invariant.0 refl c.lines_of_books.ensures.reads_only c.lines_of_books.ensures.answers c.lines_of_books.ensures.store_fault);
+          (only_reads_store g.S.Store (λ expected lines. lines.items ≡ expected) old new c.lines_of_books.result query c.self.invariant.0 (λ (trees : Trees) up may. g.met.S.Store.settled c.lines_of_books.new.conn.store trees up may) refl c.lines_of_books.ensures.reads_only c.lines_of_books.ensures.answers c.lines_of_books.ensures.answered c.lines_of_books.ensures.store_fault);
     }
 
 pub invariant_of-self : goal.invariant_of-self

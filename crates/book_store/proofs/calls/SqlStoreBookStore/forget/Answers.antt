@@ -4,6 +4,7 @@ use Rattle.book_model.specs.Bounds.{Bounds}
 use Rattle.book_model.specs.Forgetting.{forget_step}
 use Rattle.book_store.specs.StoreViews.{ChangesStore, StoreView}
 use Rattle.sqlite.specs.Held.{state}
+use Rattle.sqlite.specs.Tree.{Trees}
 use Rattle.book_store.proofs.CountLemmas.{kept_counts}
 use Rattle.book_laws.proofs.WellFormedSteps.{forgetting_keeps_form}
 use Rattle.store_check.specs.OpenResults.{max_limits}
@@ -17,7 +18,7 @@ returns g c =
     let step = λ (limits : Bounds) (books : Books). forget_step books c.args.book.now c.args.upto in
     record {
       changes = subst (λ (v : StoreView _). ChangesStore g.S.Store v new c.forget_in_book.result step) c.self.view_is
-          (changes_store g.S.Store old new c.forget_in_book.result step c.self.invariant.0 refl c.forget_in_book.ensures.changes c.forget_in_book.ensures.crash c.forget_in_book.ensures.store_fault);
+          (changes_store g.S.Store old new c.forget_in_book.result step c.self.invariant.0 (λ (trees : Trees) up may. g.met.S.Store.settled c.forget_in_book.new.conn.store trees up may) refl c.forget_in_book.ensures.changes c.forget_in_book.ensures.answered c.forget_in_book.ensures.crash c.forget_in_book.ensures.store_fault);
     }
 
 pub invariant_of-self : goal.invariant_of-self

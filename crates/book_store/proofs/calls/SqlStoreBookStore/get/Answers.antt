@@ -5,6 +5,7 @@ use Rattle.book_model.specs.Bounds.{Bounds}
 use Rattle.store_lookups.specs.CallResults.{IsExactly}
 use Rattle.book_store.specs.StoreViews.{ReadsStore, StoreView}
 use Rattle.sqlite.specs.Held.{state}
+use Rattle.sqlite.specs.Tree.{Trees}
 use Rattle.book_store.proofs.CountLemmas.{still_counts}
 use Rattle.book_store.proofs.StoreLemmas.{only_reads_store, still_store}
 use Rattle.book_store.proofs.calls.SqlStoreBookStore.get.Goals as goal
@@ -16,7 +17,7 @@ returns g c =
     let query = λ (limits : Bounds) (books : Books). get_step books c.args.book.now c.args.uid.now in
     record {
       reads = subst (λ (v : StoreView _). ReadsStore g.S.Store IsExactly v new c.stored_of_book.result query) c.self.view_is
-          (only_reads_store g.S.Store IsExactly old new c.stored_of_book.result query c.self.invariant.0 refl c.stored_of_book.ensures.reads_only c.stored_of_book.ensures.answers c.stored_of_book.ensures.store_fault);
+          (only_reads_store g.S.Store IsExactly old new c.stored_of_book.result query c.self.invariant.0 (λ (trees : Trees) up may. g.met.S.Store.settled c.stored_of_book.new.conn.store trees up may) refl c.stored_of_book.ensures.reads_only c.stored_of_book.ensures.answers c.stored_of_book.ensures.answered c.stored_of_book.ensures.store_fault);
     }
 
 pub invariant_of-self : goal.invariant_of-self

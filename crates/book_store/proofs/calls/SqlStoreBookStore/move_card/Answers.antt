@@ -4,6 +4,7 @@ use Rattle.book_model.specs.Bounds.{Bounds}
 use Rattle.book_model.specs.Moving.{move_step}
 use Rattle.book_store.specs.StoreViews.{ChangesStore, StoreView}
 use Rattle.sqlite.specs.Held.{state}
+use Rattle.sqlite.specs.Tree.{Trees}
 use Rattle.book_store.proofs.CountLemmas.{kept_counts}
 use Rattle.book_laws.proofs.WellFormedSteps.{moving_keeps_form}
 use Rattle.store_check.specs.OpenResults.{max_limits}
@@ -17,7 +18,7 @@ returns g c =
     let step = λ (limits : Bounds) (books : Books). move_step limits books c.args.from.now c.args.to.now c.args.uid.now c.args.expect in
     record {
       changes = subst (λ (v : StoreView _). ChangesStore g.S.Store v new c.move_in_tables.result step) c.self.view_is
-          (changes_store g.S.Store old new c.move_in_tables.result step c.self.invariant.0 refl c.move_in_tables.ensures.changes c.move_in_tables.ensures.crash c.move_in_tables.ensures.store_fault);
+          (changes_store g.S.Store old new c.move_in_tables.result step c.self.invariant.0 (λ (trees : Trees) up may. g.met.S.Store.settled c.move_in_tables.new.conn.store trees up may) refl c.move_in_tables.ensures.changes c.move_in_tables.ensures.answered c.move_in_tables.ensures.crash c.move_in_tables.ensures.store_fault);
     }
 
 pub invariant_of-self : goal.invariant_of-self

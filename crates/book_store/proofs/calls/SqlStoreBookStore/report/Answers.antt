@@ -4,6 +4,7 @@ use Rattle.book_model.specs.Bounds.{Bounds}
 use Rattle.book_model.specs.Pages.{IsReport, report_step}
 use Rattle.book_store.specs.StoreViews.{ReadsStore, StoreView}
 use Rattle.sqlite.specs.Held.{state}
+use Rattle.sqlite.specs.Tree.{Trees}
 use Rattle.book_store.proofs.CountLemmas.{still_counts}
 use Rattle.book_store.proofs.StoreLemmas.{only_reads_store, still_store}
 use Rattle.book_store.proofs.calls.SqlStoreBookStore.report.Goals as goal
@@ -15,7 +16,7 @@ returns g c =
     let query = λ (limits : Bounds) (books : Books). report_step limits books c.args.book.now c.args.token c.args.limit in
     record {
       reads = subst (λ (v : StoreView _). ReadsStore g.S.Store IsReport v new c.page_of_book.result query) c.self.view_is
-          (only_reads_store g.S.Store IsReport old new c.page_of_book.result query c.self.invariant.0 refl c.page_of_book.ensures.reads_only c.page_of_book.ensures.answers c.page_of_book.ensures.store_fault);
+          (only_reads_store g.S.Store IsReport old new c.page_of_book.result query c.self.invariant.0 (λ (trees : Trees) up may. g.met.S.Store.settled c.page_of_book.new.conn.store trees up may) refl c.page_of_book.ensures.reads_only c.page_of_book.ensures.answers c.page_of_book.ensures.answered c.page_of_book.ensures.store_fault);
     }
 
 pub invariant_of-self : goal.invariant_of-self

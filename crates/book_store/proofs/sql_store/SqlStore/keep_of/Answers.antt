@@ -1,16 +1,17 @@
 use Rattle.std.proofs.Common.{refl, subst}
 use Rattle.sqlite.specs.Held.{state}
+use Rattle.sqlite.specs.Tree.{Trees}
 use Rattle.book_model.specs.BookQueries.{keep_step}
 use Rattle.book_model.specs.Books.{Books}
 use Rattle.book_model.specs.Bounds.{Bounds}
-use Rattle.sync_core.specs.StoreModels.{AnswersQuery, KeepsTerms}
+use Rattle.sync_core.specs.StoreModels.{AnswersQuery, KeepsTerms, LeavesNoMore}
 use Rattle.store_tables.specs.StatementEffects.{OnlyReads}
 use Rattle.store_lookups.specs.CallResults.{IsExactly}
 use Rattle.store_lookups.specs.ChangeFaults.{ChangeFaultsFromOutside}
 use Rattle.store_writes.proofs.CallLemmas.{read_before}
 use Rattle.book_store.specs.StoreViews.{StoreView, table_model}
 use Rattle.book_store.proofs.CountLemmas.{still_counts}
-use Rattle.book_store.proofs.StoreLemmas.{reads_store, still_store}
+use Rattle.book_store.proofs.StoreLemmas.{leaves_no_more, reads_store, still_store}
 use Rattle.book_store.proofs.sql_store.SqlStore.keep_of.Goals as goal
 
 pub invariant_of-self : goal.invariant_of-self
@@ -42,3 +43,11 @@ returns-clause-reads_only g c =
 pub returns-clause-store_fault : goal.returns-clause-store_fault
 returns-clause-store_fault g c =
     subst (λ (v : StoreView _). ChangeFaultsFromOutside (state g.S.Store v.conn) (state g.S.Store c.keep_of_book.new.conn) c.keep_of_book.result) c.self.view_is c.keep_of_book.ensures.store_fault
+
+pub returns-clause-leaves_no_more : goal.returns-clause-leaves_no_more
+returns-clause-leaves_no_more g c =
+    let new : StoreView _ = record { conn = c.keep_of_book.new.conn; limits = c.self.inside.limits } in
+    let old : StoreView _ = record { conn = c.self.inside.conn; limits = c.self.inside.limits } in
+    subst (λ (v : StoreView _). LeavesNoMore (table_model g.S.Store) v new c.keep_of_book.result) c.self.view_is
+    (leaves_no_more g.S.Store old new c.keep_of_book.result (λ (trees : Trees) up may. g.met.S.Store.settled c.keep_of_book.new.conn.store trees up may) c.self.invariant.0.stays_sound
+    (still_store (state g.S.Store c.self.inside.conn) (state g.S.Store c.keep_of_book.new.conn) c.self.inside.limits c.self.invariant.0 c.keep_of_book.ensures.reads_only).stays_sound c.keep_of_book.ensures.answered c.keep_of_book.ensures.reads_only)

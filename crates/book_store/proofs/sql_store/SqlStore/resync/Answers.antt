@@ -12,21 +12,24 @@ use Rattle.store_check.specs.OpenResults.{max_limits}
 use Rattle.book_store.specs.StoreResyncs.{ResyncsStore}
 use Rattle.book_store.specs.StoreViews.{IsStore, StoreView}
 use Rattle.sqlite.specs.Held.{state}
+use Rattle.sqlite.specs.Tree.{Trees}
+use Rattle.store_lookups.specs.StoredBooks.{AnswersOpen}
 use Rattle.sqlite_trees.specs.declared.store.Store.{Ghosts}
 use Rattle.store_writes.specs.TableChanges.{AppliesStep, CommitsOnce}
 use Rattle.book_store.proofs.CountLemmas.{kept_counts}
-use Rattle.book_store.proofs.StoreLemmas.{changed_store, max_in_range}
+use Rattle.book_store.proofs.StoreLemmas.{LeavesCommitted, changed_store, leaves_step, max_in_range}
 use Rattle.book_store.proofs.sql_store.SqlStore.resync.Goals as goal
 
-resyncs_store : {S : Type 0} (g : Ghosts S) (old new : StoreView S) (pairs : ℕ) (r : Result ℕ Denied) → IsStore (state g old.conn) old.limits → new.limits ≡ old.limits
-    → AppliesStep (state g old.conn) (state g new.conn) r (λ books. resync_step old.limits books pairs) → CommitsOnce (state g old.conn) (state g new.conn) (λ books. resync_step old.limits books pairs) → ResyncsStore g old new pairs r
-resyncs_store g old new pairs r store same changed commits = record {
+resyncs_store : {S : Type 0} (g : Ghosts S) (old new : StoreView S) (pairs : ℕ) (r : Result ℕ Denied) → IsStore (state g old.conn) old.limits → LeavesCommitted (state g new.conn) → new.limits ≡ old.limits
+    → AppliesStep (state g old.conn) (state g new.conn) r (λ books. resync_step old.limits books pairs) → AnswersOpen (state g old.conn) (state g new.conn) r → CommitsOnce (state g old.conn) (state g new.conn) (λ books. resync_step old.limits books pairs) → ResyncsStore g old new pairs r
+resyncs_store g old new pairs r store alone same changed answers commits = record {
   keeps_terms = record {
     premise = changed.was_open_on_honest_disk;
     limits = same;
     range = subst IsInRange (sym same) store.range;
   };
   matches_step = λ order. changed.matches_step order (store.stays_sound (changed.was_open_on_honest_disk order));
+  leaves_step = leaves_step g old new r alone store.stays_sound (λ order. changed.stays_sound order (store.stays_sound (changed.was_open_on_honest_disk order))) answers (λ limits books. resync_step limits books pairs) (commits store.stays_sound);
   crash = commits store.stays_sound;
 }
 
@@ -44,7 +47,7 @@ returns g c =
     let old : StoreView _ = record { conn = c.self.inside.conn; limits = c.self.inside.limits } in
     record {
       changes = subst (λ (v : StoreView _). ResyncsStore g.S.Store v new c.args.pairs c.resync_in_tables.result) c.self.view_is
-          (resyncs_store g.S.Store old new c.args.pairs c.resync_in_tables.result c.self.invariant.0 refl c.resync_in_tables.ensures.changes c.resync_in_tables.ensures.crash);
+          (resyncs_store g.S.Store old new c.args.pairs c.resync_in_tables.result c.self.invariant.0 (λ (trees : Trees) up may. g.met.S.Store.settled c.resync_in_tables.new.conn.store trees up may) refl c.resync_in_tables.ensures.changes c.resync_in_tables.ensures.answered c.resync_in_tables.ensures.crash);
     }
 
 pub invariant_of-self : goal.invariant_of-self
