@@ -8,6 +8,7 @@ pub mod Runs
 pub mod PageCounts
 pub mod Promise
 pub mod Lives
+pub mod Crashes
 pub mod Mirrors
 pub mod PageTokenLaws
 pub mod internal

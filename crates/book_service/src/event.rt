@@ -1,5 +1,6 @@
 //! Runs of events: commands, and devices that request pages between them.
 ghost use Rattle.std.specs.Prelude.{◌≡◌, ◌↔◌, length, All, IfOk, IsTrue, OnErr};
+ghost use Rattle.book_service.specs.Crashes.{LeavesEvent, LeavesRun};
 ghost use Rattle.book_service.specs.Faults.{AllowedFaults, IfFaultReply, EventFault};
 ghost use Rattle.book_service.specs.PageCounts.{HasFewTruncatedPages};
 ghost use Rattle.book_service.specs.Runs.{NamesDeviceBelow, FromEachState, StepsTo};
@@ -55,6 +56,8 @@ fn do_event<S: BookStore>(
     ensures step { FromEachState S.model store.old store.new (λ now.
         now.devices ≡ devices.old.items →
         StepsTo now event.now result (S.model.books store.new) devices.new.items) }
+    ensures crash { LeavesEvent S.model store.old store.new event.now result
+        devices.old.items devices.new.items }
 {
     match event {
         Event::Do(command) => perform(alloc, store, command),
@@ -91,6 +94,11 @@ pub fn drive<S: BookStore>(
     ensures runs { IfOk result (λ replies. FromEachState S.model store.old store.new (λ now.
         now.devices ≡ devices.old.items →
         RanTo now events.now replies.items (S.model.books store.new) devices.new.items)) }
+
+    // Whatever a crash leaves then, the first events ran into it, perhaps with the next command, and
+    // the other replies are faults: so each reply that is no fault was a step, and stays one.
+    ensures crash { IfOk result (λ replies. LeavesRun S.model store.old store.new events.now
+        replies.items devices.old.items devices.new.items) }
 
     // The number of truncated pages that a device receives is bounded.
     ensures truncated { IfOk result (λ replies. FromEachState S.model store.old store.new (λ now.

@@ -1,0 +1,86 @@
+-- What a crash leaves of a store that the service used: after an event, and after a run.
+use Rattle.std.specs.Prelude.{◌≡◌, ◌⊎◌, List, [], ◌++◌, map}
+use Rattle.std.specs.List.{AllByRecursion}
+use Rattle.book_commands.specs.declared.command.Command.{Command}
+use Rattle.book_commands.specs.declared.reply.Reply.{Reply}
+use Rattle.book_model.specs.Books.{Books}
+use Rattle.book_model.specs.Devices.{DeviceState}
+use Rattle.sync_core.specs.StoreModels.{IsSettled, StoreModel}
+use Rattle.book_service.specs.declared.event.Event.{Event}
+use Rattle.book_service.specs.declared.event.Event.TheVariants.{Do, Ask}
+use Rattle.book_service.specs.Faults.{IsFault}
+use Rattle.book_service.specs.Lives.{MadeOf, ServerRun}
+use Rattle.book_service.specs.Runs.{MatchesRows, Run, StepsTo, SystemState, TraceStep, end_of}
+use Rattle.book_service.specs.Runs.{events_of, replies_of}
+
+-- ---- an event
+
+module _ {S : Type 0} (model : StoreModel S) where
+  -- From each state with the rows before it, the whole event leads to these rows, with some reply.
+  -- A request for a page leads to none, since it changes no book.
+  abbrev pub IsAfterEvent : S → Event → Books → Type 0
+  IsAfterEvent old (Do command) books =
+      (now : SystemState) → MatchesRows now (model.limits old) (model.books old) →
+      (r : Reply) × StepsTo now (Do command) r books now.devices
+  IsAfterEvent old (Ask i limit) books = ⊥
+
+  -- A crash after an event leaves what it could leave before, or the rows after the whole event,
+  -- which was done over a store whose premise held. If the premise holds, it leaves the rows as they
+  -- are; else the reply is a fault, and no device changed.
+  pub record LeavesEvent (old new : S) (event : Event) (r : Reply)
+      (before after : List DeviceState) : Type 0 where
+    pub only : (books : Books) → model.may_leave new books →
+        model.may_leave old books ⊎ (model.premise old × IsAfterEvent old event books)
+    pub settled : IsSettled model new
+    pub answered : (books : Books) → model.may_leave new books →
+        model.premise new ⊎ (IsFault r × (after ≡ before))
+
+  -- the same of a command, which changes no device
+  abbrev pub LeavesCommand : S → S → Command → Reply → Type 0
+  LeavesCommand old new command r = LeavesEvent old new (Do command) r [] []
+
+  -- A crash after a device's request leaves what it could leave before. If the premise doesn't hold,
+  -- the reply is a fault, and the device is as it was.
+  pub record LeavesAsk (old new : S) (r : Reply) (before after : DeviceState) : Type 0 where
+    pub only : (books : Books) → model.may_leave new books → model.may_leave old books
+    pub settled : IsSettled model new
+    pub answered : (books : Books) → model.may_leave new books →
+        model.premise new ⊎ (IsFault r × (after ≡ before))
+
+-- ---- a run
+
+-- From this state the first of these events were answered, with these replies. The next one may be a
+-- command that was made, with a reply that was lost. It and all later events were answered with
+-- faults. That led to these rows and devices.
+pub record RanInto (now : SystemState) (events : List Event) (replies : List Reply)
+    (books : Books) (devices : List DeviceState) : Type 0 where
+  pub run : ServerRun
+  pub made : List TraceStep
+  pub later : List Event
+  pub faults : List Reply
+  pub answered : Run now run.answered
+  pub makes : MadeOf run.interrupted (end_of now run.answered) made
+  pub events_are : events ≡ events_of run.answered ++ (map Do run.interrupted ++ later)
+  pub replies_are : replies ≡ replies_of run.answered ++ faults
+  pub all_faults : AllByRecursion IsFault faults
+  pub at : MatchesRows (end_of now (run.answered ++ made)) now.model.limits books
+  pub devices_are : (end_of now (run.answered ++ made)).devices ≡ devices
+
+module _ {S : Type 0} (model : StoreModel S) where
+  -- Nothing was done: a crash left these rows before the run too, each event was answered with a
+  -- fault, and no device changed.
+  pub record IsLeftAsBefore (old : S) (books : Books) (replies : List Reply)
+      (before after : List DeviceState) : Type 0 where
+    pub left : model.may_leave old books
+    pub all_faults : AllByRecursion IsFault replies
+    pub same_devices : after ≡ before
+
+  -- Whatever a crash leaves at the end of these events, nothing was done; or the premise held at
+  -- their beginning, and from each state with the rows before them they ran into what is left.
+  abbrev pub LeavesRun : S → S → List Event → List Reply → List DeviceState → List DeviceState
+      → Type 0
+  LeavesRun old new events replies before after =
+      (books : Books) → model.may_leave new books → IsLeftAsBefore old books replies before after
+      ⊎ (model.premise old × ((now : SystemState)
+      → MatchesRows now (model.limits old) (model.books old) → now.devices ≡ before
+      → RanInto now events replies books after))
