@@ -1,5 +1,5 @@
 -- What a crash leaves of a store that the service used: after an event, and after a run.
-use Rattle.std.specs.Prelude.{◌≡◌, ◌⊎◌, List, [], ◌++◌, map}
+use Rattle.std.specs.Prelude.{◌≡◌, ◌⊎◌, List, [], ◌∷◌, ◌++◌, map}
 use Rattle.std.specs.List.{AllByRecursion}
 use Rattle.book_commands.specs.declared.command.Command.{Command}
 use Rattle.book_commands.specs.declared.reply.Reply.{Reply}
@@ -9,7 +9,7 @@ use Rattle.sync_core.specs.StoreModels.{IsSettled, StoreModel}
 use Rattle.book_service.specs.declared.event.Event.{Event}
 use Rattle.book_service.specs.declared.event.Event.TheVariants.{Do, Ask}
 use Rattle.book_service.specs.Faults.{IsFault}
-use Rattle.book_service.specs.Lives.{MadeOf, ServerRun}
+use Rattle.book_service.specs.Lives.{IsLife, MadeOf, ServerRun}
 use Rattle.book_service.specs.Runs.{MatchesRows, Run, StepsTo, SystemState, TraceStep, end_of}
 use Rattle.book_service.specs.Runs.{events_of, replies_of}
 
@@ -49,20 +49,25 @@ module _ {S : Type 0} (model : StoreModel S) where
 
 -- ---- a run
 
--- From this state the first of these events were answered, with these replies. The next one may be a
--- command that was made, with a reply that was lost. It and all later events were answered with
--- faults. That led to these rows and devices.
+-- The run answered the first of these events, with these replies. The next one may be a command that
+-- it interrupted. That and all later events were answered with faults.
+pub record AnswersFirst (events : List Event) (replies : List Reply) (run : ServerRun)
+    : Type 0 where
+  pub later : List Event
+  pub faults : List Reply
+  pub events_are : events ≡ events_of run.answered ++ (map Do run.interrupted ++ later)
+  pub replies_are : replies ≡ replies_of run.answered ++ faults
+  pub all_faults : AllByRecursion IsFault faults
+
+-- From this state such a run, with what was made of the command that it interrupted, led to these
+-- rows and devices.
 pub record RanInto (now : SystemState) (events : List Event) (replies : List Reply)
     (books : Books) (devices : List DeviceState) : Type 0 where
   pub run : ServerRun
   pub made : List TraceStep
-  pub later : List Event
-  pub faults : List Reply
+  pub answers : AnswersFirst events replies run
   pub answered : Run now run.answered
   pub makes : MadeOf run.interrupted (end_of now run.answered) made
-  pub events_are : events ≡ events_of run.answered ++ (map Do run.interrupted ++ later)
-  pub replies_are : replies ≡ replies_of run.answered ++ faults
-  pub all_faults : AllByRecursion IsFault faults
   pub at : MatchesRows (end_of now (run.answered ++ made)) now.model.limits books
   pub devices_are : (end_of now (run.answered ++ made)).devices ≡ devices
 
@@ -84,3 +89,33 @@ module _ {S : Type 0} (model : StoreModel S) where
       ⊎ (model.premise old × ((now : SystemState)
       → MatchesRows now (model.limits old) (model.books old) → now.devices ≡ before
       → RanInto now events replies books after))
+
+-- ---- a life
+
+-- each run answered the first of its events, with these replies
+abbrev pub AnswerFirst : List (List Event) → List (List Reply) → List ServerRun → Type 0
+AnswerFirst [] [] [] = Unit {0}
+AnswerFirst (events ∷ more) (replies ∷ others) (run ∷ runs) =
+    AnswersFirst events replies run × AnswerFirst more others runs
+AnswerFirst asked replied runs = ⊥
+
+-- From this state such runs were a life, which led to these rows and devices.
+pub record LivedTo (now : SystemState) (asked : List (List Event)) (replied : List (List Reply))
+    (books : Books) (devices : List DeviceState) : Type 0 where
+  pub runs : List ServerRun
+  pub trace : List TraceStep
+  pub life : IsLife now runs trace
+  pub answers : AnswerFirst asked replied runs
+  pub at : MatchesRows (end_of now trace) now.model.limits books
+  pub devices_are : (end_of now trace).devices ≡ devices
+
+module _ {S : Type 0} (model : StoreModel S) where
+  -- Whatever a crash of the last store leaves, the runs led to it as a life, from each state with the
+  -- rows of the first store, whose premise held.
+  abbrev pub LivesOn : S → S → List (List Event) → List (List Reply) → List DeviceState
+      → List DeviceState
+      → Type 0
+  LivesOn first last asked replied before after = model.premise first → IsSettled model first →
+      (now : SystemState) → MatchesRows now (model.limits first) (model.books first) →
+      now.devices ≡ before → (books : Books) → model.may_leave last books →
+      ∥ LivedTo now asked replied books after ∥₁

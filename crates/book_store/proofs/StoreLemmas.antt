@@ -70,7 +70,7 @@ still_store old new limits store left = record {
 abbrev pub LeavesCommitted : State → Type 0
 LeavesCommitted s = (trees : Trees) → IsTrue s.is_open → s.may_leave trees → trees ≡ s.committed.trees
 
-settled_books : (s : State) → LeavesCommitted s → (IsOpenOnHonestDisk s → IsCommittedAndSound s) → IsOpenOnHonestDisk s → (books : Books) → MayLeaveBooks s books → books ≡ stored_books s
+pub settled_books : (s : State) → LeavesCommitted s → (IsOpenOnHonestDisk s → IsCommittedAndSound s) → IsOpenOnHonestDisk s → (books : Books) → MayLeaveBooks s books → books ≡ stored_books s
 settled_books s alone sound order books left =
     sym left.holds.books_are ∙ ap books_in (alone left.trees order.1 left.may_be_left) ∙ ap (λ (d : Database). books_in d.trees) (sym (sound order).committed)
 

@@ -5,12 +5,14 @@ use Rattle.sqlite.specs.Effect.{Database}
 use Rattle.sqlite.specs.Files.{IsFullLeft, faults_left, faults_of, file_state}
 use Rattle.sqlite.specs.Held.{Held}
 use Rattle.sqlite.specs.Recovery.{Image}
+use Rattle.sqlite.specs.State.{State}
 use Rattle.sqlite.specs.Tree.{Trees}
 use Rattle.sqlite.specs.declared.file.Leftover.{Leftover}
 use Rattle.sqlite_disk.specs.declared.Disk.{Ghosts}
 use Rattle.sqlite_disk.specs.declared.Files.{Files}
 use Rattle.sqlite_store.specs.declared.store.FileStore.{FileStore}
 use Rattle.book_model.specs.Books.{Books}
+use Rattle.book_store.specs.StoreViews.{MayLeaveBooks}
 use Rattle.database_files.specs.Restarts.{HoldsListed, ShowsOpened}
 use Rattle.store_check.specs.OpenResults.{max_limits}
 use Rattle.store_schema.specs.declared.open_fault.OpenFault.{OpenFault}
@@ -30,6 +32,12 @@ pub record HoldsStore (image : Image) (books : Books) : Type 0 where
   pub listed : HoldsListed image (declared_over trees)
   pub well_formed : HoldsWellFormed max_limits (declared_over trees)
   pub books_are : books_in trees ≡ books
+
+-- the bytes hold a store, with books that a crash of the connection may leave
+pub record LeftStore (s : State) (image : Image) : Type 0 where
+  pub books : Books
+  pub may_be_left : MayLeaveBooks s books
+  pub holds : HoldsStore image books
 
 -- ---- an opening that fails
 

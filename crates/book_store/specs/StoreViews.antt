@@ -53,6 +53,11 @@ pub record MayLeaveBooks (s : State) (books : Books) : Type 0 where
   pub may_be_left : s.may_leave trees
   pub holds : TreesHold books trees
 
+-- a crash now may leave these trees, and they are a store's
+pub record LeftTrees (s : State) (trees : Trees) : Type 0 where
+  pub may_be_left : s.may_leave trees
+  pub stored : StoredTrees trees
+
 -- the books of a store
 abbrev pub books_of_store : {S : Type 0} → Ghosts S → StoreView S → Books
 books_of_store g s = stored_books (state g s.conn)

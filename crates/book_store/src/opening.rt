@@ -6,7 +6,7 @@ ghost use Rattle.store_check.specs.TombstoneCounts.{IsCountOf};
 ghost use Rattle.store_check.specs.OpenResults.{max_limits};
 ghost use Rattle.book_store.specs.OpenOutcomes.{DropsRefused, IsOpenRefusal};
 ghost use Rattle.store_schema.specs.OnConnections.{ChangesNothing};
-ghost use Rattle.store_tables.specs.OnConnections.{HoldsNow};
+ghost use Rattle.store_tables.specs.OnConnections.{HasCleanDisk, HoldsNow, IsConnectionOpen};
 ghost use Rattle.store_lookups.specs.OnConnections.{IsOpenOnHonestDisk, stored_books};
 ghost use Rattle.std.specs.List.{AllByRecursion};
 ghost use Rattle.std.specs.Prelude.{◌≡◌, IfErr, IfOk, false};
@@ -55,6 +55,8 @@ impl<S: Alter> SqlStore<S> {
         ensures limits { IfOk result (λ store. store.limits ≡ limits) }
         ensures premise { IfOk result (λ store. IsOpenOnHonestDisk S.Store store.conn
             → IsOpenOnHonestDisk S.Store connection) }
+        ensures opened { IfOk result (λ store. HasCleanDisk S.Store store.conn
+            → IsConnectionOpen S.Store store.conn) }
         ensures changes_nothing { IfOk result
             (λ store. ChangesNothing S.Store connection store.conn) }
         ensures refused { IfErr result (λ refused.
@@ -89,6 +91,8 @@ impl<S: Alter + Drop> SqlStore<S> {
         ensures limits { IfOk result (λ store. store.limits ≡ limits) }
         ensures premise { IfOk result (λ store. IsOpenOnHonestDisk S.Store store.conn
             → IsOpenOnHonestDisk S.Store connection) }
+        ensures opened { IfOk result (λ store. HasCleanDisk S.Store store.conn
+            → IsConnectionOpen S.Store store.conn) }
         ensures changes_nothing { IfOk result
             (λ store. ChangesNothing S.Store connection store.conn) }
         ensures refused { IfErr result (DropsRefused S.Store connection) }

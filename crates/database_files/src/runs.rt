@@ -48,6 +48,8 @@ pub fn open_again<D: Disk + Drop>(
     requires log { IsTrue (D.Disk.is_usable files.log) }
     requires db { IsTrue (D.Disk.is_usable files.db) }
     ensures fresh { IfOk result IsNew }
+    ensures honest { IfOk result (λ c. HasCleanDisk (file_state c)
+        → AreClean D.Disk files.log files.db) }
     ensures opens { (db : Database) → HoldsListed (image_of D.Disk files) db
         → IfOk result (λ c. HasCleanDisk (file_state c) → ShowsOpened (file_state c) db) }
     ensures cause { (db : Trees) → HoldsDatabase (image_of D.Disk files) db

@@ -5,6 +5,7 @@ use Rattle.sqlite.specs.Order.{Row}
 use Rattle.sqlite.specs.State.{State, HasCleanDisk, IsUnchanged, Survives}
 use Rattle.sqlite.specs.Tree.{Trees}
 use Rattle.sqlite.specs.declared.error.Error.{Error}
+use Rattle.sqlite.proofs.Callers.{unchanged_then as both_unchanged}
 use Rattle.sqlite.proofs.StateLemmas.{survives_then}
 use Rattle.book_model.specs.Bounds.{Bounds}
 use Rattle.store_tables.specs.Books.{book_listed}
@@ -99,10 +100,20 @@ unchanged_then a b c first next left clean has =
       after.2 ∙ before.2,
     )
 
--- a read that follows one that changed nothing: the connection was open
-pub answered_open : {A E : Type 0} (a b c : State) (r : Result A E) → (HasCleanDisk b → IsUnchanged a b) → OnlyReads b c → HasCleanDisk c → OnOk r (IsTrue a.is_open)
-answered_open a b c (Ok x) first left clean = (first (clean_before _ b c left.survives clean)).0.was_open
-answered_open a b c (Err e) first left clean = tt
+-- the same where the schema was tested first
+pub unchanged_tested : {A E : Type 0} (a b c : State) (r : Result A E) → (HasCleanDisk b → IsCurrentSchema a.now) → (HasCleanDisk b → IsUnchanged a b) → OnlyReads b c → GivenTables b c (OnOk r (IsUnchanged b c)) → HasCleanDisk c → OnOk r (IsUnchanged a c)
+unchanged_tested a b c (Ok x) ours kept left next clean =
+    let early = clean_before _ b c left.survives clean in
+    let was = kept early in
+    both_unchanged a b c was (next clean (ap (λ (d : Database). d.schema) was.0.now_is ∙ (ours early).schema))
+unchanged_tested a b c (Err e) ours kept left next clean = tt
+
+-- the same where the rows were listed first
+pub unchanged_listed : {A E : Type 0} (a b c : State) (r : Result A E) → GivenTables a b (IsUnchanged a b) → OnlyReads b c → GivenTables b c (OnOk r (IsUnchanged b c)) → GivenTables a c (OnOk r (IsUnchanged a c))
+unchanged_listed a b c (Ok x) first left next clean has =
+    let was = first (clean_before _ b c left.survives clean) has in
+    both_unchanged a b c was (next clean (ap (λ (d : Database). d.schema) was.0.now_is ∙ has))
+unchanged_listed a b c (Err e) first left next clean has = tt
 
 -- a property of the database after such a read holds of it before
 pub over_then : (a b c : State) (P : Database → Type 0) → GivenTables a b (IsUnchanged a b) → OnlyReads b c → GivenTables b c (P b.now) → GivenTables a c (P a.now)

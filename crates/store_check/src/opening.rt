@@ -13,7 +13,7 @@ ghost use Rattle.store_schema.specs.declared.open_fault.OpenFault.TheVariants.{M
 ghost use Rattle.store_tables.specs.Members.{AreMembers};
 ghost use Rattle.store_tables.specs.OnConnections.{FailsFromOutside, GivenMembers, GivenTables};
 ghost use Rattle.store_tables.specs.OnConnections.{HasCleanDisk, HoldsNow, IsConnectionOpen};
-ghost use Rattle.store_tables.specs.OnConnections.{OnlyReads, UnchangedOnOk};
+ghost use Rattle.store_tables.specs.OnConnections.{IsUnchanged, OnlyReads, UnchangedOnOk};
 ghost use Rattle.std.specs.Prelude.{◌≡◌, IfErr, IfOk, OnOk};
 
 use crate::books::first_faulty_book;
@@ -114,6 +114,7 @@ fn check_members<S: Alter>(
     // Where no two members share an id, it fails only for lack of memory or for an outside cause.
     ensures fails_from_outside { GivenMembers S.Store conn.old conn.new (λ members.
         AreMembers members → IfErr result (ComesFromOutside S.Store conn.old conn.new)) }
+    ensures unchanged { UnchangedOnOk S.Store conn.old conn.new result }
     ensures reads_only { OnlyReads S.Store conn.old conn.new }
 {
     let books = listed.books.as_slice();
@@ -172,6 +173,7 @@ fn check_all_rows<S: Alter>(
         → HoldsNow S.Store conn.old (HoldsWellFormed limits) → AreBookRows S.Store conn.old
         listed.now.books.items listed.now.imports.items listed.now.keeps.items
         → IfErr result (ComesFromOutside S.Store conn.old conn.new) }
+    ensures unchanged { UnchangedOnOk S.Store conn.old conn.new result }
     ensures reads_only { OnlyReads S.Store conn.old conn.new }
 {
     assert_rows_obey(conn);
@@ -193,6 +195,7 @@ fn check_rows<S: Alter>(
     ensures answers { HasCleanDisk S.Store conn.new → IsCurrentSchema S.Store conn.old
         → IsTestResult S.Store conn.old limits result }
     ensures opens { OpensWellFormed S.Store conn.old conn.new limits result }
+    ensures unchanged { UnchangedOnOk S.Store conn.old conn.new result }
     ensures reads_only { OnlyReads S.Store conn.old conn.new }
 {
     match list_book_rows(conn) {
@@ -209,8 +212,8 @@ fn check_schema_and_rows<S: Alter>(
 ) -> Result<Result<Vec<TombstoneCount>, FaultyRow>, OpenFault>
     ensures answers { HasCleanDisk S.Store conn.new → IsTestResult S.Store conn.old limits result }
     ensures opens { OpensWellFormed S.Store conn.old conn.new limits result }
-    ensures was_open { HasCleanDisk S.Store conn.new
-        → OnOk result (IsConnectionOpen S.Store conn.old) }
+    ensures unchanged { HasCleanDisk S.Store conn.new
+        → OnOk result (IsUnchanged S.Store conn.old conn.new) }
     ensures changes_nothing { ChangesNothing S.Store conn.old conn.new }
 {
     check_schema(conn)?;
@@ -257,8 +260,8 @@ pub fn count_tombstones<S: Alter>(
     // Over the rows of well-formed books it fails only for lack of memory, or with `Store` for an
     // outside cause.
     ensures opens { OpensWellFormed S.Store conn.old conn.new limits result }
-    ensures was_open { HasCleanDisk S.Store conn.new
-        → OnOk result (IsConnectionOpen S.Store conn.old) }
+    ensures unchanged { HasCleanDisk S.Store conn.new
+        → OnOk result (IsUnchanged S.Store conn.old conn.new) }
 
     // Nothing is changed or committed, also on an error.
     ensures changes_nothing { ChangesNothing S.Store conn.old conn.new }

@@ -3,7 +3,8 @@ ghost use Rattle.store_check.specs.MemberScans.{DoesTake, Scans, is_above};
 ghost use Rattle.store_check.specs.RowChecks.{int_cell};
 ghost use Rattle.store_tables.specs.Members.{AreMembers};
 ghost use Rattle.store_tables.specs.OnConnections.{GivenMembers, GivenTables};
-ghost use Rattle.store_tables.specs.OnConnections.{HasOutsideCauseOfError, OnlyReads, table_rows};
+ghost use Rattle.store_tables.specs.OnConnections.{HasOutsideCauseOfError, OnlyReads};
+ghost use Rattle.store_tables.specs.OnConnections.{UnchangedOnOk, table_rows};
 ghost use Rattle.sqlite.specs.declared.error.Error.TheVariants.{SqliteFailure};
 ghost use Rattle.sqlite.specs.declared.error.ErrorCode.TheVariants.{OutOfMemory};
 ghost use Rattle.std.specs.Prelude.{◌≡◌, ◌≢◌, IfErr, IfOk, false};
@@ -76,6 +77,7 @@ pub(crate) fn scan_members<S: Alter>(
     // Where no two members share an id, it fails only for lack of memory or for an outside cause.
     ensures fails_from_outside { GivenMembers S.Store conn.old conn.new (λ members.
         AreMembers members → HasOutsideCauseOfError S.Store conn.old conn.new result) }
+    ensures unchanged { UnchangedOnOk S.Store conn.old conn.new result }
     ensures reads_only { OnlyReads S.Store conn.old conn.new }
 {
     let mut last = None;

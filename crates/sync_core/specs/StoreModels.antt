@@ -85,3 +85,11 @@ module _ {S : Type 0} (model : StoreModel S) where
       → Type 0
   LeavesStep old new returned step = LeavesOr old new returned (λ books. model.premise old
       × IsAfterStep (step (model.limits old) (model.books old)) books)
+
+  -- The new store was opened after a crash of the old one: it has its limits, and rows that the crash
+  -- may leave. If a crash of it may leave any rows at all, its premise holds.
+  pub record RestartsFrom (old new : S) : Type 0 where
+    pub limits : model.limits new ≡ model.limits old
+    pub finds : model.premise new → ∥ model.may_leave old (model.books new) ∥₁
+    pub settled : IsSettled new
+    pub opened : (books : Books) → model.may_leave new books → model.premise new

@@ -2,7 +2,7 @@ use Rattle.sqlite.specs.Held.{state}
 use Rattle.store_tables.proofs.Lookups.{reads_then}
 use Rattle.store_schema.proofs.FaultLemmas.{error_from_outside}
 use Rattle.store_check.specs.FaultSearches.{IsTestResult}
-use Rattle.store_check.proofs.OpenLemmas.{error_searched, opened_later, opens_listed}
+use Rattle.store_check.proofs.OpenLemmas.{error_searched, opened_later, opens_listed, unchanged_listed}
 use Rattle.store_check.proofs.opening.check_rows.Goals as goal
 
 pub returns-in-Ok-clause-reads_only : goal.returns-in-Ok-clause-reads_only
@@ -28,3 +28,8 @@ pub returns-in-Err-clause-opens : goal.returns-in-Err-clause-opens
 returns-in-Err-clause-opens g c clean held =
     error_from_outside (state g.S.Store c.args.conn.now) (state g.S.Store c.list_book_rows.new.conn) c.in-Err.error c.open_fault_of.result c.open_fault_of.ensures.kind c.open_fault_of.ensures.value
     (c.in-Err.ensures.fails_from_outside clean held.holds.schema)
+
+pub returns-in-Ok-clause-unchanged : goal.returns-in-Ok-clause-unchanged
+returns-in-Ok-clause-unchanged g c =
+    unchanged_listed (state g.S.Store c.args.conn.now) (state g.S.Store c.list_book_rows.new.conn) (state g.S.Store c.check_all_rows.new.conn) c.check_all_rows.result
+    c.in-Ok.ensures.unchanged c.check_all_rows.ensures.reads_only c.check_all_rows.ensures.unchanged

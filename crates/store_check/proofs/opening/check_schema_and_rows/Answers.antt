@@ -2,7 +2,7 @@ use Rattle.std.proofs.Common.{rules, ◌≡◌, Err, IfErr, subst, sym}
 use Rattle.sqlite.specs.Held.{state}
 use Rattle.store_schema.specs.OpenFaults.{ComesFromOutside}
 use Rattle.store_check.specs.FaultSearches.{IsTestResult}
-use Rattle.store_check.proofs.OpenLemmas.{answered_open, nothing_then, opens_tested, ours_of_held, schema_searched, tables_opened}
+use Rattle.store_check.proofs.OpenLemmas.{nothing_then, opens_tested, ours_of_held, schema_searched, tables_opened, unchanged_tested}
 use Rattle.store_check.proofs.opening.check_schema_and_rows.Goals as goal
 
 pub returns-in_err-check_schema-clause-answers : goal.returns-in_err-check_schema-clause-answers
@@ -16,10 +16,10 @@ returns-clause-answers g c =
     tables_opened (state g.S.Store c.args.conn.now) (state g.S.Store c.check_schema.new.conn) (state g.S.Store c.check_rows.new.conn)
     c.in_ok-check_schema.ensures.answers c.in_ok-check_schema.ensures.unchanged c.check_rows.ensures.reads_only (λ db. IsTestResult c.args.limits db c.check_rows.result) c.check_rows.ensures.answers
 
-pub returns-clause-was_open : goal.returns-clause-was_open
-returns-clause-was_open g c =
-    answered_open (state g.S.Store c.args.conn.now) (state g.S.Store c.check_schema.new.conn) (state g.S.Store c.check_rows.new.conn) c.check_rows.result
-    c.in_ok-check_schema.ensures.unchanged c.check_rows.ensures.reads_only
+pub returns-clause-unchanged : goal.returns-clause-unchanged
+returns-clause-unchanged g c =
+    unchanged_tested (state g.S.Store c.args.conn.now) (state g.S.Store c.check_schema.new.conn) (state g.S.Store c.check_rows.new.conn) c.check_rows.result
+    c.in_ok-check_schema.ensures.answers c.in_ok-check_schema.ensures.unchanged c.check_rows.ensures.reads_only c.check_rows.ensures.unchanged
 
 pub returns-clause-changes_nothing : goal.returns-clause-changes_nothing
 returns-clause-changes_nothing g c =

@@ -157,3 +157,17 @@ returns-in_err-faulty-clause-fails_from_outside g c ms clean has there kept =
     let above = above_last c.rows.last was.0 c.in-Some.row.now was.3.last_of (rises_above was.0 c.in-Some.row.now got.0 got.1) in
     let said : c.from_residual-in_err-faulty.result ≡ Err c.in_err-faulty.field-0.0 = search rules in
     subst (HasOutsideCauseOfError old new) (sym said) (λ room. absurd (true≢false (sym above ∙ c.in_err-faulty.ensures.fails room)))
+
+pub returns-in_default-clause-unchanged : goal.returns-in_default-clause-unchanged
+returns-in_default-clause-unchanged g c clean has =
+    let moved = c.next.follows.holds-at-none in
+    let late : HasCleanDisk (state g.S.Store c.next.follows.lender-at-none.conn.now) = search rules in
+    let was = c.rows.invariant.2 (omega (arith, moved.survives.clean)) has in
+    unchanged_then (state g.S.Store c.args.conn.now) (state g.S.Store c.rows.rows.conn.now) (state g.S.Store c.next.follows.lender-at-none.conn.now) was.2 (rw c.in_ok-row.was at (moved.same late))
+
+pub returns-in-Some-2-clause-unchanged : goal.returns-in-Some-2-clause-unchanged
+returns-in-Some-2-clause-unchanged g c clean has =
+    let moved = c.next.follows.holds-at-none in
+    let late : HasCleanDisk (state g.S.Store c.next.follows.lender-at-none.conn.now) = search rules in
+    let was = c.rows.invariant.2 (omega (arith, moved.survives.clean)) has in
+    unchanged_then (state g.S.Store c.args.conn.now) (state g.S.Store c.rows.rows.conn.now) (state g.S.Store c.next.follows.lender-at-none.conn.now) was.2 (rw c.in_ok-row.was at (moved.same late))

@@ -20,6 +20,9 @@ returns-in-Err-clause-refused g c =
       from_outside = λ clean held. c.in-Err.ensures.opens clean (subst (λ b. HoldsWellFormed b old.now) (sym limits) held);
     }
 
+pub returns-in-Ok-clause-opened : goal.returns-in-Ok-clause-opened
+returns-in-Ok-clause-opened g c clean = (c.in-Ok.ensures.unchanged clean).0.is_open
+
 pub invariant_of-result : goal.invariant_of-result
 invariant_of-result g c =
     let old = state g.S.Store c.args.connection in
@@ -30,7 +33,7 @@ invariant_of-result g c =
         stays_sound = opened_sound _ old new c.count_tombstones.ensures.changes_nothing c.assert_no_pending_writes.ensures (λ clean. (c.in-Ok.ensures.answers clean).0);
         stays_well_formed = λ order. subst (λ b. IsWellFormed b (stored_books new)) limits (opened_formed _ old new c.count_tombstones.ensures.changes_nothing c.assert_no_pending_writes.ensures (λ clean. (c.in-Ok.ensures.answers clean).0) order);
         leaves_stores = λ clean trees may.
-            let it = opened_leaves _ old new (λ (trees : Trees) up may. g.met.S.Store.settled c.args.connection.store trees up may) c.count_tombstones.ensures.changes_nothing c.assert_no_pending_writes.ensures (λ clean. (c.in-Ok.ensures.answers clean).0) c.in-Ok.ensures.was_open clean trees may in
+            let it = opened_leaves _ old new (λ (trees : Trees) up may. g.met.S.Store.settled c.args.connection.store trees up may) c.count_tombstones.ensures.changes_nothing c.assert_no_pending_writes.ensures (λ clean. (c.in-Ok.ensures.answers clean).0) (λ honest. (c.in-Ok.ensures.unchanged honest).0.was_open) clean trees may in
             record { books = it.0; holds = it.1; well_formed = subst (λ b. IsWellFormed b it.0) limits it.2 };
         range = search rules;
       },
