@@ -12,6 +12,7 @@ pub mod lives;
 mod mirrored;
 mod page_tokens;
 mod reply;
+mod restarts;
 mod texts;
 mod whole_books;
 
@@ -20,3 +21,4 @@ pub use command::perform;
 pub use event::{Event, drive};
 pub use mirrored::{Mirrored, mirror};
 pub use page_tokens::page_tokens_have_texts;
+pub use restarts::{Restarts, live};
