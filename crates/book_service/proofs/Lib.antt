@@ -8,6 +8,7 @@ pub mod RunLemmas
 pub mod StepLemmas
 pub mod EventLemmas
 pub mod DriveLemmas
+pub mod RanLemmas
 pub mod PromiseLemmas
 pub mod TokenLemmas
 pub mod IdempotenceLemmas
@@ -15,3 +16,4 @@ pub mod PageCountLemmas
 pub mod MirrorLemmas
 pub mod PageTokenLemmas
 pub mod LifeLemmas
+pub mod LivedLemmas

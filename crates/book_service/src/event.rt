@@ -83,6 +83,7 @@ pub fn drive<S: BookStore>(
     requires { All (NamesDeviceBelow (length devices.old.items)) events.now }
     ensures premise { S.model.premise store.new → S.model.premise store.old }
     ensures limits { S.model.limits store.new ≡ S.model.limits store.old }
+    ensures count { length devices.new.items ≡ length devices.old.items }
 
     // A fault is one that the store may return, or out of memory while a text is read or copied or
     // a page applied.
