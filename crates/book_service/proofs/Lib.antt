@@ -17,3 +17,4 @@ pub mod MirrorLemmas
 pub mod PageTokenLemmas
 pub mod LifeLemmas
 pub mod LivedLemmas
+pub mod RestoreLemmas

@@ -9,6 +9,7 @@ pub mod PageCounts
 pub mod Promise
 pub mod Lives
 pub mod Crashes
+pub mod Restores
 pub mod Mirrors
 pub mod PageTokenLaws
 pub mod internal

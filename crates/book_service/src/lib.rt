@@ -13,6 +13,7 @@ mod mirrored;
 mod page_tokens;
 mod reply;
 mod restarts;
+pub mod restores;
 mod texts;
 mod whole_books;
 
