@@ -1,7 +1,7 @@
 -- One more run at the end of a life.
-use Rattle.std.proofs.Common.{◌≡◌, inl, inr, List, [], ◌∷◌, ◌++◌, refl, sym, ap, subst, ◌∙◌}
+use Rattle.std.proofs.Common.{◌≡◌, ◌<◌, ◌+◌, ℕ, inl, inr, List, [], ◌∷◌, ◌++◌, get_or, length, map, take, refl, sym, ap, subst, ◌∙◌}
 use Rattle.std.proofs.Math.Logic.{∥∥₁_elim, ∥∥₁_map}
-use Rattle.std.proofs.lemmas.List.{append-nil, append_assoc}
+use Rattle.std.proofs.lemmas.List.{append-nil, append_assoc, map-append, take_more}
 use Rattle.book_commands.specs.declared.reply.Reply.{Reply}
 use Rattle.book_model.specs.Books.{Books}
 use Rattle.book_model.specs.Devices.{DeviceState}
@@ -115,3 +115,17 @@ module _ {S : Type 0} (model : StoreModel S) where
           lived_more now asked replied events replies (model.books old) (model.books new) before after lived into)
     ]);
   }
+
+  -- the same over the first runs of a list, whose items have the events and replies
+  pub lives_further_in : {A B : Type 0} (events_in : A → List Event) (replies_in : B → List Reply) (first old ended new : S) (now : SystemState) (runs : List A) (i : ℕ) (run : A) (replied more : List B) (replies : B) (before after : List DeviceState)
+      → i < length runs → run ≡ get_or runs i run → more ≡ replied ++ replies ∷ []
+      → now.model.limits ≡ model.limits first → model.limits ended ≡ model.limits old → LeavesRun model old ended (events_in run) (replies_in replies) before after → RestartsFrom model ended new
+      → LivesSoFar first old now (map events_in (take i runs)) (map replies_in replied) before
+      → LivesSoFar first new now (map events_in (take (i + 1) runs)) (map replies_in more) after
+  lives_further_in events_in replies_in first old ended new now runs i run replied more replies before after within is pushed limits_are kept ran restarts so_far =
+      let asked_are : map events_in (take (i + 1) runs) ≡ map events_in (take i runs) ++ events_in run ∷ [] =
+      ap (map events_in) (take_more runs i run within ∙ ap (λ x. take i runs ++ x ∷ []) (sym is)) ∙ map-append events_in (take i runs) (run ∷ []) in
+      let replied_are : map replies_in more ≡ map replies_in replied ++ replies_in replies ∷ [] = ap (map replies_in) pushed ∙ map-append replies_in replied (replies ∷ []) in
+      subst (λ (es : List (List Event)). LivesSoFar first new now es (map replies_in more) after) (sym asked_are)
+      (subst (λ (rs : List (List Reply)). LivesSoFar first new now (map events_in (take i runs) ++ events_in run ∷ []) rs after) (sym replied_are)
+      (lives_further first old ended new now (map events_in (take i runs)) (map replies_in replied) (events_in run) (replies_in replies) before after limits_are so_far kept ran restarts))

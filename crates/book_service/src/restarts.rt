@@ -2,12 +2,13 @@
 ghost use Rattle.book_service.specs.Crashes.{LivesOn};
 ghost use Rattle.book_service.specs.Runs.{NamesDeviceBelow};
 ghost use Rattle.sync_core.specs.StoreModels.{RestartsFrom};
-ghost use Rattle.std.specs.Prelude.{All, IfSome, length, map};
+ghost use Rattle.std.specs.Prelude.{All, IfOk, IfSome, length, map};
 
 use crate::event::{Event, drive};
 use book_commands::Reply;
 use std::alloc::Global;
 use sync_core::{BookStore, Device};
+use vcard_text::NoMemory;
 
 /// Opens a store again after a crash.
 pub trait Restarts<S: BookStore> {
@@ -18,8 +19,8 @@ pub trait Restarts<S: BookStore> {
 }
 
 /// Performs the events of each run as `drive` does; after each run comes a crash, and the store is
-/// opened again. Returns the store that was opened last, and the replies of each run. `None` if
-/// memory runs out, or the store doesn't open.
+/// opened again. Returns the store that was opened last, and the replies of each run. `None` if the
+/// store doesn't open; `NoMemory` if there is no memory for the replies of a run.
 ///
 /// The caller must ensure that each device index is below the number of devices.
 pub fn live<S: BookStore, R: Restarts<S>>(
@@ -28,25 +29,24 @@ pub fn live<S: BookStore, R: Restarts<S>>(
     store: S,
     devices: &mut Vec<Device>,
     runs: &[Vec<Event>],
-) -> Option<(S, Vec<Vec<Reply>>)>
+) -> Result<Option<(S, Vec<Vec<Reply>>)>, NoMemory>
     requires { All (λ run. All (NamesDeviceBelow (length devices.old.items)) run.items) runs.now }
 
     // Whatever a crash leaves at the end, all runs were one life: each reply that is no fault is that
     // of a step, in its place, and a command that a crash interrupted was made once or not at all.
-    ensures life { IfSome result (λ lived. LivesOn S.model store lived.0
+    ensures life { IfOk result (λ opened. IfSome opened (λ lived. LivesOn S.model store lived.0
         (map (λ run. run.items) runs.now) (map (λ replies. replies.items) lived.1.items)
-        devices.old.items devices.new.items) }
+        devices.old.items devices.new.items)) }
 {
     let mut store = store;
     let mut replied = Vec::new(alloc);
     for events in runs {
-        let Ok(replies) = drive(alloc, &mut store, devices, events.as_slice()) else {
-            return None;
+        let replies = drive(alloc, &mut store, devices, events.as_slice())?;
+        replied.push(replies)?;
+        let Some(opened) = restarts.restart(store) else {
+            return Ok(None);
         };
-        if replied.push(replies).is_err() {
-            return None;
-        }
-        store = restarts.restart(store)?;
+        store = opened;
     }
-    Some((store, replied))
+    Ok(Some((store, replied)))
 }
