@@ -12,8 +12,8 @@ use vcard_text::NoMemory;
 
 /// Opens a store again after a crash.
 pub trait Restarts<S: BookStore> {
-    /// Ends the use of the store by a crash at this moment, and opens it again. `None` if it doesn't
-    /// open; why not, each implementation says.
+    /// Ends the use of the store by a crash at this moment, and opens it again. `None` if it
+    /// doesn't open; why not, each implementation says.
     fn restart(&mut self, store: S) -> Option<S>
         ensures restarts { IfSome result (RestartsFrom S.model store) };
 }
@@ -32,8 +32,9 @@ pub fn live<S: BookStore, R: Restarts<S>>(
 ) -> Result<Option<(S, Vec<Vec<Reply>>)>, NoMemory>
     requires { All (λ run. All (NamesDeviceBelow (length devices.old.items)) run.items) runs.now }
 
-    // Whatever a crash leaves at the end, all runs were one life: each reply that is no fault is that
-    // of a step, in its place, and a command that a crash interrupted was made once or not at all.
+    // Whatever a crash leaves at the end, all runs were one life: each reply that is no fault is
+    // that of a step, in its place, and a command that a crash interrupted was made once or not at
+    // all.
     ensures life { IfOk result (λ opened. IfSome opened (λ lived. LivesOn S.model store lived.0
         (map (λ run. run.items) runs.now) (map (λ replies. replies.items) lived.1.items)
         devices.old.items devices.new.items)) }
