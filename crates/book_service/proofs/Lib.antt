@@ -1,5 +1,6 @@
 pub mod PerformLemmas
 pub mod CallLemmas
+pub mod CrashLemmas
 pub mod WholeBookLemmas
 pub mod ImportLemmas
 pub mod TextLemmas
