@@ -21,9 +21,15 @@ use Rattle.book_service.proofs.CallLemmas.{creates, forgets, moves, removes}
 
 -- ---- answers
 
-unless_error : {A B : Type 0} (error : Denied) (Then : Type 0) → UnlessFault {A = A} (Err error) Then → UnlessFault {A = B} (Err error) Then
+pub unless_error : {A B : Type 0} (error : Denied) (Then : Type 0) → UnlessFault {A = A} (Err error) Then → UnlessFault {A = B} (Err error) Then
 unless_error (Refused refusal) Then h = h
 unless_error (Fault fault) Then h = h
+
+-- with the premise, any answer may be given
+pub holds_anyway : {A : Type 0} (returned : Result A Denied) (Then : Type 0) → Then → UnlessFault returned Then
+holds_anyway (Ok answer) Then h = h
+holds_anyway (Err (Refused refusal)) Then h = h
+holds_anyway (Err (Fault fault)) Then h = tt
 
 -- a denial that is passed on is a fault where it was one
 pub denial_answers : {A B : Type 0} (returned : Result B Denied) (error : Denied) (Then : Type 0) → returned ≡ Err error → UnlessFault {A = A} (Err error) Then → UnlessFault returned Then
@@ -32,7 +38,7 @@ denial_answers returned error Then is h = subst (λ (r : Result B Denied). Unles
 -- ---- a call that changes books
 
 module _ {S : Type 0} (model : StoreModel S) (old new : S) where
-  leaves_on : {A B C : Type 0} (step : Bounds → Books → Result (C × Books) Refusal) (called : Result A Denied) (returned : Result B Denied) (command : Command)
+  pub leaves_on : {A B C : Type 0} (step : Bounds → Books → Result (C × Books) Refusal) (called : Result A Denied) (returned : Result B Denied) (command : Command)
       → ((done : C × Books) → step (model.limits old) (model.books old) ≡ Ok done → IsAfterCommand (model.limits old) (model.books old) command done.1)
       → (UnlessFault called (model.premise new) → UnlessFault returned (model.premise new))
       → LeavesStep model old new called step → CommandLeaves model old new returned command
@@ -55,6 +61,21 @@ module _ {S : Type 0} (model : StoreModel S) (old new : S) where
     answered = λ books left. answers (leaves.answered books left);
   }
 
+  -- a call that changes books after one that only read
+  pub leaves_after_read : {A B C : Type 0} (mid : S) (step : Bounds → Books → Result (C × Books) Refusal) (read : Result A Denied) (returned : Result B Denied) (command : Command) → (model.premise mid → model.premise old)
+      → (model.premise mid → (done : C × Books) → step (model.limits mid) (model.books mid) ≡ Ok done → IsAfterCommand (model.limits old) (model.books old) command done.1)
+      → LeavesNoMore model old mid read → LeavesStep model mid new returned step → CommandLeaves model old new returned command
+  leaves_after_read mid step read returned command before after first second = record {
+    only = λ books left. ⊎_elim (λ kept. ⊎_elim (λ earlier. inl earlier) (λ no. absurd no) (first.only books kept))
+        (λ made. inr (before made.0, by_step made.0 (step (model.limits mid) (model.books mid)) refl books made.1)) (second.only books left);
+    settled = second.settled;
+    answered = second.answered;
+  }
+    where
+      by_step : model.premise mid → (o : Result (C × Books) Refusal) → step (model.limits mid) (model.books mid) ≡ o → (books : Books) → IsAfterStep o books → IsAfterCommand (model.limits old) (model.books old) command books
+      by_step premise (Ok done) e books same = subst (IsAfterCommand (model.limits old) (model.books old) command) (sym same) (after premise done e)
+      by_step premise (Err refusal) e books no = absurd no
+
   -- a function of this command, of which a match arm is
   pub passes_on : {A B : Type 0} (called : Result A Denied) (returned : Result B Denied) (command own : Command) → command ≡ own → (UnlessFault called (model.premise new) → UnlessFault returned (model.premise new))
       → CommandLeaves model old new called own → CommandLeaves model old new returned command
@@ -67,7 +88,7 @@ module _ {S : Type 0} (model : StoreModel S) (old new : S) where
 -- ---- each command
 
 -- what the step made, a call that answers matches
-matched : {C : Type 0} (step : Result (C × Books) Refusal) (old : Books) (done : C × Books) → step ≡ Ok done → MatchesStep (Ok done.0) step old done.1
+pub matched : {C : Type 0} (step : Result (C × Books) Refusal) (old : Books) (done : C × Books) → step ≡ Ok done → MatchesStep (Ok done.0) step old done.1
 matched step old done e = subst (λ (o : Result (C × Books) Refusal). MatchesStep (Ok done.0) o old done.1) (sym e) (refl, refl)
 
 module _ {S B : Type 0} (model : StoreModel S) (old new : S) (returned : Result B Denied) (command : Command) where
