@@ -14,9 +14,17 @@ use Rattle.book_model.specs.Removing.{remove_step}
 use Rattle.book_laws.specs.ChangeRefinement.{CreateRefines, ForgetRefines, MoveRefines, RemoveRefines}
 use Rattle.book_commands.specs.declared.command.Command.{Command}
 use Rattle.book_commands.specs.declared.command.Command.TheVariants.{CreateBook, Forget, MoveCard, Remove}
+use Rattle.book_commands.specs.declared.reply.Reply.{Reply}
 use Rattle.book_commands.specs.declared.reply.Reply.TheVariants as reply
+use Rattle.book_model.specs.Devices.{DeviceState}
 use Rattle.sync_core.specs.StoreModels.{LeavesNoMore, LeavesOr, LeavesStep, StoreModel}
+use Rattle.book_service.specs.declared.event.Event.{Event}
+use Rattle.book_service.specs.declared.event.Event.TheVariants.{Do}
+use Rattle.book_service.specs.Crashes.{LeavesCommand, LeavesEvent}
+use Rattle.book_service.specs.Faults.{IsFault}
+use Rattle.book_service.specs.Replies.{reply_to}
 use Rattle.book_service.specs.internal.RowSteps.{CommandLeaves, IsAfterCommand}
+use Rattle.book_service.proofs.EventLemmas.{command_happens}
 use Rattle.book_service.proofs.CallLemmas.{creates, forgets, moves, removes}
 
 -- ---- answers
@@ -139,3 +147,29 @@ module _ {S B : Type 0} (model : StoreModel S) (old new : S) (returned : Result 
             (subst (λ (n : List ℕ). MatchesStep (Ok done.0) (forget_step (model.books old) n upto) (model.books old) done.1) names (matched _ (model.books old) done e)),
       ))
       answers leaves
+
+-- ---- the whole command
+
+answers_or_fault : (returned : Result Reply Denied) (Then : Type 0) → UnlessFault returned Then → Then ⊎ IsFault (reply_to (λ (r : Reply). r) returned)
+answers_or_fault (Ok r) Then h = inl h
+answers_or_fault (Err (Refused refusal)) Then h = inl h
+answers_or_fault (Err (Fault fault)) Then h = inr tt
+
+module _ {S : Type 0} (model : StoreModel S) (old new : S) where
+  -- a command's steps on rows are its steps from each state with these rows
+  pub command_leaves : (command : Command) (returned : Result Reply Denied) (r : Reply) → r ≡ reply_to (λ (r : Reply). r) returned → CommandLeaves model old new returned command → LeavesCommand model old new command r
+  command_leaves command returned r is leaves = record {
+    only = λ books left. ⊎_elim (λ before. inl before)
+        (λ made. inr (made.0, λ now at. (made.1.0, command_happens (model.limits old) (model.books old) books made.1.0 now at command made.1.1)))
+        (leaves.only books left);
+    settled = leaves.settled;
+    answered = λ books left. ⊎_elim (λ premise. inl premise) (λ fault. inr (subst IsFault (sym is) fault, refl)) (answers_or_fault returned (model.premise new) (leaves.answered books left));
+  }
+
+  -- a command changes no device
+  pub event_leaves : (event : Event) (command : Command) (r : Reply) (devices : List DeviceState) → event ≡ Do command → LeavesCommand model old new command r → LeavesEvent model old new event r devices devices
+  event_leaves event command r devices is leaves = subst (λ (e : Event). LeavesEvent model old new e r devices devices) (sym is) (record {
+    only = leaves.only;
+    settled = leaves.settled;
+    answered = λ books left. ⊎_elim (λ premise. inl premise) (λ fault. inr (fault.0, refl)) (leaves.answered books left);
+  })

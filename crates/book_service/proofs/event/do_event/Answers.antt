@@ -8,6 +8,7 @@ use Rattle.book_commands.specs.declared.reply.Reply.TheVariants as reply
 use Rattle.book_service.specs.DeviceReplies.{HandlesReply}
 use Rattle.book_service.specs.Mirrors.{report_at}
 use Rattle.book_service.specs.Runs.{NamesDeviceBelow, StepsTo}
+use Rattle.book_service.proofs.CrashLemmas.{event_leaves}
 use Rattle.book_service.proofs.EventLemmas.{ask_happens}
 use Rattle.book_service.proofs.event.do_event.Goals as goal
 
@@ -40,3 +41,6 @@ returns-in-Err-clause-step g c = λ premise now at device_at.
     (slice_get_read devices (length devices) c.in-Ask.device was refl within c.index_mut.ensures.value)
     (subst (λ (r : Reply). HandlesReply r (report_at now was.book was.token c.in-Ask.limit) was c.next_page.new.device) (sym c.denied_reply.ensures) (c.in-Err.ensures.handled premise now at))
     (c.next_page.ensures.reads_only premise))
+
+pub returns-in-Do-clause-crash : goal.returns-in-Do-clause-crash
+returns-in-Do-clause-crash g c = event_leaves g.S.BookStore.model c.args.store.now c.perform.new.store c.args.event.now c.in-Do.command c.perform.result c.args.devices.now.items c.in-Do.is c.perform.ensures.crash
