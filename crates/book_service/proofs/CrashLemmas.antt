@@ -69,6 +69,15 @@ module _ {S : Type 0} (model : StoreModel S) (old new : S) where
     answered = λ books left. answers (leaves.answered books left);
   }
 
+  -- a call that only reads leaves no more, whatever is returned after it
+  pub no_more : {A B : Type 0} (called : Result A Denied) (returned : Result B Denied) → (UnlessFault called (model.premise new) → UnlessFault returned (model.premise new))
+      → LeavesNoMore model old new called → LeavesNoMore model old new returned
+  no_more called returned answers leaves = record {
+    only = leaves.only;
+    settled = leaves.settled;
+    answered = λ books left. answers (leaves.answered books left);
+  }
+
   -- a call that changes books after one that only read
   pub leaves_after_read : {A B C : Type 0} (mid : S) (step : Bounds → Books → Result (C × Books) Refusal) (read : Result A Denied) (returned : Result B Denied) (command : Command) → (model.premise mid → model.premise old)
       → (model.premise mid → (done : C × Books) → step (model.limits mid) (model.books mid) ≡ Ok done → IsAfterCommand (model.limits old) (model.books old) command done.1)
