@@ -3,7 +3,7 @@
 -- of books, which both spare (`spares_books`); `row_dropped` joins all three. None of them commits
 -- (`keeps_commit`).
 -- A fourth statement breaks `returns-clause-books_after` first.
-use Rattle.std.proofs.Common.{◌≡◌, ◌+◌, IsTrue, List, ℕ, None, pos, to_z, of_z, w64, sym, subst, ◌∙◌, rules, ◌≢◌, Err, IfErr}
+use Rattle.std.proofs.Common.{◌≡◌, ◌+◌, IsTrue, List, ℕ, None, pos, to_z, of_z, w64, refl, sym, subst, ◌∙◌, rules, ◌≢◌, Err, IfErr}
 use Rattle.sqlite.specs.declared.error.Error.TheVariants.{SqliteFailure}
 use Rattle.sqlite.specs.declared.error.ErrorCode.TheVariants.{OutOfMemory}
 use Rattle.store_tables.specs.Acceptance.{AcceptsMember}
