@@ -2,11 +2,13 @@
 use Rattle.std.specs.Prelude.{◌≡◌, ◌⊎◌}
 use Rattle.sqlite.specs.Disk.{MoreFaults}
 use Rattle.sqlite.specs.Effect.{Database}
-use Rattle.sqlite.specs.Files.{IsFullLeft, faults_left, faults_of, file_state}
+use Rattle.sqlite.specs.Files.{IsCleanLeft, IsFullLeft, faults_left, faults_of, file_state}
+use Rattle.sqlite.specs.Files.{image_of}
 use Rattle.sqlite.specs.Held.{Held}
 use Rattle.sqlite.specs.Recovery.{Image}
 use Rattle.sqlite.specs.State.{State}
 use Rattle.sqlite.specs.Tree.{Trees}
+use Rattle.sqlite.specs.WalReads.{AreClean}
 use Rattle.sqlite.specs.declared.file.Leftover.{Leftover}
 use Rattle.sqlite_disk.specs.declared.Disk.{Ghosts}
 use Rattle.sqlite_disk.specs.declared.Files.{Files}
@@ -55,3 +57,11 @@ module _ {D : Type 0} {g : Ghosts D} where
   HasRestartCause db files left fault = (fault ≡ Memory) ⊎ ((fault ≡ Store)
       × (MoreFaults (faults_of g files) (faults_left left)
       ⊎ (FailsOnceOpened db left ⊎ IsFullLeft left)))
+
+  -- Why a restart failed: the crash left these files, which hold a store, and they don't open for
+  -- this cause.
+  pub record HasCrashCause (s : State) (left : Leftover D g) (fault : OpenFault) : Type 0 where
+    pub files : Files D
+    pub holds : AreClean g files.log files.db → ∥ LeftStore s (image_of g files) ∥₁
+    pub cause : (books : Books) → (stored : HoldsStore (image_of g files) books)
+        → IsCleanLeft left → HasRestartCause (declared_over stored.trees) files left fault

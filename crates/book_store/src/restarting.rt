@@ -1,6 +1,6 @@
 //! The end of a run of a store in files, and the opening by the next run.
 ghost use Rattle.book_model.specs.Books.{Books};
-ghost use Rattle.book_store.specs.Restarts.{HasRestartCause, HoldsStore, LeftStore};
+ghost use Rattle.book_store.specs.Restarts.{HasCrashCause, HasRestartCause, HoldsStore, LeftStore};
 ghost use Rattle.book_store.specs.Restarts.{declared_over};
 ghost use Rattle.book_store.specs.StoreViews.{LeftTrees, table_model};
 ghost use Rattle.database_files.specs.Restarts.{LeaveOneOf};
@@ -86,14 +86,16 @@ impl<D: Crash + Drop> SqlStore<FileStore<D>> {
         runs::crash_files(self.into_files())
     }
 
-    /// Crashes at this moment, and opens the store again, with the same limits. Why that fails,
-    /// `open_again` says of the files that `crash` leaves.
+    /// Crashes at this moment, and opens the store again, with the same limits. That fails only for
+    /// a cause that `open_again` gives, over the files that `crash` leaves.
     pub fn restart(
         self,
         alloc: Global,
         options: Options,
     ) -> Result<SqlStore<FileStore<D>>, (OpenFault, Leftover<D>)>
         ensures restarts { IfOk result (RestartsFrom (table_model over_files) self) }
+        ensures cause { IfErr result (λ refused.
+            HasCrashCause (file_state self.conn) refused.1 refused.0) }
     {
         let limits = self.limits;
         let store = SqlStore::open_again(alloc, self.crash(), options, limits)?;
