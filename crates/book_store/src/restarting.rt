@@ -105,8 +105,9 @@ impl<D: Crash + Drop> SqlStore<FileStore<D>> {
 }
 
 impl<S: Alter> SqlStore<S> {
-    /// Proves for its caller that a crash of an open store leaves its books. It has no other effect.
-    pub(crate) fn assert_settled(&self)
+    /// Proves for its caller that a crash of an open store leaves its books, as `live` asks of the
+    /// store that it begins with. It has no other effect.
+    pub fn assert_settled(&self)
         ensures { IsSettled (table_model S.Store) self.now }
     {}
 }

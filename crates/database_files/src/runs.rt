@@ -3,8 +3,8 @@ ghost use Rattle.database_files.specs.Restarts.{HasOpenCause, HoldsListed, Leave
 ghost use Rattle.sqlite.specs.Effect.{Database};
 ghost use Rattle.sqlite.specs.Files.{Finds, HoldsDatabase, IsCleanLeft, LeavesFiles, file_state};
 ghost use Rattle.sqlite.specs.Files.{image_of};
-ghost use Rattle.sqlite.specs.Recovery.{Image};
 ghost use Rattle.sqlite.specs.Held.{IsNew};
+ghost use Rattle.sqlite.specs.Recovery.{Image};
 ghost use Rattle.sqlite.specs.State.{HasCleanDisk};
 ghost use Rattle.sqlite.specs.Tree.{Trees};
 ghost use Rattle.sqlite.specs.WalFiles.{outcomes};
