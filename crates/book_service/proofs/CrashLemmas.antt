@@ -20,7 +20,7 @@ use Rattle.book_model.specs.Devices.{DeviceState}
 use Rattle.sync_core.specs.StoreModels.{LeavesNoMore, LeavesOr, LeavesStep, StoreModel}
 use Rattle.book_service.specs.declared.event.Event.{Event}
 use Rattle.book_service.specs.declared.event.Event.TheVariants.{Do}
-use Rattle.book_service.specs.Crashes.{LeavesCommand, LeavesEvent}
+use Rattle.book_service.specs.Crashes.{LeavesAsk, LeavesCommand, LeavesEvent}
 use Rattle.book_service.specs.Faults.{IsFault}
 use Rattle.book_service.specs.Replies.{reply_to}
 use Rattle.book_service.specs.internal.RowSteps.{CommandLeaves, IsAfterCommand}
@@ -29,9 +29,9 @@ use Rattle.book_service.proofs.CallLemmas.{creates, forgets, moves, removes}
 
 -- ---- answers
 
-pub unless_error : {A B : Type 0} (error : Denied) (Then : Type 0) → UnlessFault {A = A} (Err error) Then → UnlessFault {A = B} (Err error) Then
-unless_error (Refused refusal) Then h = h
-unless_error (Fault fault) Then h = h
+pub unless_error : (A B : Type 0) (error : Denied) (Then : Type 0) → UnlessFault {A = A} (Err error) Then → UnlessFault {A = B} (Err error) Then
+unless_error A B (Refused refusal) Then h = h
+unless_error A B (Fault fault) Then h = h
 
 -- with the premise, any answer may be given
 pub holds_anyway : {A : Type 0} (returned : Result A Denied) (Then : Type 0) → Then → UnlessFault returned Then
@@ -40,8 +40,8 @@ holds_anyway (Err (Refused refusal)) Then h = h
 holds_anyway (Err (Fault fault)) Then h = tt
 
 -- a denial that is passed on is a fault where it was one
-pub denial_answers : {A B : Type 0} (returned : Result B Denied) (error : Denied) (Then : Type 0) → returned ≡ Err error → UnlessFault {A = A} (Err error) Then → UnlessFault returned Then
-denial_answers returned error Then is h = subst (λ (r : Result B Denied). UnlessFault r Then) (sym is) (unless_error error Then h)
+pub denial_answers : (A : Type 0) {B : Type 0} (returned : Result B Denied) (error : Denied) (Then : Type 0) → returned ≡ Err error → UnlessFault {A = A} (Err error) Then → UnlessFault returned Then
+denial_answers A {B = B} returned error Then is h = subst (λ (r : Result B Denied). UnlessFault r Then) (sym is) (unless_error A B error Then h)
 
 -- ---- a call that changes books
 
@@ -50,7 +50,7 @@ module _ {S : Type 0} (model : StoreModel S) (old new : S) where
       → ((done : C × Books) → step (model.limits old) (model.books old) ≡ Ok done → IsAfterCommand (model.limits old) (model.books old) command done.1)
       → (UnlessFault called (model.premise new) → UnlessFault returned (model.premise new))
       → LeavesStep model old new called step → CommandLeaves model old new returned command
-  leaves_on step called returned command after answers leaves = record {
+  leaves_on {C = C} step called returned command after answers leaves = record {
     only = λ books left. ⊎_elim (λ before. inl before) (λ made. inr (made.0, by_step (step (model.limits old) (model.books old)) refl books made.1)) (leaves.only books left);
     settled = leaves.settled;
     answered = λ books left. answers (leaves.answered books left);
@@ -58,13 +58,13 @@ module _ {S : Type 0} (model : StoreModel S) (old new : S) where
     where
       by_step : (o : Result (C × Books) Refusal) → step (model.limits old) (model.books old) ≡ o → (books : Books) → IsAfterStep o books → IsAfterCommand (model.limits old) (model.books old) command books
       by_step (Ok done) e books same = subst (IsAfterCommand (model.limits old) (model.books old) command) (sym same) (after done e)
-      by_step (Err refusal) e books no = absurd no
+      by_step (Err refusal) e books made = absurd made
 
   -- a call that only reads
   pub read_leaves : {A B : Type 0} (called : Result A Denied) (returned : Result B Denied) (command : Command) → (UnlessFault called (model.premise new) → UnlessFault returned (model.premise new))
       → LeavesNoMore model old new called → CommandLeaves model old new returned command
   read_leaves called returned command answers leaves = record {
-    only = λ books left. ⊎_elim (λ before. inl before) (λ no. absurd no) (leaves.only books left);
+    only = λ books left. ⊎_elim (λ before. inl before) (λ none. absurd none) (leaves.only books left);
     settled = leaves.settled;
     answered = λ books left. answers (leaves.answered books left);
   }
@@ -82,8 +82,8 @@ module _ {S : Type 0} (model : StoreModel S) (old new : S) where
   pub leaves_after_read : {A B C : Type 0} (mid : S) (step : Bounds → Books → Result (C × Books) Refusal) (read : Result A Denied) (returned : Result B Denied) (command : Command) → (model.premise mid → model.premise old)
       → (model.premise mid → (done : C × Books) → step (model.limits mid) (model.books mid) ≡ Ok done → IsAfterCommand (model.limits old) (model.books old) command done.1)
       → LeavesNoMore model old mid read → LeavesStep model mid new returned step → CommandLeaves model old new returned command
-  leaves_after_read mid step read returned command before after first second = record {
-    only = λ books left. ⊎_elim (λ kept. ⊎_elim (λ earlier. inl earlier) (λ no. absurd no) (first.only books kept))
+  leaves_after_read {C = C} mid step read returned command before after first second = record {
+    only = λ books left. ⊎_elim (λ kept. ⊎_elim (λ earlier. inl earlier) (λ none. absurd none) (first.only books kept))
         (λ made. inr (before made.0, by_step made.0 (step (model.limits mid) (model.books mid)) refl books made.1)) (second.only books left);
     settled = second.settled;
     answered = second.answered;
@@ -91,7 +91,7 @@ module _ {S : Type 0} (model : StoreModel S) (old new : S) where
     where
       by_step : model.premise mid → (o : Result (C × Books) Refusal) → step (model.limits mid) (model.books mid) ≡ o → (books : Books) → IsAfterStep o books → IsAfterCommand (model.limits old) (model.books old) command books
       by_step premise (Ok done) e books same = subst (IsAfterCommand (model.limits old) (model.books old) command) (sym same) (after premise done e)
-      by_step premise (Err refusal) e books no = absurd no
+      by_step premise (Err refusal) e books made = absurd made
 
   -- a function of this command, of which a match arm is
   pub passes_on : {A B : Type 0} (called : Result A Denied) (returned : Result B Denied) (command own : Command) → command ≡ own → (UnlessFault called (model.premise new) → UnlessFault returned (model.premise new))
@@ -106,7 +106,7 @@ module _ {S : Type 0} (model : StoreModel S) (old new : S) where
 
 -- what the step made, a call that answers matches
 pub matched : {C : Type 0} (step : Result (C × Books) Refusal) (old : Books) (done : C × Books) → step ≡ Ok done → MatchesStep (Ok done.0) step old done.1
-matched step old done e = subst (λ (o : Result (C × Books) Refusal). MatchesStep (Ok done.0) o old done.1) (sym e) (refl, refl)
+matched {C = C} step old done e = subst (λ (o : Result (C × Books) Refusal). MatchesStep (Ok done.0) o old done.1) (sym e) (refl, refl)
 
 module _ {S B : Type 0} (model : StoreModel S) (old new : S) (returned : Result B Denied) (command : Command) where
   pub create_leaves : CreateRefines → IsInRange (model.limits old) → (book name : List ℕ) (called : Result ℕ Denied) → command ≡ CreateBook book → name ≡ book → (UnlessFault called (model.premise new) → UnlessFault returned (model.premise new))
@@ -182,3 +182,23 @@ module _ {S : Type 0} (model : StoreModel S) (old new : S) where
     settled = leaves.settled;
     answered = λ books left. ⊎_elim (λ premise. inl premise) (λ fault. inr (fault.0, refl)) (leaves.answered books left);
   })
+
+-- ---- a device's request
+
+module _ {S : Type 0} (model : StoreModel S) (old new : S) where
+  -- the store's report leaves no more
+  pub ask_leaves : {A : Type 0} (called : Result A Denied) (r : Reply) (before after : DeviceState) → (UnlessFault called (model.premise new) → model.premise new ⊎ (IsFault r × (after ≡ before)))
+      → LeavesNoMore model old new called → LeavesAsk model old new r before after
+  ask_leaves called r before after answers leaves = record {
+    only = λ books left. ⊎_elim (λ earlier. earlier) (λ none. absurd none) (leaves.only books left);
+    settled = leaves.settled;
+    answered = λ books left. answers (leaves.answered books left);
+  }
+
+  -- one device changed at most
+  pub ask_event_leaves : (event : Event) (r : Reply) (was is : DeviceState) (devices after : List DeviceState) → (is ≡ was → after ≡ devices) → LeavesAsk model old new r was is → LeavesEvent model old new event r devices after
+  ask_event_leaves event r was is devices after same leaves = record {
+    only = λ books left. inl (leaves.only books left);
+    settled = leaves.settled;
+    answered = λ books left. ⊎_elim (λ premise. inl premise) (λ fault. inr (fault.0, same fault.1)) (leaves.answered books left);
+  }

@@ -8,7 +8,8 @@ ghost use Rattle.book_model.specs.CallOutcomes.{IfFault};
 ghost use Rattle.book_commands.specs.declared.command.Command.{Command as TheCommand};
 ghost use Rattle.book_commands.specs.declared.reply.Reply.{Reply as TheReply};
 ghost use Rattle.book_service.specs.Faults.{IfFaultReply, CommandFault};
-ghost use Rattle.book_service.specs.internal.RowSteps.{CommandLeaves, CommandOnStore, IsFirstDenial};
+ghost use Rattle.book_service.specs.internal.RowSteps.{CommandLeaves, CommandOnStore};
+ghost use Rattle.book_service.specs.internal.RowSteps.{IsFirstDenial};
 ghost use Rattle.book_service.specs.Replies.{denied_reply, reply_to};
 ghost use Rattle.sync_core.specs.StoreModels.{KeepsBooks, KeepsTerms, LeavesNoMore};
 
@@ -186,7 +187,7 @@ fn first_denial<S: BookStore>(store: &mut S, book: &str, error: Denied) -> Denie
     ensures fault { (result ≡ error) ⊎ IfFault {A = Unit {0}} (Err result) S.model.may_fault }
     ensures denies { S.model.premise store.new →
         IsFirstDenial (S.model.books store.old) book.now error (denied_reply result) }
-    ensures crash { LeavesNoMore {A = Unit {0}} S.model store.old store.new (Err result) }
+    ensures crash { LeavesNoMore S.model {A = Unit {0}} store.old store.new (Err result) }
 {
     match store.book(book) {
         Ok(_) => error,

@@ -39,7 +39,8 @@ IsAfterCommand limits old command books = (r : Reply) × CommandOnRows limits ol
 
 -- What a crash leaves after a call for a command: what it could leave before, or the rows after the
 -- whole command.
-abbrev pub CommandLeaves : {S A : Type 0} → StoreModel S → S → S → Result A Denied → Command → Type 0
+abbrev pub CommandLeaves : {S A : Type 0} → StoreModel S → S → S → Result A Denied → Command
+    → Type 0
 CommandLeaves model old new returned command = LeavesOr model old new returned (λ books.
     model.premise old × IsAfterCommand (model.limits old) (model.books old) command books)
 

@@ -1,5 +1,6 @@
 use Rattle.std.proofs.Common.{List, ℕ, Ok, Err, subst}
 use Rattle.vcard_lines.specs.declared.line.Line.{Line}
+use Rattle.book_model.specs.declared.answers.PutAnswer.{PutAnswer}
 use Rattle.book_model.specs.CallOutcomes.{MatchesStep}
 use Rattle.book_model.specs.Putting.{put_step}
 use Rattle.book_commands.specs.declared.command.Command.TheVariants.{Put}
@@ -48,4 +49,4 @@ returns-in-Ok-clause-crash g c =
 pub returns-in-Err-clause-crash : goal.returns-in-Err-clause-crash
 returns-in-Err-clause-crash g c =
     read_leaves g.S.BookStore.model c.args.store.now c.first_denial.new.store (Err c.first_denial.result) (Err c.first_denial.result) (Put c.args.book.now c.args.uid.now c.args.expect c.args.text.now)
-    (unless_error c.first_denial.result (g.S.BookStore.model.premise c.first_denial.new.store)) c.first_denial.ensures.crash
+    (unless_error (Unit {0}) PutAnswer c.first_denial.result (g.S.BookStore.model.premise c.first_denial.new.store)) c.first_denial.ensures.crash

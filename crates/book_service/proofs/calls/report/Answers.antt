@@ -1,5 +1,6 @@
 use Rattle.std.proofs.Common.{List, ℕ, Ok, Err, subst}
 use Rattle.book_model.specs.declared.denied.Denied.TheVariants.{Refused}
+use Rattle.book_model.specs.declared.page.Page.{Page}
 use Rattle.book_model.specs.CallOutcomes.{MatchesQuery}
 use Rattle.book_model.specs.Pages.{IsReport, report_step}
 use Rattle.book_service.specs.internal.RowSteps.{IsFirstDenial}
@@ -30,4 +31,4 @@ returns-in-Err-clause-step g c = λ premise.
 
 pub returns-in-Err-clause-crash : goal.returns-in-Err-clause-crash
 returns-in-Err-clause-crash g c =
-    no_more g.S.BookStore.model c.args.store.now c.first_denial.new.store (Err c.first_denial.result) (Err c.first_denial.result) (unless_error c.first_denial.result (g.S.BookStore.model.premise c.first_denial.new.store)) c.first_denial.ensures.crash
+    no_more g.S.BookStore.model c.args.store.now c.first_denial.new.store (Err c.first_denial.result) (Err c.first_denial.result) (unless_error (Unit {0}) Page c.first_denial.result (g.S.BookStore.model.premise c.first_denial.new.store)) c.first_denial.ensures.crash

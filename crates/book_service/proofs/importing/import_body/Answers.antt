@@ -89,7 +89,7 @@ pub returns-in_err-kept-clause-crash : goal.returns-in_err-kept-clause-crash
 returns-in_err-kept-clause-crash g c =
     let p = err_from_is_err_and c.from_residual.result c.from_residual.ensures.1 in
     read_leaves g.S.BookStore.model c.args.store.now c.kept_import.new.self (Err c.in_err-kept.field-0.0) c.from_residual.result (Import c.args.book.now c.args.key.now c.args.body.now)
-    (denial_answers c.from_residual.result c.in_err-kept.field-0.0 (g.S.BookStore.model.premise c.kept_import.new.self) (p.1 ∙ ap (λ (d : Denied). Err d) p.2)) c.in_err-kept.ensures.crash
+    (denial_answers (Option ImportTally) c.from_residual.result c.in_err-kept.field-0.0 (g.S.BookStore.model.premise c.kept_import.new.self) (p.1 ∙ ap (λ (d : Denied). Err d) p.2)) c.in_err-kept.ensures.crash
 
 pub returns-in-Some-clause-crash : goal.returns-in-Some-clause-crash
 returns-in-Some-clause-crash g c =
