@@ -1,5 +1,5 @@
 -- One more run at the end of a life.
-use Rattle.std.proofs.Common.{◌≡◌, ◌<◌, ◌+◌, ℕ, inl, inr, List, [], ◌∷◌, ◌++◌, get_or, length, map, take, refl, sym, ap, subst, ◌∙◌}
+use Rattle.std.proofs.Common.{◌≡◌, ◌<◌, ◌+◌, ℕ, inl, inr, List, [], ◌∷◌, ◌++◌, get_or, length, map, take, refl, sym, ap, subst, ◌∙◌, arith}
 use Rattle.std.proofs.Math.Logic.{∥∥₁_elim, ∥∥₁_map}
 use Rattle.std.proofs.lemmas.List.{append-nil, append_assoc, map-append, take_more}
 use Rattle.book_commands.specs.declared.reply.Reply.{Reply}
@@ -7,7 +7,7 @@ use Rattle.book_model.specs.Books.{Books}
 use Rattle.book_model.specs.Devices.{DeviceState}
 use Rattle.sync_core.specs.StoreModels.{IsSettled, RestartsFrom, StoreModel}
 use Rattle.book_service.specs.declared.event.Event.{Event}
-use Rattle.book_service.specs.Crashes.{AnswerFirst, AnswersFirst, IsLeftAsBefore, LeavesRun, LivedTo, LivesOn, RanInto}
+use Rattle.book_service.specs.Crashes.{EachAnswersFirst, AnswersFirst, IsLeftAsBefore, LeavesRun, LedTo, LivedTo, RanUntilStopped}
 use Rattle.book_service.specs.Lives.{IsLife, MadeOf, ServerRun}
 use Rattle.book_service.specs.Runs.{MatchesRows, Run, SystemState, TraceStep, end_of}
 use Rattle.book_service.proofs.StepLemmas.{end-append, run_limits}
@@ -34,8 +34,8 @@ life_more now (first ∷ runs) trace run made life answered makes =
       ap (λ (t : List TraceStep). t ++ more) life.5 ∙ append_assoc first.answered (life.0 ++ life.1) more ∙ ap (λ (t : List TraceStep). first.answered ++ t) (append_assoc life.0 life.1 more),
     )
 
-answers_more : (asked : List (List Event)) (replied : List (List Reply)) (runs : List ServerRun) (events : List Event) (replies : List Reply) (run : ServerRun) → AnswerFirst asked replied runs → AnswersFirst events replies run
-    → AnswerFirst (asked ++ events ∷ []) (replied ++ replies ∷ []) (runs ++ run ∷ [])
+answers_more : (asked : List (List Event)) (replied : List (List Reply)) (runs : List ServerRun) (events : List Event) (replies : List Reply) (run : ServerRun) → EachAnswersFirst asked replied runs → AnswersFirst events replies run
+    → EachAnswersFirst (asked ++ events ∷ []) (replied ++ replies ∷ []) (runs ++ run ∷ [])
 answers_more [] [] [] events replies run all one = (one, tt)
 answers_more [] [] (r ∷ runs) events replies run all one = absurd all
 answers_more [] (rs ∷ replied) runs events replies run all one = absurd all
@@ -45,7 +45,7 @@ answers_more (es ∷ asked) (rs ∷ replied) (r ∷ runs) events replies run all
 
 module _ (now : SystemState) (asked : List (List Event)) (replied : List (List Reply)) (events : List Event) (replies : List Reply) where
   -- the next run led from where the life had led
-  lived_more : (old books : Books) (devices after : List DeviceState) (lived : LivedTo now asked replied old devices) → RanInto (end_of now lived.trace) events replies books after
+  lived_more : (old books : Books) (devices after : List DeviceState) (lived : LivedTo now asked replied old devices) → RanUntilStopped (end_of now lived.trace) events replies books after
       → LivedTo now (asked ++ events ∷ []) (replied ++ replies ∷ []) books after
   lived_more old books devices after lived ran =
       let more = ran.run.answered ++ ran.made in
@@ -61,7 +61,7 @@ module _ (now : SystemState) (asked : List (List Event)) (replied : List (List R
       }
 
   -- a run in which nothing was done
-  idle_run : (state : SystemState) (books : Books) (devices : List DeviceState) (left_faults : AnswersFirst events replies (record { answered = []; interrupted = [] })) → MatchesRows state state.model.limits books → state.devices ≡ devices → RanInto state events replies books devices
+  idle_run : (state : SystemState) (books : Books) (devices : List DeviceState) (left_faults : AnswersFirst events replies (record { answered = []; interrupted = [] })) → MatchesRows state state.model.limits books → state.devices ≡ devices → RanUntilStopped state events replies books devices
   idle_run state books devices answers at device_at = record {
     run = record { answered = []; interrupted = [] };
     made = [];
@@ -81,11 +81,14 @@ module _ {S : Type 0} (model : StoreModel S) where
     pub opened : (books : Books) → model.may_leave last books → model.premise last
     pub lived : model.premise last → ∥ LivedTo now asked replied (model.books last) devices ∥₁
 
-  pub lives_on : (first last : S) (now : SystemState) (asked : List (List Event)) (replied : List (List Reply)) (devices : List DeviceState) → LivesSoFar first last now asked replied devices
+  lives_left : (first last : S) (now : SystemState) (asked : List (List Event)) (replied : List (List Reply)) (devices : List DeviceState) → LivesSoFar first last now asked replied devices
       → (books : Books) → model.may_leave last books → ∥ LivedTo now asked replied books devices ∥₁
-  lives_on first last now asked replied devices so_far books left =
+  lives_left first last now asked replied devices so_far books left =
       let premise = so_far.opened books left in
       subst (λ (b : Books). ∥ LivedTo now asked replied b devices ∥₁) (sym (so_far.settled premise books left)) (so_far.lived premise)
+
+  pub lives_on : (first last : S) (now : SystemState) (asked : List (List Event)) (replied : List (List Reply)) (devices : List DeviceState) → LivesSoFar first last now asked replied devices → LedTo model now last asked replied devices
+  lives_on first last now asked replied devices so_far = record { has = so_far.lived; leaves = lives_left first last now asked replied devices so_far }
 
   pub life_begun : (first : S) (now : SystemState) → model.premise first → IsSettled model first → MatchesRows now (model.limits first) (model.books first) → LivesSoFar first first now [] [] now.devices
   life_begun first now premise settled at = record {
@@ -104,9 +107,9 @@ module _ {S : Type 0} (model : StoreModel S) where
     settled = restarts.settled;
     opened = restarts.opened;
     lived = λ premise. ∥∥₁_elim (restarts.finds premise) squash₁ (λ left. elim (ran (model.books new) left) [
-      | inl nothing ↦ ∥∥₁_map (lives_on first old now asked replied before so_far (model.books new) nothing.left) (λ lived.
+      | inl nothing ↦ ∥∥₁_map (lives_left first old now asked replied before so_far (model.books new) nothing.left) (λ lived.
           let end = end_of now lived.trace in
-          let idle = idle_run now asked replied events replies end (model.books new) after (record { later = events; faults = replies; events_are = refl; replies_are = refl; all_faults = nothing.all_faults })
+          let idle = idle_run now asked replied events replies end (model.books new) after (record { later = events; faults = replies; events_are = refl; replies_are = refl; at_most_one = omega arith; each = nothing.each; all_faults = nothing.all_faults })
           (record { limits_are = refl; histories = lived.at.histories }) (lived.devices_are ∙ sym nothing.same_devices) in
           lived_more now asked replied events replies (model.books new) (model.books new) before after lived idle)
       | inr some ↦ ∥∥₁_map (so_far.lived some.0) (λ lived.

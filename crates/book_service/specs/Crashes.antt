@@ -1,5 +1,5 @@
 -- What a crash leaves of a store that the service used: after an event, and after a run.
-use Rattle.std.specs.Prelude.{◌≡◌, ◌⊎◌, List, [], ◌∷◌, ◌++◌, map}
+use Rattle.std.specs.Prelude.{◌≡◌, ◌≤◌, ◌⊎◌, List, [], ◌∷◌, ◌++◌, length, map}
 use Rattle.std.specs.List.{AllByRecursion}
 use Rattle.book_commands.specs.declared.command.Command.{Command}
 use Rattle.book_commands.specs.declared.reply.Reply.{Reply}
@@ -25,8 +25,8 @@ module _ {S : Type 0} (model : StoreModel S) where
   IsAfterEvent old (Ask i limit) books = ⊥
 
   -- A crash after an event leaves what it could leave before, or the rows after the whole event,
-  -- which was done over a store whose premise held. If the premise holds, it leaves the rows as they
-  -- are; else the reply is a fault, and no device changed.
+  -- which was done over a store whose premise held. If the premise holds, it leaves the rows as
+  -- they are; else the reply is a fault, and no device changed.
   pub record LeavesEvent (old new : S) (event : Event) (r : Reply)
       (before after : List DeviceState) : Type 0 where
     pub only : (books : Books) → model.may_leave new books →
@@ -39,8 +39,8 @@ module _ {S : Type 0} (model : StoreModel S) where
   abbrev pub LeavesCommand : S → S → Command → Reply → Type 0
   LeavesCommand old new command r = LeavesEvent old new (Do command) r [] []
 
-  -- A crash after a device's request leaves what it could leave before. If the premise doesn't hold,
-  -- the reply is a fault, and the device is as it was.
+  -- A crash after a device's request leaves what it could leave before. If the premise doesn't
+  -- hold, the reply is a fault, and the device is as it was.
   pub record LeavesAsk (old new : S) (r : Reply) (before after : DeviceState) : Type 0 where
     pub only : (books : Books) → model.may_leave new books → model.may_leave old books
     pub settled : IsSettled model new
@@ -49,19 +49,21 @@ module _ {S : Type 0} (model : StoreModel S) where
 
 -- ---- a run
 
--- The run answered the first of these events, with these replies. The next one may be a command that
--- it interrupted. That and all later events were answered with faults.
+-- The run answered the first of these events, with these replies. The next one may be a command
+-- that it interrupted. That and all later events were answered with faults, each with one.
 pub record AnswersFirst (events : List Event) (replies : List Reply) (run : ServerRun)
     : Type 0 where
   pub later : List Event
   pub faults : List Reply
   pub events_are : events ≡ events_of run.answered ++ (map Do run.interrupted ++ later)
   pub replies_are : replies ≡ replies_of run.answered ++ faults
+  pub at_most_one : length run.interrupted ≤ 1
+  pub each : length faults ≡ length (map Do run.interrupted ++ later)
   pub all_faults : AllByRecursion IsFault faults
 
 -- From this state such a run, with what was made of the command that it interrupted, led to these
 -- rows and devices.
-pub record RanInto (now : SystemState) (events : List Event) (replies : List Reply)
+pub record RanUntilStopped (now : SystemState) (events : List Event) (replies : List Reply)
     (books : Books) (devices : List DeviceState) : Type 0 where
   pub run : ServerRun
   pub made : List TraceStep
@@ -74,30 +76,33 @@ pub record RanInto (now : SystemState) (events : List Event) (replies : List Rep
 module _ {S : Type 0} (model : StoreModel S) where
   -- Nothing was done: a crash left these rows before the run too, each event was answered with a
   -- fault, and no device changed.
-  pub record IsLeftAsBefore (old : S) (books : Books) (replies : List Reply)
+  pub record IsLeftAsBefore (old : S) (books : Books) (events : List Event) (replies : List Reply)
       (before after : List DeviceState) : Type 0 where
     pub left : model.may_leave old books
+    pub each : length replies ≡ length events
     pub all_faults : AllByRecursion IsFault replies
     pub same_devices : after ≡ before
 
-  -- Whatever a crash leaves at the end of these events, nothing was done; or the premise held at
-  -- their beginning, and from each state with the rows before them they ran into what is left.
+  -- The rows that a crash leaves at the end of these events may have been left before them, and the
+  -- run did nothing; or the premise held then, and from each state with the rows before them the
+  -- run led to those that are left.
   abbrev pub LeavesRun : S → S → List Event → List Reply → List DeviceState → List DeviceState
       → Type 0
   LeavesRun old new events replies before after =
-      (books : Books) → model.may_leave new books → IsLeftAsBefore old books replies before after
+      (books : Books) → model.may_leave new books →
+      IsLeftAsBefore old books events replies before after
       ⊎ (model.premise old × ((now : SystemState)
       → MatchesRows now (model.limits old) (model.books old) → now.devices ≡ before
-      → RanInto now events replies books after))
+      → RanUntilStopped now events replies books after))
 
 -- ---- a life
 
 -- each run answered the first of its events, with these replies
-abbrev pub AnswerFirst : List (List Event) → List (List Reply) → List ServerRun → Type 0
-AnswerFirst [] [] [] = Unit {0}
-AnswerFirst (events ∷ more) (replies ∷ others) (run ∷ runs) =
-    AnswersFirst events replies run × AnswerFirst more others runs
-AnswerFirst asked replied runs = ⊥
+abbrev pub EachAnswersFirst : List (List Event) → List (List Reply) → List ServerRun → Type 0
+EachAnswersFirst [] [] [] = Unit {0}
+EachAnswersFirst (events ∷ more) (replies ∷ others) (run ∷ runs) =
+    AnswersFirst events replies run × EachAnswersFirst more others runs
+EachAnswersFirst asked replied runs = ⊥
 
 -- From this state such runs were a life, which led to these rows and devices.
 pub record LivedTo (now : SystemState) (asked : List (List Event)) (replied : List (List Reply))
@@ -105,17 +110,23 @@ pub record LivedTo (now : SystemState) (asked : List (List Event)) (replied : Li
   pub runs : List ServerRun
   pub trace : List TraceStep
   pub life : IsLife now runs trace
-  pub answers : AnswerFirst asked replied runs
+  pub answers : EachAnswersFirst asked replied runs
   pub at : MatchesRows (end_of now trace) now.model.limits books
   pub devices_are : (end_of now trace).devices ≡ devices
 
 module _ {S : Type 0} (model : StoreModel S) where
-  -- Whatever a crash of the last store leaves, the runs led to it as a life, from each state with the
-  -- rows of the first store, whose premise held.
+  -- From this state the runs led as a life to the rows of the last store, if its premise holds, and
+  -- to all rows that a crash of that store may leave.
+  pub record LedTo (now : SystemState) (last : S) (asked : List (List Event))
+      (replied : List (List Reply)) (devices : List DeviceState) : Type 0 where
+    pub has : model.premise last → ∥ LivedTo now asked replied (model.books last) devices ∥₁
+    pub leaves : (books : Books) → model.may_leave last books →
+        ∥ LivedTo now asked replied books devices ∥₁
+
+  -- the same from each state with the rows of the first store, whose premise held
   abbrev pub LivesOn : S → S → List (List Event) → List (List Reply) → List DeviceState
       → List DeviceState
       → Type 0
   LivesOn first last asked replied before after = model.premise first → IsSettled model first →
       (now : SystemState) → MatchesRows now (model.limits first) (model.books first) →
-      now.devices ≡ before → (books : Books) → model.may_leave last books →
-      ∥ LivedTo now asked replied books after ∥₁
+      now.devices ≡ before → LedTo now last asked replied after

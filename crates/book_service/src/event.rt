@@ -85,6 +85,9 @@ pub fn drive<S: BookStore>(
     ensures limits { S.model.limits store.new ≡ S.model.limits store.old }
     ensures count { length devices.new.items ≡ length devices.old.items }
 
+    // One reply to each event.
+    ensures one_each { IfOk result (λ replies. length replies.items ≡ length events.now) }
+
     // A fault is one that the store may return, or out of memory while a text is read or copied or
     // a page applied.
     ensures faults { IfOk result (λ replies.
@@ -96,8 +99,8 @@ pub fn drive<S: BookStore>(
         now.devices ≡ devices.old.items →
         RanTo now events.now replies.items (S.model.books store.new) devices.new.items)) }
 
-    // Whatever a crash leaves then, the first events ran into it, perhaps with the next command, and
-    // the other replies are faults: so each reply that is no fault was a step, and stays one.
+    // After a crash the rows are those after the events that were answered, or after one more
+    // command. From there on each reply is a fault, and no device changed.
     ensures crash { IfOk result (λ replies. LeavesRun S.model store.old store.new events.now
         replies.items devices.old.items devices.new.items) }
 

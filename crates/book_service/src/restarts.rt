@@ -2,7 +2,7 @@
 ghost use Rattle.book_service.specs.Crashes.{LivesOn};
 ghost use Rattle.book_service.specs.Runs.{NamesDeviceBelow};
 ghost use Rattle.sync_core.specs.StoreModels.{RestartsFrom};
-ghost use Rattle.std.specs.Prelude.{All, IfOk, IfSome, length, map};
+ghost use Rattle.std.specs.Prelude.{◌≡◌, All, IfOk, IfSome, length, map};
 
 use crate::event::{Event, drive};
 use book_commands::Reply;
@@ -23,7 +23,7 @@ pub trait Restarts<S: BookStore> {
 /// store doesn't open; `NoMemory` if there is no memory for the replies of a run.
 ///
 /// The caller must ensure that each device index is below the number of devices.
-pub fn live<S: BookStore, R: Restarts<S>>(
+pub fn live<S: BookStore + Drop, R: Restarts<S>>(
     alloc: Global,
     restarts: &mut R,
     store: S,
@@ -31,10 +31,13 @@ pub fn live<S: BookStore, R: Restarts<S>>(
     runs: &[Vec<Event>],
 ) -> Result<Option<(S, Vec<Vec<Reply>>)>, NoMemory>
     requires { All (λ run. All (NamesDeviceBelow (length devices.old.items)) run.items) runs.now }
+    ensures limits { IfOk result (λ opened. IfSome opened (λ lived.
+        S.model.limits lived.0 ≡ S.model.limits store)) }
+    ensures count { length devices.new.items ≡ length devices.old.items }
 
-    // Whatever a crash leaves at the end, all runs were one life: each reply that is no fault is
-    // that of a step, in its place, and a command that a crash interrupted was made once or not at
-    // all.
+    // All runs were one life, which led to the rows of the store that is returned, and to those
+    // that a crash of it leaves: each reply that is no fault is that of a step, in its place, and a
+    // command that a crash interrupted was made once or not at all.
     ensures life { IfOk result (λ opened. IfSome opened (λ lived. LivesOn S.model store lived.0
         (map (λ run. run.items) runs.now) (map (λ replies. replies.items) lived.1.items)
         devices.old.items devices.new.items)) }
