@@ -17,7 +17,7 @@ use Rattle.book_commands.specs.declared.command.Command.TheVariants.{CreateBook,
 use Rattle.book_commands.specs.declared.reply.Reply.{Reply}
 use Rattle.book_commands.specs.declared.reply.Reply.TheVariants as reply
 use Rattle.book_model.specs.Devices.{DeviceState}
-use Rattle.sync_core.specs.StoreModels.{LeavesNoMore, LeavesOr, LeavesStep, StoreModel}
+use Rattle.sync_core.specs.StoreModels.{LeavesNoMore, LeavesStep, StoreModel}
 use Rattle.book_service.specs.declared.event.Event.{Event}
 use Rattle.book_service.specs.declared.event.Event.TheVariants.{Do}
 use Rattle.book_service.specs.Crashes.{LeavesAsk, LeavesCommand, LeavesEvent}

@@ -7,7 +7,7 @@ use Rattle.book_model.specs.Books.{Books}
 use Rattle.book_model.specs.Devices.{DeviceState}
 use Rattle.sync_core.specs.StoreModels.{IsSettled, RestartsFrom, StoreModel}
 use Rattle.book_service.specs.declared.event.Event.{Event}
-use Rattle.book_service.specs.Crashes.{EachAnswersFirst, AnswersFirst, IsLeftAsBefore, LeavesRun, LedTo, LivedTo, RanUntilStopped}
+use Rattle.book_service.specs.Crashes.{EachAnswersFirst, AnswersFirst, LeavesRun, LedTo, LivedTo, RanUntilStopped}
 use Rattle.book_service.specs.Lives.{IsLife, MadeOf, ServerRun}
 use Rattle.book_service.specs.Runs.{MatchesRows, Run, SystemState, TraceStep, end_of}
 use Rattle.book_service.proofs.StepLemmas.{end-append, run_limits}

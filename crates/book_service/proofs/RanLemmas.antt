@@ -7,7 +7,7 @@ use Rattle.book_commands.specs.declared.reply.Reply.{Reply}
 use Rattle.book_model.specs.Bounds.{Bounds}
 use Rattle.book_model.specs.Books.{Books}
 use Rattle.book_model.specs.Devices.{DeviceState}
-use Rattle.sync_core.specs.StoreModels.{IsSettled, StoreModel}
+use Rattle.sync_core.specs.StoreModels.{StoreModel}
 use Rattle.book_service.specs.declared.event.Event.{Event}
 use Rattle.book_service.specs.declared.event.Event.TheVariants.{Do, Ask}
 use Rattle.book_service.specs.Crashes.{IsAfterEvent, IsLeftAsBefore, LeavesEvent, LeavesRun, RanUntilStopped}
