@@ -1,1 +1,3 @@
 pub mod LoopLemmas
+pub mod DrainLemmas
+pub mod WaitLemmas
