@@ -1,5 +1,5 @@
 -- The result of a schema test, by the rows of the table `meta`.
-use Rattle.std.proofs.Common.{◌≡◌, ◌↔◌, ℤ, pos, Bool, true, List, [], ◌∷◌, map, Option, Some, None, Result, Ok, Err, IsPermutation, refl, sym, ap, subst, ◌∙◌, true≢false}
+use Rattle.std.proofs.Common.{◌≡◌, ◌↔◌, ℤ, pos, Bool, true, List, [], ◌∷◌, map, Option, Some, None, Result, Ok, Err, IfErr, IsPermutation, refl, sym, ap, subst, ◌∙◌, true≢false}
 use Rattle.std.proofs.lemmas.List.Sorted.{IsPermutation-sym}
 use Rattle.sqlite.proofs.Callers.{one_permutation}
 use Rattle.sqlite.specs.Effect.{Database}
@@ -8,8 +8,8 @@ use Rattle.sqlite_rules.specs.Edit.{id_in}
 use Rattle.store_tables.specs.Meta.{meta_listed, schema_row, schema_number}
 use Rattle.store_tables.specs.Tables.{book_schema}
 use Rattle.store_tables.specs.SchemaCreation.{first_schema}
-use Rattle.store_schema.specs.FirstSchema.{ClassifiesFirstSchema, first_number}
-use Rattle.store_schema.specs.StoredSchema.{IsStoreSchema, HasSchemaNumber, ClassifiesSchema}
+use Rattle.store_schema.specs.FirstSchema.{ClassifiesFirstSchema, IsFirstSchema, first_number}
+use Rattle.store_schema.specs.StoredSchema.{IsStoreSchema, IsCurrentSchema, HasSchemaNumber, ClassifiesSchema}
 use Rattle.store_schema.specs.internal.StatedNumber.{IsVerified, IsNumberStated, RowStates}
 use Rattle.store_schema.specs.declared.open_fault.OpenFault.{OpenFault}
 use Rattle.store_schema.specs.declared.open_fault.OpenFault.TheVariants.{Store, NotOurs, OtherSchema, Damaged, NotEmpty, Memory}
@@ -62,6 +62,17 @@ module _ (db : Database) (rows : List Row) (keeps : Bool) (store : IsStoreSchema
   verified (Some number) (Err NotEmpty) stated outcome = absurd outcome
   verified (Some number) (Err Memory) stated outcome = absurd outcome
 
+  -- over the tables of a store the number passes
+  pub current_passes : IsCurrentSchema db → (P : OpenFault → Type 0) (said : Option ℤ) (r : Result (Unit {0}) OpenFault) → IsNumberStated rows said → IsVerified schema_number keeps said r → IfErr r P
+  current_passes is P said (Ok done) stated outcome = tt
+  current_passes is P None (Err fault) stated outcome = absurd (none_said db rows same stated schema_number is.meta)
+  current_passes is P (Some number) (Err Store) stated outcome = absurd outcome
+  current_passes is P (Some number) (Err NotOurs) stated outcome = absurd (true≢false (sym (ours.1 is.schema) ∙ outcome.1))
+  current_passes is P (Some number) (Err (OtherSchema has)) stated outcome = absurd (outcome.1 (said_once number schema_number db (some_said db rows number same stated) is.meta))
+  current_passes is P (Some number) (Err Damaged) stated outcome = absurd outcome
+  current_passes is P (Some number) (Err NotEmpty) stated outcome = absurd outcome
+  current_passes is P (Some number) (Err Memory) stated outcome = absurd outcome
+
 -- ---- the result for the first schema
 
 module _ (db : Database) (rows : List Row) (first : Bool) (store : IsStoreSchema db.schema) (declared : (first ≡ true) ↔ (db.schema ≡ first_schema)) (same : IsPermutation (map meta_listed (db.trees 0)) rows) where
@@ -80,3 +91,14 @@ module _ (db : Database) (rows : List Row) (first : Bool) (store : IsStoreSchema
   first_verified (Some number) (Err Damaged) stated outcome = absurd outcome
   first_verified (Some number) (Err NotEmpty) stated outcome = absurd outcome
   first_verified (Some number) (Err Memory) stated outcome = absurd outcome
+
+  -- over the tables of a store of the first schema the number passes
+  pub first_passes : IsFirstSchema db → (P : OpenFault → Type 0) (said : Option ℤ) (r : Result (Unit {0}) OpenFault) → IsNumberStated rows said → IsVerified first_number first said r → IfErr r P
+  first_passes is P said (Ok done) stated outcome = tt
+  first_passes is P None (Err fault) stated outcome = absurd (none_said db rows same stated first_number is.meta)
+  first_passes is P (Some number) (Err Store) stated outcome = absurd outcome
+  first_passes is P (Some number) (Err NotOurs) stated outcome = absurd (true≢false (sym (declared.1 is.schema) ∙ outcome.1))
+  first_passes is P (Some number) (Err (OtherSchema has)) stated outcome = absurd (outcome.1 (said_once number first_number db (some_said db rows number same stated) is.meta))
+  first_passes is P (Some number) (Err Damaged) stated outcome = absurd outcome
+  first_passes is P (Some number) (Err NotEmpty) stated outcome = absurd outcome
+  first_passes is P (Some number) (Err Memory) stated outcome = absurd outcome

@@ -1,10 +1,13 @@
 -- The result and the effect of reading the table `meta`, over the tables of either schema.
-use Rattle.std.proofs.Common.{◌≡◌, inl, inr, [], ◌∷◌, map, codes, false, Ok, Err, Result, IfOk, IfErr, OnOk, IsPermutation, refl, sym, subst}
+use Rattle.std.proofs.Common.{◌≡◌, ◌≢◌, inl, inr, [], ◌∷◌, map, codes, false, Ok, Err, Result, IfOk, IfErr, OnOk, IsPermutation, refl, sym, subst}
 use Rattle.std.specs.Prelude.{Vec}
 use Rattle.std.specs.declared.alloc.Global.{Global}
 use Rattle.sqlite.specs.declared.error.Error.{Error}
+use Rattle.sqlite.specs.declared.error.Error.TheVariants.{SqliteFailure}
+use Rattle.sqlite.specs.declared.error.ErrorCode.TheVariants.{OutOfMemory}
 use Rattle.sqlite.specs.Command.TheVariants.{Select}
 use Rattle.sqlite.specs.Listing.{understood, reads_listing}
+use Rattle.sqlite.specs.Order.{Row}
 use Rattle.sqlite.specs.Program.{overlay}
 use Rattle.sqlite.specs.Schema.{Schema}
 use Rattle.sqlite.specs.State.{State, HasCleanDisk, IsUnchanged, Shown, FailsToQuery, Survives, CommitsShowing}
@@ -12,9 +15,11 @@ use Rattle.sqlite.specs.Term.{eval_all}
 use Rattle.sqlite.proofs.Callers.{IsPlain, command_of, reads_as, never_commits}
 use Rattle.sqlite.proofs.StateLemmas.{survives_weaker}
 use Rattle.sqlite_tied.specs.Compute.{everything}
+use Rattle.store_tables.specs.Failures.{HasOutsideCause}
 use Rattle.store_tables.specs.SchemaCreation.{first_schema}
 use Rattle.store_tables.specs.Meta.{meta_listed}
 use Rattle.store_tables.proofs.CountLemmas.{every}
+use Rattle.store_tables.proofs.FailureLemmas.{rows_fail}
 use Rattle.store_tables.proofs.Lookups.{leaves_as, left_open, plain_shown}
 use Rattle.store_tables.proofs.Picks.{picked}
 use Rattle.store_tables.proofs.Queries.{picks, meta_text, meta_terms}
@@ -68,3 +73,9 @@ changes_nothing old new (Err e) store ok err mode survives = record {
   survives = commits_nothing old new store survives;
   same = λ clean up settled. leaves_as old new settled (fails_as meta_text [] old new e (err clean)) up;
 }
+
+-- the cause of an error, over the tables of either schema
+pub meta_fails : (old new : State) (r : Result (Vec Row Global) Error) → IsStoreSchema old.now.schema → IfErr r (FailsToQuery meta_text [] old new) → IfErr r (λ e. e ≢ SqliteFailure OutOfMemory → HasOutsideCause old new)
+unfolding understood everything
+meta_fails old new r (inl has) = rows_fail meta_text [] old new has (picks 0 [] meta_terms) _ meta_is (refl, refl) refl (λ db h. h) refl r
+meta_fails old new r (inr has) = rows_fail meta_text [] old new has (picks 0 [] meta_terms) _ first_is (refl, refl) refl (λ db h. h) refl r

@@ -3,6 +3,7 @@ use Rattle.std.specs.Prelude.{Result}
 use Rattle.sqlite.specs.Held.{Held, state}
 use Rattle.store_tables.specs.OnConnections.{Ghosts}
 use Rattle.store_schema.specs.FirstSchema as first
+use Rattle.store_schema.specs.OpenFaults as faults
 use Rattle.store_schema.specs.StoredSchema as schemas
 use Rattle.store_schema.specs.declared.open_fault.OpenFault.{OpenFault}
 
@@ -25,3 +26,7 @@ module _ {S : Type 0} (store : Ghosts S) (old new : Held S) where
 
   abbrev pub GivenStoreSchema : Type 0 → Type 0
   GivenStoreSchema = schemas.GivenStoreSchema (state store old) (state store new)
+
+  -- memory ran out, or the fault is `Store` and its cause lies outside the tables
+  abbrev pub ComesFromOutside : OpenFault → Type 0
+  ComesFromOutside = faults.ComesFromOutside (state store old) (state store new)

@@ -1,8 +1,10 @@
 -- The reasons why a store cannot be opened or created.
 use Rattle.std.specs.Prelude.{◌≡◌, ◌⊎◌, ⊤, ℕ}
+use Rattle.sqlite.specs.State.{State}
 use Rattle.sqlite.specs.declared.error.Error.{Error}
 use Rattle.sqlite.specs.declared.error.Error.TheVariants.{SqliteFailure}
 use Rattle.sqlite.specs.declared.error.ErrorCode.TheVariants.{OutOfMemory}
+use Rattle.store_tables.specs.Failures.{HasOutsideCause}
 use Rattle.store_schema.specs.declared.open_fault.OpenFault.{OpenFault}
 use Rattle.store_schema.specs.declared.open_fault.OpenFault.TheVariants.{Store, NotOurs}
 use Rattle.store_schema.specs.declared.open_fault.OpenFault.TheVariants.{OtherSchema, Damaged}
@@ -25,6 +27,12 @@ open_fault_of_error error = Store
 -- the fault is `Store` or `Memory`
 abbrev pub IsErrorFault : OpenFault → Type 0
 IsErrorFault fault = (fault ≡ Store) ⊎ (fault ≡ Memory)
+
+-- Why a store that is there doesn't open: memory ran out, or the fault is `Store` and its cause lies
+-- outside the tables.
+abbrev pub ComesFromOutside : State → State → OpenFault → Type 0
+ComesFromOutside old new fault =
+    (fault ≡ Memory) ⊎ ((fault ≡ Store) × HasOutsideCause old new)
 
 -- the faults of creating a store
 abbrev pub IsCreationFault : OpenFault → Type 0

@@ -3,9 +3,12 @@ ghost use Rattle.store_schema.specs.OnConnections.{
   ChangesNothing,
   ClassifiesFirstSchema,
   ClassifiesSchema,
+  ComesFromOutside,
+  IsCurrentSchema,
+  IsFirstSchema,
 };
 ghost use Rattle.store_tables.specs.OnConnections.{HasCleanDisk, IsUnchanged};
-ghost use Rattle.std.specs.Prelude.{OnOk};
+ghost use Rattle.std.specs.Prelude.{IfErr, OnOk};
 
 use crate::meta::{list_meta, stated_schema, verify};
 use crate::open_fault::{OpenFault, open_fault_of};
@@ -24,6 +27,11 @@ pub(crate) const FIRST_SCHEMA_NUMBER: i64 = 1;
 /// error of the database.
 pub fn check_schema<S: Alter>(conn: &mut Connection<S>) -> Result<(), OpenFault>
     ensures answers { HasCleanDisk S.Store conn.new → ClassifiesSchema S.Store conn.old result }
+
+    // Over the tables of a store it fails only for lack of memory, or with `Store` for an outside
+    // cause.
+    ensures opens { HasCleanDisk S.Store conn.new → IsCurrentSchema S.Store conn.old
+        → IfErr result (ComesFromOutside S.Store conn.old conn.new) }
     ensures unchanged { HasCleanDisk S.Store conn.new
         → OnOk result (IsUnchanged S.Store conn.old conn.new) }
 
@@ -49,6 +57,11 @@ pub fn check_schema<S: Alter>(conn: &mut Connection<S>) -> Result<(), OpenFault>
 pub fn check_first_schema<S: Alter>(conn: &mut Connection<S>) -> Result<(), OpenFault>
     ensures answers { HasCleanDisk S.Store conn.new
         → ClassifiesFirstSchema S.Store conn.old result }
+
+    // Over the tables of such a store it fails only for lack of memory, or with `Store` for an
+    // outside cause.
+    ensures opens { HasCleanDisk S.Store conn.new → IsFirstSchema S.Store conn.old
+        → IfErr result (ComesFromOutside S.Store conn.old conn.new) }
     ensures unchanged { HasCleanDisk S.Store conn.new
         → OnOk result (IsUnchanged S.Store conn.old conn.new) }
 

@@ -4,7 +4,7 @@ ghost use Rattle.store_schema.specs.internal.StatedNumber.{IsVerified, IsSchemaR
 ghost use Rattle.store_schema.specs.internal.StatedNumber.{RowStates};
 ghost use Rattle.store_schema.specs.StoredSchema.{IsStoreSchema};
 ghost use Rattle.store_schema.specs.OnConnections.{ChangesNothing, GivenStoreSchema};
-ghost use Rattle.store_tables.specs.OnConnections.{IsUnchanged, ListsTable};
+ghost use Rattle.store_tables.specs.OnConnections.{HasOutsideCauseOfError, IsUnchanged, ListsTable};
 ghost use Rattle.sqlite.specs.Order.{column};
 ghost use Rattle.sqlite_value.specs.Value.{owned};
 ghost use Rattle.std.specs.Prelude.{◌≡◌, ◌↔◌, ℤ, IsTrue, MatchOption, OnOk};
@@ -19,6 +19,8 @@ pub(crate) fn list_meta<S: Alter>(conn: &mut Connection<S>) -> Result<Vec<Row>, 
         (ListsTable S.Store conn.old 0 meta_listed result) }
     ensures unchanged { GivenStoreSchema S.Store conn.old conn.new
         (OnOk result (IsUnchanged S.Store conn.old conn.new)) }
+    ensures fails_from_outside { GivenStoreSchema S.Store conn.old conn.new
+        (HasOutsideCauseOfError S.Store conn.old conn.new result) }
     ensures reads_only { IsStoreSchema conn.old.schema → ChangesNothing S.Store conn.old conn.new }
 {
     conn.query_all("SELECT name, val FROM meta", params![])

@@ -12,6 +12,7 @@ use Rattle.sqlite.specs.Listing.{understood, reads_listing, IsSourceOf}
 use Rattle.sqlite.specs.Order.{Row}
 use Rattle.sqlite.specs.Program.{overlay}
 use Rattle.sqlite.specs.Query.{Query}
+use Rattle.sqlite.specs.Schema.{Schema}
 use Rattle.sqlite.specs.State.{State, HasCleanDisk, QueriesRow, Shown, FailsToQuery, FailsToShow, IsNotRun, IsNoStatement, HasCause, Survives, store_error}
 use Rattle.sqlite.specs.Term.{Term, col, lit}
 use Rattle.sqlite.specs.Collation.TheVariants.{Binary}
@@ -74,11 +75,11 @@ outside_of old new broken.Full e is h room = inr (inl h)
 outside_of old new broken.Broken e is h room = inl h
 outside_of old new broken.Unstorable e is h room = absurd h
 
--- ---- a query of the declared tables
+-- ---- a query of declared tables, whatever these are
 
-module _ (sql : List ℕ) (params : Row) (old new : State) (has : old.now.schema ≡ book_schema) (q : Query) (names : List (List ℕ))
-    (is : (command_of (understood book_schema sql) ≡ Select (record { lets = []; body = q }) names) × (reads_listing book_schema sql ≡ false) × IsPlain (understood book_schema sql))
-    (whole : IsWhole sql (length params) (understood book_schema sql)) (typed : accepts_program book_schema [] q params ≡ true)
+module _ {schema : Schema} (sql : List ℕ) (params : Row) (old new : State) (has : old.now.schema ≡ schema) (q : Query) (names : List (List ℕ))
+    (is : (command_of (understood schema sql) ≡ Select (record { lets = []; body = q }) names) × (reads_listing schema sql ≡ false) × IsPlain (understood schema sql))
+    (whole : IsWhole sql (length params) (understood schema sql)) (typed : accepts_program schema [] q params ≡ true)
     (calm : (db : Trees) → Overflows q.group (matches db q.filter q.from (params ∷ [])) → ⊥) (unfolded : has_no_fold q.from ≡ true) where
   refused : (e : Error) (db : Database) → db ≡ old.now → RefusesToRead old.step_limit (Select (record { lets = []; body = q }) names) db params e → HasOutsideCause old new
   refused e db same (inl h) = absurd (true≢false (sym typed ∙ subst (λ s. accepts_program s [] q params ≡ false) (ap (λ (d : Database). d.schema) same ∙ has) h.1))

@@ -13,10 +13,14 @@ abbrev pub HasOutsideCause : State → State → Type 0
 HasOutsideCause old new =
     (old.is_open ≡ false) ⊎ (MoreFaults old.faults new.faults ⊎ IsSome old.step_limit)
 
+-- if the result is an error but for lack of memory, it has an outside cause
+abbrev pub HasOutsideCauseOfError : {T : Type 0} → State → State → Result T Error → Type 0
+HasOutsideCauseOfError old new result =
+    IfErr result (λ e. e ≢ SqliteFailure OutOfMemory → HasOutsideCause old new)
+
 -- Over the declared tables, a query fails only for lack of memory or for an outside cause.
 abbrev pub FailsFromOutside : {T : Type 0} → State → State → Result T Error → Type 0
-FailsFromOutside old new result = GivenTables old new
-    (IfErr result (λ e. e ≢ SqliteFailure OutOfMemory → HasOutsideCause old new))
+FailsFromOutside old new result = GivenTables old new (HasOutsideCauseOfError old new result)
 
 -- the same for a look-up, which may also find no row
 abbrev pub MissesOrFailsFromOutside : {T : Type 0} → State → State → Result T Error → Type 0

@@ -164,6 +164,10 @@ module _ {S : Type 0} (store : Ghosts S) (old new : Held S) where
   abbrev pub HasOutsideCause : Type 0
   HasOutsideCause = failures.HasOutsideCause (state store old) (state store new)
 
+  -- if the result is an error but for lack of memory, it has an outside cause
+  abbrev pub HasOutsideCauseOfError : {T : Type 0} → Result T Error → Type 0
+  HasOutsideCauseOfError = failures.HasOutsideCauseOfError (state store old) (state store new)
+
   -- a query of the declared tables fails only for lack of memory or for an outside cause
   abbrev pub FailsFromOutside : {T : Type 0} → Result T Error → Type 0
   FailsFromOutside = failures.FailsFromOutside (state store old) (state store new)
