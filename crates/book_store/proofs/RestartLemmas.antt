@@ -1,5 +1,5 @@
 -- Files that hold a store open again with its books.
-use Rattle.std.proofs.Common.{◌≡◌, inl, inr, IsTrue, [], ◌∷◌, Err, refl, sym, ap, subst, ◌∙◌, arith}
+use Rattle.std.proofs.Common.{◌≡◌, inl, inr, IsTrue, None, sym, ap, subst, ◌∙◌, true≢false, arith}
 use Rattle.std.proofs.Math.Logic.{∥∥₁_map}
 use Rattle.sqlite.specs.Effect.{Database}
 use Rattle.sqlite.specs.Files.{HoldsDatabase, file_state, over_files}
@@ -8,18 +8,18 @@ use Rattle.sqlite.specs.Recovery.{Image}
 use Rattle.sqlite.specs.State.{State, HasCleanDisk}
 use Rattle.sqlite.specs.Tree.{Trees}
 use Rattle.sqlite.specs.WalReads.{AreClean}
+use Rattle.sqlite.specs.declared.error.Error.{Error}
+use Rattle.sqlite.specs.declared.file.Leftover.{Leftover}
+use Rattle.sqlite.specs.declared.file.Leftover.TheVariants as leftover
 use Rattle.book_model.specs.WellFormed.{IsWellFormed}
 use Rattle.book_model.specs.Bounds.{Bounds}
 use Rattle.book_model.specs.Books.{Books}
-use Rattle.database_files.specs.Restarts.{LeaveOneOf, ShowsOpened}
-use Rattle.store_check.specs.OpenResults.{IsOpenResult, max_limits}
+use Rattle.database_files.specs.Restarts.{HasOpenCause, LeaveOneOf, ShowsOpened}
+use Rattle.store_check.specs.OpenResults.{max_limits}
 use Rattle.store_lookups.specs.StoredBooks.{IsOpenOnHonestDisk, stored_books}
-use Rattle.store_rows.specs.SoundTables.{HoldsWellFormed}
 use Rattle.store_rows.proofs.HeldRows.{books_held}
-use Rattle.store_schema.specs.OpenFaults.{IsErrorFault}
+use Rattle.store_schema.specs.OpenFaults.{ComesFromOutside, IsErrorFault, open_fault_of_error}
 use Rattle.store_schema.specs.declared.open_fault.OpenFault.{OpenFault}
-use Rattle.store_schema.specs.declared.open_fault.OpenFault.TheVariants.{Damaged, Memory, NotEmpty, NotOurs, OtherSchema, Store}
-use Rattle.store_tables.specs.Meta.{schema_number, schema_row}
 use Rattle.sqlite_disk.specs.declared.Disk.{Ghosts}
 use Rattle.sqlite_disk.specs.declared.Files.{Files}
 use Rattle.sqlite_store.specs.FileStore as store
@@ -28,28 +28,13 @@ use Rattle.sqlite_trees.specs.View.{IsQuiet}
 use Rattle.sqlite_trees.proofs.Doubt.{no_doubt}
 use Rattle.store_writes.specs.TableChanges.{TreesHold}
 use Rattle.book_store.specs.Crashes.{StoresSurviveCrashes}
-use Rattle.book_store.specs.Restarts.{HoldsStore, declared_over}
+use Rattle.book_store.specs.Restarts.{HasRestartCause, HoldsStore, declared_over}
 use Rattle.book_store.specs.StoreViews.{IsStore, StoredTrees}
-
--- tables of a store fail no test
-pub only_errors : (db : Database) → HoldsWellFormed max_limits db → (fault : OpenFault) → IsOpenResult max_limits db (Err fault) → IsErrorFault fault
-only_errors db held Store r = inl refl
-only_errors db held Memory r = inr refl
-only_errors db held NotOurs r = absurd (r.0 (record { schema = held.holds.schema; meta = held.holds.meta }))
-only_errors db held (OtherSchema has) r =
-    let rows : schema_row has ∷ [] ≡ schema_row schema_number ∷ [] = sym r.meta ∙ held.holds.meta in
-    let same : has ≡ schema_number = cc in
-    absurd (r.other same)
-only_errors db held Damaged r = absurd (r.1 held)
-only_errors db held NotEmpty r = absurd r
 
 module _ (image : Image) (books : Books) (holds : HoldsStore image books) (s : State) (shows : HasCleanDisk s → ShowsOpened s (declared_over holds.trees)) where
   -- a connection that shows them has these books
   pub shown_books : HasCleanDisk s → stored_books s ≡ books
   shown_books clean = ap (λ (d : Database). Rattle.store_rows.specs.TableBooks.books_in d.trees) (shows clean).shows ∙ holds.books_are
-
-  pub shown_errors : HasCleanDisk s → (fault : OpenFault) → IsOpenResult max_limits s.now (Err fault) → IsErrorFault fault
-  shown_errors clean fault r = only_errors (declared_over holds.trees) holds.well_formed fault (subst (λ db. IsOpenResult max_limits db (Err fault)) (shows clean).shows r)
 
 -- what a crash leaves of the files of a store holds its books
 pub left_books : {D : Type 0} {g : Ghosts D} (c : Held (FileStore D g)) (limits : Bounds) (files : Files D) → StoresSurviveCrashes (over_files {g = g}) → IsStore (file_state c) limits → LeaveOneOf g files (file_state c).may_leave
@@ -84,3 +69,22 @@ clean_left c it quiet clean =
     let honest = no_doubt _ clean in
     let fewer = quiet.clean in
     omega (arith, fewer, honest)
+
+-- ---- why files that hold a store don't open
+
+module _ {D : Type 0} {g : Ghosts D} (db : Database) (files : Files D) where
+  -- no connection was opened over them
+  pub unopened_cause : (left : Leftover D g) (e : Error) (fault : OpenFault) → IsErrorFault fault → fault ≡ open_fault_of_error e → HasOpenCause files left e → HasRestartCause db files left fault
+  unopened_cause left e fault kind is (inl memory) = inl (is ∙ ap open_fault_of_error memory)
+  unopened_cause left e fault (inr memory) is (inr cause) = inl memory
+  unopened_cause left e fault (inl other) is (inr (inl failed)) = inr (other, inl failed)
+  unopened_cause left e fault (inl other) is (inr (inr full)) = inr (other, inr (inr full.1))
+
+  -- a connection was opened, and its rows were not read
+  pub unread_cause : (old new : Held (FileStore D g)) (it : FileStore D g) (fault : OpenFault) → old.step_limit ≡ None → ShowsOpened (file_state old) db
+      → IsQuiet store.view store.faults store.recovers store.is_shielded new.store it → ComesFromOutside (file_state old) (file_state new) fault → HasRestartCause db files (leftover.Store it) fault
+  unread_cause old new it fault unlimited shows quiet (inl memory) = inl memory
+  unread_cause old new it fault unlimited shows quiet (inr (is, inl shut)) = absurd (true≢false (sym shows.opened.is_open ∙ shut))
+  unread_cause old new it fault unlimited shows quiet (inr (is, inr (inl failed))) =
+      inr (is, inr (inl (record { opened = old; shows = shows; failed = omega (arith, failed, quiet.counts) })))
+  unread_cause old new it fault unlimited shows quiet (inr (is, inr (inr limited))) = absurd (let some = rw unlimited at limited in cc)

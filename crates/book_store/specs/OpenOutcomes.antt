@@ -8,6 +8,8 @@ use Rattle.sqlite.specs.Tree.{Trees}
 use Rattle.sqlite_trees.specs.declared.store.Store.{Ghosts}
 use Rattle.store_tables.specs.Meta.{IsEmptyStore, schema_number}
 use Rattle.store_tables.specs.Tables.{book_schema}
+use Rattle.store_rows.specs.SoundTables.{HoldsWellFormed}
+use Rattle.store_schema.specs.OpenFaults.{ComesFromOutside}
 use Rattle.store_schema.specs.StoredSchema.{ChangesNothing}
 use Rattle.store_schema.specs.declared.open_fault.OpenFault.{OpenFault}
 use Rattle.store_schema.specs.declared.open_fault.OpenFault.TheVariants.{Store, NotEmpty, Memory}
@@ -59,12 +61,14 @@ pub record StartsWithoutTables
 -- ---- existing tables
 
 -- No store was opened: nothing was changed. If the disk has returned what was written, the fault is
--- right for the tables.
+-- right for the tables; and if they hold well-formed books, it comes from outside them.
 pub record IsOpenRefusal {S : Type 0} (g : Ghosts S) (old new : Held S) (fault : OpenFault)
     : Type 0 where
   pub left_unchanged : ChangesNothing (state g old) (state g new)
   pub right_fault : HasCleanDisk (state g new)
       → IsOpenResult max_limits (state g old).now (Err fault)
+  pub from_outside : HasCleanDisk (state g new) → HoldsWellFormed max_limits (state g old).now
+      → ComesFromOutside (state g old) (state g new) fault
 
 -- the same, and the connection was dropped then
 abbrev pub DropsRefused : {S : Type 0} → Ghosts S → Held S → OpenFault → Type 0

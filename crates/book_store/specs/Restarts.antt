@@ -1,11 +1,20 @@
 -- What a run of a program leaves in the files of a store, and what the next run opens.
-use Rattle.std.specs.Prelude.{◌≡◌}
+use Rattle.std.specs.Prelude.{◌≡◌, ◌⊎◌}
+use Rattle.sqlite.specs.Disk.{MoreFaults}
 use Rattle.sqlite.specs.Effect.{Database}
+use Rattle.sqlite.specs.Files.{IsFullLeft, faults_left, faults_of, file_state}
+use Rattle.sqlite.specs.Held.{Held}
 use Rattle.sqlite.specs.Recovery.{Image}
 use Rattle.sqlite.specs.Tree.{Trees}
+use Rattle.sqlite.specs.declared.file.Leftover.{Leftover}
+use Rattle.sqlite_disk.specs.declared.Disk.{Ghosts}
+use Rattle.sqlite_disk.specs.declared.Files.{Files}
+use Rattle.sqlite_store.specs.declared.store.FileStore.{FileStore}
 use Rattle.book_model.specs.Books.{Books}
-use Rattle.database_files.specs.Restarts.{HoldsListed}
+use Rattle.database_files.specs.Restarts.{HoldsListed, ShowsOpened}
 use Rattle.store_check.specs.OpenResults.{max_limits}
+use Rattle.store_schema.specs.declared.open_fault.OpenFault.{OpenFault}
+use Rattle.store_schema.specs.declared.open_fault.OpenFault.TheVariants.{Memory, Store}
 use Rattle.store_rows.specs.SoundTables.{HoldsWellFormed}
 use Rattle.store_rows.specs.TableBooks.{books_in}
 use Rattle.store_tables.specs.Tables.{book_schema}
@@ -21,3 +30,20 @@ pub record HoldsStore (image : Image) (books : Books) : Type 0 where
   pub listed : HoldsListed image (declared_over trees)
   pub well_formed : HoldsWellFormed max_limits (declared_over trees)
   pub books_are : books_in trees ≡ books
+
+-- ---- an opening that fails
+
+module _ {D : Type 0} {g : Ghosts D} where
+  -- a connection showed this database, and later the disk failed
+  pub record FailsOnceOpened (db : Database) (left : Leftover D g) : Type 0 where
+    pub opened : Held (FileStore D g)
+    pub shows : ShowsOpened (file_state opened) db
+    pub failed : MoreFaults (file_state opened).faults (faults_left left)
+
+  -- Why files that hold a store don't open: memory ran out; or the fault is `Store`, and the disk
+  -- failed as the files were opened or as their rows were read, or the files are as long as their
+  -- format can number.
+  abbrev pub HasRestartCause : Database → Files D → Leftover D g → OpenFault → Type 0
+  HasRestartCause db files left fault = (fault ≡ Memory) ⊎ ((fault ≡ Store)
+      × (MoreFaults (faults_of g files) (faults_left left)
+      ⊎ (FailsOnceOpened db left ⊎ IsFullLeft left)))

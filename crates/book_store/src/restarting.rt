@@ -1,13 +1,12 @@
 //! The end of a run of a store in files, and the opening by the next run.
 ghost use Rattle.book_model.specs.Books.{Books};
-ghost use Rattle.book_store.specs.Restarts.{HoldsStore};
+ghost use Rattle.book_store.specs.Restarts.{HasRestartCause, HoldsStore, declared_over};
 ghost use Rattle.book_store.specs.StoreViews.{StoredTrees};
 ghost use Rattle.database_files.specs.Restarts.{LeaveOneOf};
 ghost use Rattle.sqlite.specs.Files.{IsCleanLeft, file_state, image_of};
 ghost use Rattle.sqlite.specs.State.{HasCleanDisk};
 ghost use Rattle.sqlite.specs.WalReads.{AreClean};
 ghost use Rattle.store_lookups.specs.StoredBooks.{IsOpenOnHonestDisk, stored_books};
-ghost use Rattle.store_schema.specs.OpenFaults.{IsErrorFault};
 ghost use Rattle.store_writes.specs.TableChanges.{TreesHold};
 ghost use Rattle.std.specs.Prelude.{◌≡◌, IfErr, IfOk, IsTrue};
 
@@ -38,7 +37,7 @@ impl<D: Disk + Drop> SqlStore<FileStore<D>> {
     /// Opens the store that an earlier run left in its files.
     ///
     /// If they hold a store, it has their books. Then an opening fails only with `Memory` if memory
-    /// runs out, and with `Store` for an error of the database.
+    /// runs out, and with `Store` if the disk fails or the files are as long as their format allows.
     pub fn open_again(
         alloc: Global,
         files: Files<D>,
@@ -51,8 +50,9 @@ impl<D: Disk + Drop> SqlStore<FileStore<D>> {
         ensures opens { (books : Books) → HoldsStore (image_of D.Disk files) books
             → IfOk result (λ store. IsOpenOnHonestDisk (file_state store.conn)
             → stored_books (file_state store.conn) ≡ books) }
-        ensures fault { (books : Books) → HoldsStore (image_of D.Disk files) books
-            → IfErr result (λ refused. IsCleanLeft refused.1 → IsErrorFault refused.0) }
+        ensures cause { (books : Books) → (holds : HoldsStore (image_of D.Disk files) books)
+            → IfErr result (λ refused. IsCleanLeft refused.1
+            → HasRestartCause (declared_over holds.trees) files refused.1 refused.0) }
     {
         match runs::open_again(alloc, files, options) {
             Ok(connection) => match SqlStore::try_adopt(alloc, connection, limits) {

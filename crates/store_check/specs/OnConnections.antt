@@ -18,6 +18,8 @@ use Rattle.store_check.specs.RowChecks.{decode_book}
 use Rattle.store_check.specs.OpenResults as results
 use Rattle.store_check.specs.TombstoneCounts as counts
 
+-- ---- one connection
+
 module _ {S : Type 0} (store : Ghosts S) (conn : Held S) where
   abbrev pub AreBookRows : List Row → List Row → List Row → Type 0
   AreBookRows = listed.AreBookRows (state store conn).now
@@ -44,3 +46,10 @@ module _ {S : Type 0} (store : Ghosts S) (conn : Held S) where
 
   abbrev pub IsFaultSearch : Bounds → Result (Option FaultyRow) OpenFault → Type 0
   IsFaultSearch limits = searches.IsFaultSearch limits (state store conn).now
+
+-- ---- a connection before and after a call
+
+module _ {S : Type 0} (store : Ghosts S) (old new : Held S) where
+  -- tables of well-formed books open, but for lack of memory or for an outside cause
+  abbrev pub OpensWellFormed : {T : Type 0} → Bounds → Result T OpenFault → Type 0
+  OpensWellFormed limits = results.OpensWellFormed limits (state store old) (state store new)

@@ -1,9 +1,11 @@
 -- The result of opening stored tables, by their contents.
-use Rattle.std.specs.Prelude.{⊤, List, Result, Ok, Err}
+use Rattle.std.specs.Prelude.{⊤, IfErr, List, Result, Ok, Err}
 use Rattle.sqlite.specs.Effect.{Database}
 use Rattle.sqlite.specs.Order.{Row}
+use Rattle.sqlite.specs.State.{State, HasCleanDisk}
 use Rattle.book_model.specs.Bounds.{Bounds, standard_limits}
 use Rattle.store_rows.specs.SoundTables.{HoldsWellFormed}
+use Rattle.store_schema.specs.OpenFaults.{ComesFromOutside}
 use Rattle.store_schema.specs.StoredSchema.{IsCurrentSchema, ClassifiesSchema}
 use Rattle.store_schema.specs.declared.open_fault.OpenFault.{OpenFault}
 use Rattle.store_schema.specs.declared.open_fault.OpenFault.TheVariants.{Store, NotOurs}
@@ -35,6 +37,12 @@ IsOpenResult limits db (Err (OtherSchema has)) = ClassifiesSchema db (Err (Other
 IsOpenResult limits db (Err Damaged) = IsCurrentSchema db × ¬ HoldsWellFormed limits db
 IsOpenResult limits db (Err NotEmpty) = ⊥
 IsOpenResult limits db (Err Memory) = ⊤
+
+-- Tables of well-formed books open: an error comes only for lack of memory, or is `Store` with a
+-- cause outside the tables.
+abbrev pub OpensWellFormed : {T : Type 0} → Bounds → State → State → Result T OpenFault → Type 0
+OpensWellFormed limits old new result = HasCleanDisk new → HoldsWellFormed limits old.now →
+    IfErr result (ComesFromOutside old new)
 
 -- the limits that rows are tested against: the standard ones, which are the greatest on cards,
 -- changes and books that a store may have

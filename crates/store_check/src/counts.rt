@@ -2,9 +2,12 @@
 ghost use Rattle.store_check.specs.MemberTallies.{AreCounted};
 ghost use Rattle.store_check.specs.RowChecks.{decode_book};
 ghost use Rattle.store_check.specs.TombstoneCounts.{count_entry, removed_entry};
+ghost use Rattle.book_model.specs.BookNames.{is_legal_name};
 ghost use Rattle.store_schema.specs.OpenFaults.{IsErrorFault};
+ghost use Rattle.store_schema.specs.declared.open_fault.OpenFault.TheVariants.{Memory};
 ghost use Rattle.store_tables.specs.Members.{MemberRow};
-ghost use Rattle.std.specs.Prelude.{◌≡◌, ◌++◌, IfErr, IfOk, List, OnOk, map, string_bytes};
+ghost use Rattle.std.specs.List.{AllByRecursion};
+ghost use Rattle.std.specs.Prelude.{◌≡◌, ◌++◌, IfErr, IfOk, List, OnOk, map, string_bytes, true};
 
 use crate::cells::text_at;
 use crate::tallies::BookTally;
@@ -25,6 +28,8 @@ pub struct TombstoneCount {
 fn name_of_book(alloc: Global, book: &Row) -> Result<String, OpenFault>
     ensures name { IfOk result (λ name. string_bytes name ≡ (decode_book book.now).name) }
     ensures fault { IfErr result IsErrorFault }
+    ensures legal { is_legal_name (decode_book book.now).name ≡ true
+        → IfErr result (λ fault. fault ≡ Memory) }
 {
     let Ok(name) = str::from_utf8(text_at(book, 1)) else {
         return Err(OpenFault::Store);
@@ -47,6 +52,8 @@ fn push_counts(
         → map count_entry counts.new.items ≡ map count_entry counts.old.items
         ++ map (removed_entry ms) (map decode_book books.now)) }
     ensures fault { IfErr result IsErrorFault }
+    ensures legal { AllByRecursion (λ b. is_legal_name b.name ≡ true) (map decode_book books.now)
+        → IfErr result (λ fault. fault ≡ Memory) }
 {
     let Some((book, others)) = books.split_first() else {
         return Ok(());
@@ -74,6 +81,8 @@ pub(crate) fn list_counts(
         → AreCounted ms (map decode_book books.now) tallies.now
         → map count_entry counts.items ≡ map (removed_entry ms) (map decode_book books.now)) }
     ensures fault { IfErr result IsErrorFault }
+    ensures legal { AllByRecursion (λ b. is_legal_name b.name ≡ true) (map decode_book books.now)
+        → IfErr result (λ fault. fault ≡ Memory) }
 {
     let mut counts = Vec::new(alloc);
     push_counts(alloc, &mut counts, books, tallies)?;

@@ -1,14 +1,20 @@
 //! Tests whether the tables of a connection are a store's and hold well-formed books.
 ghost use Rattle.store_check.specs.FaultSearches.{ChecksBooks, ChecksListed};
 ghost use Rattle.store_check.specs.OnConnections.{AreBookRows, IsCountedResult, IsFaultSearch};
-ghost use Rattle.store_check.specs.OnConnections.{IsOpenResult, IsTestResult, ObeySchema};
-ghost use Rattle.store_check.specs.OnConnections.{ChecksMembers};
+ghost use Rattle.store_check.specs.OnConnections.{ChecksMembers, IsOpenResult, IsTestResult};
+ghost use Rattle.store_check.specs.OnConnections.{ObeySchema, OpensWellFormed};
 ghost use Rattle.store_check.specs.RowFaults.{IsLabelled};
+ghost use Rattle.store_check.specs.StoredTests.{PassBookTests};
+ghost use Rattle.store_rows.specs.SoundTables.{HoldsWellFormed};
 ghost use Rattle.store_schema.specs.OpenFaults.{IsErrorFault};
-ghost use Rattle.store_schema.specs.OnConnections.{ChangesNothing, IsCurrentSchema};
-ghost use Rattle.store_tables.specs.OnConnections.{GivenTables, HasCleanDisk, IsConnectionOpen};
+ghost use Rattle.store_schema.specs.OnConnections.{ChangesNothing, ComesFromOutside};
+ghost use Rattle.store_schema.specs.OnConnections.{IsCurrentSchema};
+ghost use Rattle.store_schema.specs.declared.open_fault.OpenFault.TheVariants.{Memory};
+ghost use Rattle.store_tables.specs.Members.{AreMembers};
+ghost use Rattle.store_tables.specs.OnConnections.{FailsFromOutside, GivenMembers, GivenTables};
+ghost use Rattle.store_tables.specs.OnConnections.{HasCleanDisk, HoldsNow, IsConnectionOpen};
 ghost use Rattle.store_tables.specs.OnConnections.{OnlyReads, UnchangedOnOk};
-ghost use Rattle.std.specs.Prelude.{IfErr, IfOk, OnOk};
+ghost use Rattle.std.specs.Prelude.{◌≡◌, IfErr, IfOk, OnOk};
 
 use crate::books::first_faulty_book;
 use crate::counts::{TombstoneCount, list_counts};
@@ -41,6 +47,7 @@ fn list_book_rows<S: Alter>(conn: &mut Connection<S>) -> Result<BookRows, Error>
         (λ listed. AreBookRows S.Store conn.old listed.books.items listed.imports.items
         listed.keeps.items)) }
     ensures unchanged { UnchangedOnOk S.Store conn.old conn.new result }
+    ensures fails_from_outside { FailsFromOutside S.Store conn.old conn.new result }
     ensures reads_only { OnlyReads S.Store conn.old conn.new }
 {
     let books = all_books(conn)?;
@@ -64,7 +71,7 @@ fn assert_rows_obey<S: Alter>(conn: &Connection<S>)
 /// The row with this fault, labelled.
 fn label(alloc: Global, books: &[Row], row: &Row, fault: RowFault) -> Result<FaultyRow, OpenFault>
     ensures label { IfOk result (IsLabelled books.now row.now fault) }
-    ensures fault { IfErr result IsErrorFault }
+    ensures fault { IfErr result (λ fault. fault ≡ Memory) }
 {
     match label_row(alloc, books, row, fault) {
         Ok(faulty) => Ok(faulty),
@@ -81,7 +88,7 @@ fn check_books(
 ) -> Result<Result<Vec<BookTally>, FaultyRow>, OpenFault>
     ensures tests { IfOk result (ChecksBooks limits listed.now.books.items
         listed.now.keeps.items tallies.items) }
-    ensures fault { IfErr result IsErrorFault }
+    ensures fault { IfErr result (λ fault. fault ≡ Memory) }
 {
     let books = listed.books.as_slice();
     let keeps = listed.keeps.as_slice();
@@ -102,6 +109,10 @@ fn check_members<S: Alter>(
     ensures tests { GivenTables S.Store conn.old conn.new (IfOk result
         (ChecksMembers S.Store conn.old limits listed.now.books.items listed.now.keeps.items)) }
     ensures fault { IfErr result IsErrorFault }
+
+    // Where no two members share an id, it fails only for lack of memory or for an outside cause.
+    ensures fails_from_outside { GivenMembers S.Store conn.old conn.new (λ members.
+        AreMembers members → IfErr result (ComesFromOutside S.Store conn.old conn.new)) }
     ensures reads_only { OnlyReads S.Store conn.old conn.new }
 {
     let books = listed.books.as_slice();
@@ -125,6 +136,10 @@ fn check_listed(
     ensures tests { IfOk result (ChecksListed limits listed.now.books.items
         listed.now.imports.items listed.now.keeps.items) }
     ensures fault { IfErr result IsErrorFault }
+
+    // Rows that pass their tests have unique keys, so it fails only for lack of memory.
+    ensures passed { PassBookTests limits listed.now.books.items listed.now.imports.items
+        listed.now.keeps.items → IfErr result (λ fault. fault ≡ Memory) }
 {
     let books = listed.books.as_slice();
     let imports = listed.imports.as_slice();
@@ -152,6 +167,10 @@ fn check_all_rows<S: Alter>(
         → IsConnectionOpen S.Store conn.old → AreBookRows S.Store conn.old
         listed.now.books.items listed.now.imports.items listed.now.keeps.items
         → IsTestResult S.Store conn.old limits result }
+    ensures opens { HasCleanDisk S.Store conn.new
+        → HoldsNow S.Store conn.old (HoldsWellFormed limits) → AreBookRows S.Store conn.old
+        listed.now.books.items listed.now.imports.items listed.now.keeps.items
+        → IfErr result (ComesFromOutside S.Store conn.old conn.new) }
     ensures reads_only { OnlyReads S.Store conn.old conn.new }
 {
     assert_rows_obey(conn);
@@ -172,6 +191,7 @@ fn check_rows<S: Alter>(
 ) -> Result<Result<Vec<TombstoneCount>, FaultyRow>, OpenFault>
     ensures answers { HasCleanDisk S.Store conn.new → IsCurrentSchema S.Store conn.old
         → IsTestResult S.Store conn.old limits result }
+    ensures opens { OpensWellFormed S.Store conn.old conn.new limits result }
     ensures reads_only { OnlyReads S.Store conn.old conn.new }
 {
     match list_book_rows(conn) {
@@ -187,6 +207,7 @@ fn check_schema_and_rows<S: Alter>(
     limits: Limits,
 ) -> Result<Result<Vec<TombstoneCount>, FaultyRow>, OpenFault>
     ensures answers { HasCleanDisk S.Store conn.new → IsTestResult S.Store conn.old limits result }
+    ensures opens { OpensWellFormed S.Store conn.old conn.new limits result }
     ensures was_open { HasCleanDisk S.Store conn.new
         → OnOk result (IsConnectionOpen S.Store conn.old) }
     ensures changes_nothing { ChangesNothing S.Store conn.old conn.new }
@@ -209,6 +230,10 @@ pub fn find_faulty_row<S: Alter>(
 ) -> Result<Option<FaultyRow>, OpenFault>
     ensures answers { HasCleanDisk S.Store conn.new → IsFaultSearch S.Store conn.old limits result }
 
+    // Over the rows of well-formed books it fails only for lack of memory, or with `Store` for an
+    // outside cause.
+    ensures opens { OpensWellFormed S.Store conn.old conn.new limits result }
+
     // Nothing is changed or committed, also on an error.
     ensures changes_nothing { ChangesNothing S.Store conn.old conn.new }
 {
@@ -227,6 +252,10 @@ pub fn count_tombstones<S: Alter>(
 ) -> Result<Vec<TombstoneCount>, OpenFault>
     ensures answers { HasCleanDisk S.Store conn.new
         → IsCountedResult S.Store conn.old limits result }
+
+    // Over the rows of well-formed books it fails only for lack of memory, or with `Store` for an
+    // outside cause.
+    ensures opens { OpensWellFormed S.Store conn.old conn.new limits result }
     ensures was_open { HasCleanDisk S.Store conn.new
         → OnOk result (IsConnectionOpen S.Store conn.old) }
 
@@ -251,6 +280,10 @@ pub fn check_tables<S: Alter>(
     limits: Limits,
 ) -> Result<(), OpenFault>
     ensures answers { HasCleanDisk S.Store conn.new → IsOpenResult S.Store conn.old limits result }
+
+    // Over the rows of well-formed books it fails only for lack of memory, or with `Store` for an
+    // outside cause.
+    ensures opens { OpensWellFormed S.Store conn.old conn.new limits result }
 
     // Nothing is changed or committed, also on an error.
     ensures changes_nothing { ChangesNothing S.Store conn.old conn.new }

@@ -1,8 +1,12 @@
 //! Reads the members one at a time, and tests each.
 ghost use Rattle.store_check.specs.MemberScans.{DoesTake, Scans, is_above};
 ghost use Rattle.store_check.specs.RowChecks.{int_cell};
-ghost use Rattle.store_tables.specs.OnConnections.{GivenTables, OnlyReads, table_rows};
-ghost use Rattle.std.specs.Prelude.{◌≡◌, IfOk};
+ghost use Rattle.store_tables.specs.Members.{AreMembers};
+ghost use Rattle.store_tables.specs.OnConnections.{GivenMembers, GivenTables};
+ghost use Rattle.store_tables.specs.OnConnections.{HasOutsideCauseOfError, OnlyReads, table_rows};
+ghost use Rattle.sqlite.specs.declared.error.Error.TheVariants.{SqliteFailure};
+ghost use Rattle.sqlite.specs.declared.error.ErrorCode.TheVariants.{OutOfMemory};
+ghost use Rattle.std.specs.Prelude.{◌≡◌, ◌≢◌, IfErr, IfOk, false};
 
 use crate::cells::number_at;
 use crate::faults::{FaultyRow, RowFault};
@@ -24,8 +28,8 @@ fn is_above(last: Option<i64>, id: i64) -> bool
 
 /// Tests the member, and counts it in its book. Returns it with its fault if it isn't good.
 ///
-/// Fails with `DatabaseCorrupt` if its row id is not above `last`, that of the member before:
-/// SQLite keeps the rows of a table in the order of their ids.
+/// Fails with `DatabaseCorrupt` if its row id is not above `last`, that of the member before: then
+/// two members have the same one.
 fn take_member(
     alloc: Global,
     books: &[Row],
@@ -35,6 +39,8 @@ fn take_member(
 ) -> Result<Option<FaultyRow>, Error>
     ensures { IfOk result
         (DoesTake books.now tallies.old tallies.new last.old last.new member.now) }
+    ensures fails { IfErr result (λ e. e ≢ SqliteFailure OutOfMemory
+        → is_above last.old (int_cell 0 member.now) ≡ false) }
 {
     let Ok(fault) = tally_member(alloc, tallies, member) else {
         return Err(Error::SqliteFailure(ErrorCode::OutOfMemory));
@@ -56,8 +62,8 @@ fn take_member(
 /// Reads the members one at a time. Tests each against its book, and counts it there. Returns the
 /// first that isn't good, and reads no more of them.
 ///
-/// SQLite gives the rows of a table in the order of their ids. So nothing is kept of a row that was
-/// read but its id, and no id comes twice.
+/// They are asked for in the order of their row ids, in which SQLite keeps them. So nothing is
+/// sorted, nothing is kept of a row that was read but its id, and no id comes twice.
 pub(crate) fn scan_members<S: Alter>(
     alloc: Global,
     conn: &mut Connection<S>,
@@ -66,10 +72,17 @@ pub(crate) fn scan_members<S: Alter>(
 ) -> Result<Option<FaultyRow>, Error>
     ensures scans { GivenTables S.Store conn.old conn.new (IfOk result
         (Scans (table_rows S.Store conn.old 4) books.now tallies.old tallies.new)) }
+
+    // Where no two members share an id, it fails only for lack of memory or for an outside cause.
+    ensures fails_from_outside { GivenMembers S.Store conn.old conn.new (λ members.
+        AreMembers members → HasOutsideCauseOfError S.Store conn.old conn.new result) }
     ensures reads_only { OnlyReads S.Store conn.old conn.new }
 {
     let mut last = None;
-    let mut rows = conn.query("SELECT rowid, book, uid, changed, card FROM member", &[])?;
+    let mut rows = conn.query(
+        "SELECT rowid, book, uid, changed, card FROM member ORDER BY rowid",
+        &[],
+    )?;
     'rows: for _ in 0..u64::MAX {
         let Some(row) = rows.next()? else {
             return Ok(None);

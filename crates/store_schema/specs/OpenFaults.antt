@@ -28,8 +28,8 @@ open_fault_of_error error = Store
 abbrev pub IsErrorFault : OpenFault → Type 0
 IsErrorFault fault = (fault ≡ Store) ⊎ (fault ≡ Memory)
 
--- Why a store that is there doesn't open: memory ran out, or the fault is `Store` and its cause lies
--- outside the tables.
+-- Why a store that is there doesn't open: memory ran out, or the fault is `Store`, and its cause
+-- lies outside the tables.
 abbrev pub ComesFromOutside : State → State → OpenFault → Type 0
 ComesFromOutside old new fault =
     (fault ≡ Memory) ⊎ ((fault ≡ Store) × HasOutsideCause old new)

@@ -1,9 +1,11 @@
-use Rattle.std.proofs.Common.{◌∙◌}
+use Rattle.std.proofs.Common.{subst, sym, ◌∙◌}
 use Rattle.sqlite.specs.Files.{file_state, image_of}
 use Rattle.sqlite.specs.State.{HasCleanDisk}
+use Rattle.store_check.specs.OpenResults.{max_limits}
+use Rattle.store_rows.specs.SoundTables.{HoldsWellFormed}
 use Rattle.store_tables.proofs.SchemaCreationLemmas.{clean_before}
 use Rattle.book_store.specs.Restarts.{declared_over}
-use Rattle.book_store.proofs.RestartLemmas.{clean_left, shown_books, shown_errors}
+use Rattle.book_store.proofs.RestartLemmas.{clean_left, shown_books, unopened_cause, unread_cause}
 use Rattle.book_store.proofs.restarting.SqlStore+FileStore+D.open_again.Goals as goal
 
 pub returns-in-Ok-try_adopt-clause-opens : goal.returns-in-Ok-try_adopt-clause-opens
@@ -12,9 +14,16 @@ returns-in-Ok-try_adopt-clause-opens g c books holds order =
     c.in-Ok-try_adopt.ensures.books order
     ∙ shown_books (image_of g.D.Disk c.args.files) books holds (file_state c.in-Ok.connection) (c.in-Ok.ensures.opens (declared_over holds.trees) holds.listed) before.0
 
-pub returns-in-Err-try_adopt-clause-fault : goal.returns-in-Err-try_adopt-clause-fault
-returns-in-Err-try_adopt-clause-fault g c books holds clean =
+pub returns-in-Err-clause-cause : goal.returns-in-Err-clause-cause
+returns-in-Err-clause-cause g c books holds clean =
+    unopened_cause (declared_over holds.trees) c.args.files c.in-Err.left c.in-Err.error c.open_fault_of.result c.open_fault_of.ensures.kind c.open_fault_of.ensures.value
+    (c.in-Err.ensures.cause holds.trees holds.listed.holds clean)
+
+pub returns-in-Err-try_adopt-clause-cause : goal.returns-in-Err-try_adopt-clause-cause
+returns-in-Err-try_adopt-clause-cause g c books holds clean =
     let refused = c.in-Err-try_adopt.ensures.refused in
     let late : HasCleanDisk (file_state c.in-Err-try_adopt.connection) = clean_left c.in-Err-try_adopt.connection c.into_store.result c.into_store.ensures.quiet clean in
     let early : HasCleanDisk (file_state c.in-Ok.connection) = clean_before _ (file_state c.in-Ok.connection) (file_state c.in-Err-try_adopt.connection) refused.left_unchanged.survives late in
-    shown_errors (image_of g.D.Disk c.args.files) books holds (file_state c.in-Ok.connection) (c.in-Ok.ensures.opens (declared_over holds.trees) holds.listed) early c.in-Err-try_adopt.fault (refused.right_fault late)
+    let shows = c.in-Ok.ensures.opens (declared_over holds.trees) holds.listed early in
+    unread_cause (declared_over holds.trees) c.args.files c.in-Ok.connection c.in-Err-try_adopt.connection c.into_store.result c.in-Err-try_adopt.fault c.in-Ok.ensures.fresh.unlimited shows c.into_store.ensures.quiet
+    (refused.from_outside late (subst (HoldsWellFormed max_limits) (sym shows.shows) holds.well_formed))

@@ -3,6 +3,7 @@ use Rattle.std.specs.List.{AllByRecursion}
 use Rattle.sqlite.specs.Held.{state}
 use Rattle.sqlite.specs.Tree.{Trees}
 use Rattle.store_lookups.specs.StoredBooks.{stored_books}
+use Rattle.store_rows.specs.SoundTables.{HoldsWellFormed}
 use Rattle.store_check.specs.OpenResults.{IsOpenResult}
 use Rattle.store_check.specs.TombstoneCounts.{IsCountOf}
 use Rattle.book_model.specs.WellFormed.{IsWellFormed}
@@ -16,6 +17,7 @@ returns-in-Err-clause-refused g c =
     record {
       left_unchanged = c.count_tombstones.ensures.changes_nothing;
       right_fault = λ clean. subst (λ b. IsOpenResult b old.now (Err c.in-Err.fault)) limits (c.in-Err.ensures.answers clean);
+      from_outside = λ clean held. c.in-Err.ensures.opens clean (subst (λ b. HoldsWellFormed b old.now) (sym limits) held);
     }
 
 pub invariant_of-result : goal.invariant_of-result
