@@ -11,6 +11,7 @@ pub mod PermutedLemmas
 pub mod ListedLemmas
 pub mod TallyLemmas
 pub mod FaultLemmas
+pub mod OrderedLemmas
 pub mod ScanLemmas
 pub mod MemberKeyLemmas
 pub mod TestedLemmas

@@ -1,23 +1,28 @@
 -- The result of opening stored tables.
-use Rattle.std.proofs.Common.{◌≡◌, inl, inr, IsTrue, List, map, OnOk, Ok, Err, Result, IsPermutation, sym, ap, subst, ◌∙◌}
+use Rattle.std.proofs.Common.{◌≡◌, inl, inr, IsTrue, IfErr, List, map, OnOk, Ok, Err, Result, IsPermutation, sym, ap, subst, ◌∙◌}
 use Rattle.sqlite.specs.Effect.{Database}
 use Rattle.sqlite.specs.Order.{Row}
-use Rattle.sqlite.specs.State.{State, HasCleanDisk, IsUnchanged}
+use Rattle.sqlite.specs.State.{State, HasCleanDisk, IsUnchanged, Survives}
+use Rattle.sqlite.specs.Tree.{Trees}
+use Rattle.sqlite.specs.declared.error.Error.{Error}
 use Rattle.sqlite.proofs.StateLemmas.{survives_then}
 use Rattle.book_model.specs.Bounds.{Bounds}
 use Rattle.store_tables.specs.Books.{book_listed}
+use Rattle.store_tables.specs.Failures.{FailsFromOutside}
 use Rattle.store_tables.specs.Imports.{import_cells}
 use Rattle.store_tables.specs.Keeps.{keep_listed}
 use Rattle.store_tables.specs.StatementEffects.{OnlyReads, GivenTables}
 use Rattle.store_tables.specs.Tables.{book_schema}
+use Rattle.store_tables.proofs.FailureLemmas.{outside_later}
 use Rattle.store_tables.proofs.SchemaCreationLemmas.{clean_before}
 use Rattle.store_tables.proofs.Lookups.{reads_then}
-use Rattle.store_schema.specs.OpenFaults.{IsErrorFault}
+use Rattle.store_rows.specs.SoundTables.{HoldsWellFormed}
+use Rattle.store_schema.specs.OpenFaults.{ComesFromOutside, IsErrorFault}
 use Rattle.store_schema.specs.StoredSchema.{ChangesNothing, IsCurrentSchema, ClassifiesSchema}
 use Rattle.store_schema.specs.declared.open_fault.OpenFault.{OpenFault}
 use Rattle.store_schema.specs.declared.open_fault.OpenFault.TheVariants.{Store, NotOurs, OtherSchema, Damaged, NotEmpty, Memory}
 use Rattle.store_check.specs.FaultSearches.{IsSearchFault}
-use Rattle.store_check.specs.OpenResults.{IsOpenResult}
+use Rattle.store_check.specs.OpenResults.{IsOpenResult, OpensWellFormed}
 use Rattle.store_check.specs.ListedRows.{AreBookRows}
 
 -- ---- faults of the search
@@ -34,6 +39,47 @@ schema_searched db Memory h = tt
 pub error_searched : (db : Database) (fault : OpenFault) → IsErrorFault fault → IsSearchFault db fault
 error_searched db fault (inl h) = subst (IsSearchFault db) (sym h) tt
 error_searched db fault (inr h) = subst (IsSearchFault db) (sym h) tt
+
+-- ---- the cause of a fault
+
+if_err : {T E : Type 0} (r : Result T E) (P Q : E → Type 0) → ((e : E) → P e → Q e) → IfErr r P → IfErr r Q
+if_err (Ok x) P Q f h = tt
+if_err (Err e) P Q f h = f e h
+
+-- tables that hold well-formed books are a store's
+pub ours_of_held : (limits : Bounds) (db : Database) → HoldsWellFormed limits db → IsCurrentSchema db
+ours_of_held limits db held = record { schema = held.holds.schema; meta = held.holds.meta }
+
+pub only_memory : {T : Type 0} (old new : State) (r : Result T OpenFault) → IfErr r (λ fault. fault ≡ Memory) → IfErr r (ComesFromOutside old new)
+only_memory old new r = if_err r (λ fault. fault ≡ Memory) (ComesFromOutside old new) (λ fault memory. inl memory)
+
+-- a fault of a later read
+later_fault : (a b c : State) (P Q : Trees → Type 0) (fault : OpenFault) → Survives a b P → HasCleanDisk b → Survives b c Q → ComesFromOutside b c fault → ComesFromOutside a c fault
+later_fault a b c P Q fault before clean after (inl memory) = inl memory
+later_fault a b c P Q fault before clean after (inr (is, cause)) = inr (is, outside_later a b c P Q before clean after cause)
+
+-- a read that follows one that changed nothing
+pub fails_after : {T : Type 0} (a b c : State) (r : Result T Error) → GivenTables a b (IsUnchanged a b) → OnlyReads a b → OnlyReads b c → FailsFromOutside b c r → FailsFromOutside a c r
+fails_after a b c r same first next fails clean has =
+    let early = clean_before _ b c next.survives clean in
+    let still = ap (λ (d : Database). d.schema) (same early has).0.now_is ∙ has in
+    if_err r _ _ (λ e cause room. outside_later a b c _ _ first.survives early next.survives (cause room)) (fails clean still)
+
+-- the rows were listed, and then tested
+pub opens_listed : {T : Type 0} (a b c : State) (limits : Bounds) (books imports keeps : List Row) (r : Result T OpenFault) → GivenTables a b (IsUnchanged a b) → OnlyReads a b → OnlyReads b c
+    → GivenTables a b (AreBookRows a.now books imports keeps)
+    → (HasCleanDisk c → HoldsWellFormed limits b.now → AreBookRows b.now books imports keeps → IfErr r (ComesFromOutside b c)) → OpensWellFormed limits a c r
+opens_listed a b c limits books imports keeps r same first left listed opens clean held =
+    let early = clean_before _ b c left.survives clean in
+    let now = sym (same early held.holds.schema).0.now_is in
+    if_err r _ _ (λ fault. later_fault a b c _ _ fault first.survives early left.survives)
+    (opens clean (subst (HoldsWellFormed limits) now held) (subst (λ (db : Database). AreBookRows db books imports keeps) now (listed early held.holds.schema)))
+
+-- the schema was tested, and then the rows
+pub opens_tested : {T : Type 0} (a b c : State) (limits : Bounds) (r : Result T OpenFault) → (HasCleanDisk b → IsUnchanged a b) → ChangesNothing a b → OnlyReads b c → OpensWellFormed limits b c r → OpensWellFormed limits a c r
+opens_tested a b c limits r kept before after opens clean held =
+    let early = clean_before _ b c after.survives clean in
+    if_err r _ _ (λ fault. later_fault a b c _ _ fault before.survives early after.survives) (opens clean (subst (HoldsWellFormed limits) (sym (kept early).0.now_is) held))
 
 -- ---- reads
 

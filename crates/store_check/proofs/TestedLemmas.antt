@@ -1,10 +1,12 @@
 -- What the tests of all rows say of the tables.
-use Rattle.std.proofs.Common.{◌≡◌, ◌↔◌, Bool, false, true≢false, List, Ok, Err, Vec, map, IsTrue, IsPermutation, sym, ◌∙◌}
+use Rattle.std.proofs.Common.{◌≡◌, ◌↔◌, Bool, true, false, true≢false, List, Ok, Err, Vec, map, IsTrue, IsPermutation, sym, ◌∙◌}
 use Rattle.std.specs.declared.alloc.Global.{Global}
 use Rattle.std.proofs.lemmas.List.Sorted.{IsPermutation-refl}
+use Rattle.std.specs.List.{AllByRecursion}
 use Rattle.sqlite.specs.Effect.{Database}
 use Rattle.sqlite.specs.Order.{Row}
 use Rattle.sqlite_trees.proofs.ListLemmas.{all-map, all_both, all_from_map, all_weaker}
+use Rattle.book_model.specs.BookNames.{is_legal_name}
 use Rattle.book_model.specs.Bounds.{Bounds}
 use Rattle.store_tables.specs.Tables.{ObeyTables}
 use Rattle.store_tables.specs.Members.{MemberRow, member_cells}
@@ -12,6 +14,7 @@ use Rattle.store_rows.specs.SoundTables.{HoldsWellFormed}
 use Rattle.store_rows.specs.TableBooks.{books_in}
 use Rattle.store_rows.specs.TableRows.{load_member}
 use Rattle.store_schema.specs.StoredSchema.{IsCurrentSchema}
+use Rattle.store_check.specs.BookChecks.{IsCheckedBook}
 use Rattle.store_check.specs.declared.counts.TombstoneCount.{TombstoneCount}
 use Rattle.store_check.specs.declared.faults.FaultyRow.{FaultyRow}
 use Rattle.store_check.specs.FaultSearches.{AreFaulty, FaultyAreNotStored}
@@ -94,6 +97,12 @@ module _ (limits : Bounds) (db : Database) (books imports keeps : List Row) (our
   -- the rows of books, imports and keeps of well-formed books pass their tests
   pub own_of_held : HoldsWellFormed limits db → PassBookTests limits books imports keeps
   own_of_held held = (all_tests (map member_cells (db.trees 4)) (IsPermutation-refl _) held).own
+
+  -- the names of well-formed books are legal
+  pub legal_names : HoldsWellFormed limits db → AllByRecursion (λ b. is_legal_name b.name ≡ true) (map decode_book books)
+  legal_names held =
+      all_weaker (IsCheckedBook limits _ _ _) (λ b. is_legal_name b.name ≡ true) (λ b h. h.legal) (map decode_book books)
+      (all_tests (map member_cells (db.trees 4)) (IsPermutation-refl _) held).passed.checked
 
   -- one of the rows is faulty
   are_faulty : (f : FaultyRow) (rows : List Row) → IsPermutation (map member_cells (db.trees 4)) rows → IsFaultyRow limits books rows imports keeps f → AreFaulty limits db f

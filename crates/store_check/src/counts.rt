@@ -25,6 +25,7 @@ pub struct TombstoneCount {
 }
 
 /// The book's name as a string. Fails with `Store` if it is not UTF-8, which no legal name is.
+#[tactic(auto, using(crate::proofs::NameLemmas::no_name))]
 fn name_of_book(alloc: Global, book: &Row) -> Result<String, OpenFault>
     ensures name { IfOk result (λ name. string_bytes name ≡ (decode_book book.now).name) }
     ensures fault { IfErr result IsErrorFault }

@@ -100,6 +100,7 @@ fn check_books(
 
 /// Tests the members one at a time, and then whether each book agrees with its members. Returns the
 /// tally of each book if all are good, or the first faulty row.
+#[tactic(auto, using(crate::proofs::OpenLemmas::only_memory))]
 fn check_members<S: Alter>(
     alloc: Global,
     conn: &mut Connection<S>,

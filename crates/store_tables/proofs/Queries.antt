@@ -215,6 +215,13 @@ all_members_text = codes "SELECT rowid, book, uid, changed, card FROM member"
 abbrev pub all_members_terms : List Term
 all_members_terms = col 1 0 ∷ col 1 1 ∷ col 1 2 ∷ col 1 3 ∷ col 1 4 ∷ []
 
+-- the members in the order of their row ids
+abbrev pub scan_text : List ℕ
+scan_text = codes "SELECT rowid, book, uid, changed, card FROM member ORDER BY rowid"
+
+abbrev pub scan_query : Query
+scan_query = ordering 4 [] all_members_terms (rising (col 1 0))
+
 abbrev pub all_imports_text : List ℕ
 all_imports_text = codes "SELECT rowid, book, ikey, added, edited, same, number FROM import_key"
 

@@ -12,9 +12,9 @@ use Rattle.sqlite.specs.declared.types.Value.TheVariants.{Int, Text}
 use Rattle.sqlite_tied.specs.Compute.{everything}
 use Rattle.store_tables.specs.Failures.{HasOutsideCause}
 use Rattle.store_tables.specs.Tables.{book_schema}
-use Rattle.store_tables.proofs.FailureLemmas.{row_fails, rows_fail, count_fails}
-use Rattle.store_tables.proofs.Queries.{picks, book_text, book_query, find_text, find_query, removed_text, removed_query, import_text, import_query, keep_text, keep_query, books_count_text, count_text, count_tests, books_text, books_query, members_text, members_query, all_members_text, all_members_terms, all_imports_text, all_imports_terms, all_keeps_text, all_keeps_terms, due_text, due_query}
-use Rattle.store_tables.proofs.Texts.{book_is, find_is, removed_is, import_is, keep_is, books_count_is, count_is, books_is, members_is, all_members_is, all_imports_is, all_keeps_is, due_is}
+use Rattle.store_tables.proofs.FailureLemmas.{from_outside, row_fails, rows_fail, count_fails}
+use Rattle.store_tables.proofs.Queries.{picks, book_text, book_query, find_text, find_query, removed_text, removed_query, import_text, import_query, keep_text, keep_query, books_count_text, count_text, count_tests, books_text, books_query, members_text, members_query, all_members_text, all_members_terms, scan_text, scan_query, all_imports_text, all_imports_terms, all_keeps_text, all_keeps_terms, due_text, due_query}
+use Rattle.store_tables.proofs.Texts.{book_is, find_is, removed_is, import_is, keep_is, books_count_is, count_is, books_is, members_is, all_members_is, scan_is, all_imports_is, all_keeps_is, due_is}
 
 pub find_book_fails : (old new : State) (name : List ℕ) (r : Result Row Error) → old.now.schema ≡ book_schema → QueriesRow book_text (Text name ∷ []) old new r → IfErr r (λ e. e ≢ QueryReturnedNoRows → e ≢ SqliteFailure OutOfMemory → HasOutsideCause old new)
 unfolding understood everything
@@ -63,6 +63,11 @@ all_imports_fails old new r has = rows_fail all_imports_text [] old new has (pic
 pub all_keeps_fails : (old new : State) (r : Result (Vec Row Global) Error) → old.now.schema ≡ book_schema → IfErr r (FailsToQuery all_keeps_text [] old new) → IfErr r (λ e. e ≢ SqliteFailure OutOfMemory → HasOutsideCause old new)
 unfolding understood everything
 all_keeps_fails old new r has = rows_fail all_keeps_text [] old new has (picks 9 [] all_keeps_terms) _ all_keeps_is (refl, refl) refl (λ db h. h) refl r
+
+-- the scan of the members, whose rows are read one at a time
+pub scan_fails : (old new : State) (e : Error) → old.now.schema ≡ book_schema → FailsToQuery scan_text [] old new e → e ≢ SqliteFailure OutOfMemory → HasOutsideCause old new
+unfolding understood everything
+scan_fails old new e has = from_outside scan_text [] old new has scan_query _ scan_is (refl, refl) refl (λ db h. h) refl e
 
 -- the query for the due members
 pub first_due_fails : (old new : State) (book at base most : ℤ) (r : Result (Vec Row Global) Error) → old.now.schema ≡ book_schema → IfErr r (FailsToQuery due_text (Int book ∷ Int at ∷ Int base ∷ Int most ∷ []) old new)

@@ -10,7 +10,7 @@ use Rattle.sqlite_resolve.specs.declared.error.CompileError.{CompileError}
 use Rattle.sqlite_schema.specs.declared.command.Returning.{Returning}
 use Rattle.store_tables.specs.Tables.{book_schema}
 use Rattle.store_tables.proofs.SelectLemmas.{IsSelectText}
-use Rattle.store_tables.proofs.Queries.{put_text, put_command, add_member_text, add_member_command, change_text, change_query, find_text, find_query, due_text, due_query, book_text, book_query, forget_text, forget_query, count_text, count_query, update_text, update_query, number_names, books_count_text, books_count_query, import_text, import_query, keep_text, keep_query, removed_text, removed_query, members_text, members_query, add_import_text, add_import_command, add_book_text, add_book_command, add_keep_text, add_schema_text, add_schema_command, add_keep_command, picks, books_text, books_query, all_members_text, all_members_terms, all_imports_text, all_imports_terms, all_keeps_text, all_keeps_terms, meta_text, meta_terms}
+use Rattle.store_tables.proofs.Queries.{put_text, put_command, add_member_text, add_member_command, change_text, change_query, find_text, find_query, due_text, due_query, book_text, book_query, forget_text, forget_query, count_text, count_query, update_text, update_query, number_names, books_count_text, books_count_query, import_text, import_query, keep_text, keep_query, removed_text, removed_query, members_text, members_query, add_import_text, add_import_command, add_book_text, add_book_command, add_keep_text, add_schema_text, add_schema_command, add_keep_command, picks, books_text, books_query, all_members_text, all_members_terms, scan_text, scan_query, all_imports_text, all_imports_terms, all_keeps_text, all_keeps_terms, meta_text, meta_terms}
 
 abbrev pub returning_of : Result Compiled CompileError → Option Returning
 returning_of (Ok c) = c.returning
@@ -100,6 +100,10 @@ pub all_members_is : (command_of (understood book_schema all_members_text) ≡ S
 unfolding understood everything
 all_members_is = (refl, refl, (refl, refl))
 
+pub scan_is : (command_of (understood book_schema scan_text) ≡ Select (record { lets = []; body = scan_query }) (codes "rowid" ∷ codes "book" ∷ codes "uid" ∷ codes "changed" ∷ codes "card" ∷ [])) × (reads_listing book_schema scan_text ≡ false) × IsPlain (understood book_schema scan_text)
+unfolding understood everything
+scan_is = (refl, refl, (refl, refl))
+
 pub all_imports_is : (command_of (understood book_schema all_imports_text) ≡ Select (record { lets = []; body = picks 7 [] all_imports_terms }) (codes "rowid" ∷ codes "book" ∷ codes "ikey" ∷ codes "added" ∷ codes "edited" ∷ codes "same" ∷ codes "number" ∷ [])) × (reads_listing book_schema all_imports_text ≡ false) × IsPlain (understood book_schema all_imports_text)
 unfolding understood everything
 all_imports_is = (refl, refl, (refl, refl))
@@ -153,6 +157,10 @@ members_selects = refl
 pub books_selects : IsSelectText books_text
 unfolding first everything
 books_selects = refl
+
+pub scan_selects : IsSelectText scan_text
+unfolding first everything
+scan_selects = refl
 
 pub all_members_selects : IsSelectText all_members_text
 unfolding first everything

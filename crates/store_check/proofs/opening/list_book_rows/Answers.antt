@@ -1,6 +1,8 @@
+use Rattle.std.proofs.Common.{rules, ◌≡◌, Err, subst, sym}
 use Rattle.sqlite.specs.Held.{state}
+use Rattle.store_tables.specs.Failures.{FailsFromOutside}
 use Rattle.store_tables.proofs.Lookups.{reads_then}
-use Rattle.store_check.proofs.OpenLemmas.{all_unchanged, lists_three, reads_third}
+use Rattle.store_check.proofs.OpenLemmas.{all_unchanged, fails_after, lists_three, reads_third, unchanged_then}
 use Rattle.store_check.proofs.opening.list_book_rows.Goals as goal
 
 pub returns-in_err-imports-clause-reads_only : goal.returns-in_err-imports-clause-reads_only
@@ -28,3 +30,23 @@ returns-clause-lists g c =
     c.in_ok-books.ensures.unchanged c.in_ok-imports.ensures.unchanged c.all_books.ensures.reads_only c.all_imports.ensures.reads_only c.all_keeps.ensures.reads_only
     c.in_ok-books.books.items c.in_ok-imports.imports.items c.in_ok-keeps.keeps.items
     c.in_ok-books.ensures.lists c.in_ok-imports.ensures.lists c.in_ok-keeps.ensures.lists
+
+pub returns-in_err-imports-clause-fails_from_outside : goal.returns-in_err-imports-clause-fails_from_outside
+returns-in_err-imports-clause-fails_from_outside g c =
+    let a = state g.S.Store c.args.conn.now in
+    let b = state g.S.Store c.all_books.new.conn in
+    let d = state g.S.Store c.all_imports.new.conn in
+    let said : c.from_residual-in_err-imports.result ≡ Err c.in_err-imports.field-0.0 = search rules in
+    subst (FailsFromOutside a d) (sym said)
+    (fails_after a b d (Err c.in_err-imports.field-0.0) c.in_ok-books.ensures.unchanged c.all_books.ensures.reads_only c.all_imports.ensures.reads_only c.in_err-imports.ensures.fails_from_outside)
+
+pub returns-in_err-keeps-clause-fails_from_outside : goal.returns-in_err-keeps-clause-fails_from_outside
+returns-in_err-keeps-clause-fails_from_outside g c =
+    let a = state g.S.Store c.args.conn.now in
+    let b = state g.S.Store c.all_books.new.conn in
+    let d = state g.S.Store c.all_imports.new.conn in
+    let e = state g.S.Store c.all_keeps.new.conn in
+    let said : c.from_residual-in_err-keeps.result ≡ Err c.in_err-keeps.field-0.0 = search rules in
+    subst (FailsFromOutside a e) (sym said)
+    (fails_after a d e (Err c.in_err-keeps.field-0.0) (unchanged_then a b d c.in_ok-books.ensures.unchanged c.in_ok-imports.ensures.unchanged c.all_imports.ensures.reads_only)
+    (reads_then a b d c.all_books.ensures.reads_only c.in_ok-books.ensures.unchanged c.all_imports.ensures.reads_only) c.all_keeps.ensures.reads_only c.in_err-keeps.ensures.fails_from_outside)

@@ -4,7 +4,7 @@ use Rattle.sqlite.specs.State.{HasCleanDisk, IsUnchanged}
 use Rattle.sqlite.specs.Held.{state}
 use Rattle.sqlite.specs.Given.{HasGiven}
 use Rattle.store_tables.specs.Tables.{book_schema}
-use Rattle.store_tables.proofs.Queries.{all_members_text}
+use Rattle.store_tables.proofs.Queries.{scan_text}
 use Rattle.store_tables.specs.StatementEffects.{OnlyReads}
 use Rattle.store_check.proofs.ScanLemmas.{HasTaken}
 use Rattle.store_check.proofs.scanning.scan_members.Given as goal
@@ -15,4 +15,4 @@ invariant-rows g l =
     let old = state g.S.Store l.fn.conn in
     let now = state g.S.Store l.rows.conn.now in
     (l.rows.conn.ghost_name ≡ l.initial.rows.conn.ghost_name) × OnlyReads old now
-    × (HasCleanDisk now → old.now.schema ≡ book_schema → (given : List Row) × HasGiven g.S.Store all_members_text [] l.rows.conn.now given × IsUnchanged old now × HasTaken l.fn.tallies l.tallies l.last given)
+    × (HasCleanDisk now → old.now.schema ≡ book_schema → (given : List Row) × HasGiven g.S.Store scan_text [] l.rows.conn.now given × IsUnchanged old now × HasTaken l.fn.tallies l.tallies l.last given)
