@@ -1,14 +1,16 @@
 -- The result of opening stored tables.
-use Rattle.std.proofs.Common.{◌≡◌, inl, inr, IsTrue, IfErr, List, map, OnOk, Ok, Err, Result, IsPermutation, sym, ap, subst, ◌∙◌}
+use Rattle.std.proofs.Common.{◌≡◌, ◌≢◌, inl, inr, IsTrue, IfErr, List, map, OnOk, Ok, Err, Result, IsPermutation, sym, ap, subst, ◌∙◌}
 use Rattle.sqlite.specs.Effect.{Database}
 use Rattle.sqlite.specs.Order.{Row}
 use Rattle.sqlite.specs.State.{State, HasCleanDisk, IsUnchanged, Survives}
 use Rattle.sqlite.specs.Tree.{Trees}
 use Rattle.sqlite.specs.declared.error.Error.{Error}
+use Rattle.sqlite.specs.declared.error.Error.TheVariants.{SqliteFailure}
+use Rattle.sqlite.specs.declared.error.ErrorCode.TheVariants.{OutOfMemory}
 use Rattle.sqlite.proofs.StateLemmas.{survives_then}
 use Rattle.book_model.specs.Bounds.{Bounds}
 use Rattle.store_tables.specs.Books.{book_listed}
-use Rattle.store_tables.specs.Failures.{FailsFromOutside}
+use Rattle.store_tables.specs.Failures.{HasOutsideCause}
 use Rattle.store_tables.specs.Imports.{import_cells}
 use Rattle.store_tables.specs.Keeps.{keep_listed}
 use Rattle.store_tables.specs.StatementEffects.{OnlyReads, GivenTables}
@@ -22,7 +24,7 @@ use Rattle.store_schema.specs.StoredSchema.{ChangesNothing, IsCurrentSchema, Cla
 use Rattle.store_schema.specs.declared.open_fault.OpenFault.{OpenFault}
 use Rattle.store_schema.specs.declared.open_fault.OpenFault.TheVariants.{Store, NotOurs, OtherSchema, Damaged, NotEmpty, Memory}
 use Rattle.store_check.specs.FaultSearches.{IsSearchFault}
-use Rattle.store_check.specs.OpenResults.{IsOpenResult, OpensWellFormed}
+use Rattle.store_check.specs.OpenResults.{OpensWellFormed}
 use Rattle.store_check.specs.ListedRows.{AreBookRows}
 
 -- ---- faults of the search
@@ -59,11 +61,11 @@ later_fault a b c P Q fault before clean after (inl memory) = inl memory
 later_fault a b c P Q fault before clean after (inr (is, cause)) = inr (is, outside_later a b c P Q before clean after cause)
 
 -- a read that follows one that changed nothing
-pub fails_after : {T : Type 0} (a b c : State) (r : Result T Error) → GivenTables a b (IsUnchanged a b) → OnlyReads a b → OnlyReads b c → FailsFromOutside b c r → FailsFromOutside a c r
-fails_after a b c r same first next fails clean has =
+pub fails_after : (a b c : State) (e : Error) → GivenTables a b (IsUnchanged a b) → OnlyReads a b → OnlyReads b c → GivenTables b c (e ≢ SqliteFailure OutOfMemory → HasOutsideCause b c) → GivenTables a c (e ≢ SqliteFailure OutOfMemory → HasOutsideCause a c)
+fails_after a b c e same first next fails clean has room =
     let early = clean_before _ b c next.survives clean in
     let still = ap (λ (d : Database). d.schema) (same early has).0.now_is ∙ has in
-    if_err r _ _ (λ e cause room. outside_later a b c _ _ first.survives early next.survives (cause room)) (fails clean still)
+    outside_later a b c _ _ first.survives early next.survives (fails clean still room)
 
 -- the rows were listed, and then tested
 pub opens_listed : {T : Type 0} (a b c : State) (limits : Bounds) (books imports keeps : List Row) (r : Result T OpenFault) → GivenTables a b (IsUnchanged a b) → OnlyReads a b → OnlyReads b c

@@ -1,5 +1,5 @@
 -- Members in the order of their row ids.
-use Rattle.std.proofs.Common.{◌≡◌, ◌+◌, ◌++◌, suc, ℤ, Bool, true, false, cond, List, [], ◌∷◌, map, filter, Less, Equal, Greater, is_eq, is_lt, int_cmp, int_eq, int_lt, slice_index_or, IsPermutation, Ordering, refl, sym, ap, ap₂, subst, ◌∙◌, true≢false, arith}
+use Rattle.std.proofs.Common.{◌≡◌, ◌+◌, ◌++◌, suc, ℤ, Bool, true, false, cond, List, [], ◌∷◌, filter, Less, Equal, Greater, is_eq, is_lt, int_cmp, int_eq, int_lt, slice_index_or, IsPermutation, Ordering, refl, sym, ap, ap₂, subst, ◌∙◌, true≢false, arith}
 use Rattle.std.proofs.lemmas.Int.{ints}
 use Rattle.std.specs.List.{AllByRecursion}
 use Rattle.std.specs.List.Sorted.{IsSorted}
@@ -69,10 +69,12 @@ id_key : MemberRow → Row
 id_key m = Int m.id ∷ []
 
 by_key : (a b : MemberRow) → output_cmp scan_query (id_key a, member_row a) (id_key b, member_row b) ≡ by_id a b
+unfolding id_key
 by_key a b = then-Equal _ ∙ value_cmp-Int a.id b.id
 
 -- the rows so far, and those that are left, have rising ids
 pub scan_rises : (s : State) (ms : List MemberRow) (rows : List Row) → s.now.schema ≡ book_schema → HoldMembers (s.now.trees 4) ms → AreMembers ms → Begins scan_text [] s rows → (tail : List Row) × HaveRisingIds (rows ++ tail)
+unfolding id_key
 scan_rises s ms rows schema has kept h =
     let got = (begins_as scan_text [] s s book_schema schema _ scan_is.0 scan_is.2 scan_is.1 rows h).1 in
     let it : AreRowsInOrder by_id member_row (filter (λ _. true) ms) (rows ++ got.0) =

@@ -1,6 +1,5 @@
 -- Permuted rows: a property of the rows in one order holds in each order.
-use Rattle.std.proofs.Common.{◌≡◌, ℤ, false, ◌&&◌, List, int_eq, IsPermutation, sym, ap₂, subst, ◌∙◌}
-use Rattle.std.specs.List.{AllByRecursion}
+use Rattle.std.proofs.Common.{◌≡◌, ℤ, false, ◌&&◌, int_eq, sym, ap₂, subst, ◌∙◌}
 use Rattle.std.proofs.lemmas.List.Sorted.{list_any-IsPermutation}
 use Rattle.sqlite_trees.proofs.ListLemmas.{all-permutation, all_weaker}
 use Rattle.book_model.specs.Bounds.{Bounds}

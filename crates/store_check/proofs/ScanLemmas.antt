@@ -105,12 +105,14 @@ unordered table rows it =
     (subst (IsPermutation (map member_cells (filter (λ _. true) table))) (sym it.shown) (IsPermutation-map member_cells _ _ it.same))
 
 pub all_listed : (old new : State) (rows : List Row) → old.now.schema ≡ book_schema → Shown scan_text [] old new rows → IsPermutation (map member_cells (old.now.trees 4)) rows
+unfolding row_key by_row
 all_listed old new rows schema h =
     unordered (old.now.trees 4) rows
     (all_rows 4 [] all_members_terms scan_query.order [] (λ r. r) (λ r. r) row_key member_cells (λ _. true) by_row
     (λ _. refl) (λ _. refl) (λ _. refl) (λ _. refl) (λ _ _. refl) scan_text _ scan_is (λ _. refl) old (old.now.trees 4) schema (IsPermutation-refl _) new rows h)
 
 pub first_listed : (s : State) (rows : List Row) → s.now.schema ≡ book_schema → Begins scan_text [] s rows → (tail : List Row) × IsPermutation (map member_cells (s.now.trees 4)) (rows ++ tail)
+unfolding row_key by_row
 first_listed s rows schema h =
     let got = (begins_as scan_text [] s s book_schema schema _ scan_is.0 scan_is.2 scan_is.1 rows h).1 in (
       got.0,

@@ -24,7 +24,7 @@ use Rattle.store_check.specs.MemberScans.{TestedMembers}
 use Rattle.store_check.specs.MemberTallies.{AreCounted, IsGoodMember}
 use Rattle.store_check.specs.RowChecks.{AreWellStored, IsBookAnd, IsMemberRow, IsValidMember, decode_book}
 use Rattle.store_check.specs.RowFaults.{IsFaultyRow}
-use Rattle.store_check.specs.StoredTests.{HaveMemberKeys, PassAllTests, PassBookTests, PassMemberTests, StoredPassTests}
+use Rattle.store_check.specs.StoredTests.{HaveMemberKeys, PassAllTests, PassBookTests, PassMemberTests}
 use Rattle.store_check.specs.TombstoneCounts.{AreTombstoneCounts, count_entry, removed_entry}
 use Rattle.store_check.proofs.CountLemmas.{counts_held}
 use Rattle.store_check.proofs.FaultLemmas.{faulty_fails}

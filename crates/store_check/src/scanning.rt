@@ -37,7 +37,7 @@ fn take_member(
     last: &mut Option<i64>,
     member: &Row,
 ) -> Result<Option<FaultyRow>, Error>
-    ensures { IfOk result
+    ensures takes { IfOk result
         (DoesTake books.now tallies.old tallies.new last.old last.new member.now) }
     ensures fails { IfErr result (λ e. e ≢ SqliteFailure OutOfMemory
         → is_above last.old (int_cell 0 member.now) ≡ false) }

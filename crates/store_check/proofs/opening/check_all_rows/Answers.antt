@@ -63,4 +63,4 @@ returns-in_err-list_counts-in-Ok-clause-opens g c clean held listed =
     let own = own_of_held c.args.limits old.now all.books.items all.imports.items all.keeps.items (ours_of_held c.args.limits old.now held) listed held in
     let legal = legal_names c.args.limits old.now all.books.items all.imports.items all.keeps.items (ours_of_held c.args.limits old.now held) listed held in
     let said : c.from_residual-in_err-list_counts-in-Ok.result ≡ Err c.in_err-list_counts-in-Ok.field-0.0 = search rules in
-    subst (λ r. IfErr r (ComesFromOutside old (state g.S.Store c.check_members.new.conn))) (sym said) (inl (c.in_err-list_counts-in-Ok.ensures.legal (rw c.as_slice.ensures.value at legal)))
+    subst (λ r. IfErr r (ComesFromOutside old (state g.S.Store c.check_members.new.conn))) (sym said) (inl (c.in_err-list_counts-in-Ok.ensures.legal (rw (← c.as_slice.ensures.value) at legal)))

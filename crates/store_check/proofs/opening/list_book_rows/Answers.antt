@@ -38,7 +38,7 @@ returns-in_err-imports-clause-fails_from_outside g c =
     let d = state g.S.Store c.all_imports.new.conn in
     let said : c.from_residual-in_err-imports.result ≡ Err c.in_err-imports.field-0.0 = search rules in
     subst (FailsFromOutside a d) (sym said)
-    (fails_after a b d (Err c.in_err-imports.field-0.0) c.in_ok-books.ensures.unchanged c.all_books.ensures.reads_only c.all_imports.ensures.reads_only c.in_err-imports.ensures.fails_from_outside)
+    (fails_after a b d c.in_err-imports.field-0.0 c.in_ok-books.ensures.unchanged c.all_books.ensures.reads_only c.all_imports.ensures.reads_only c.in_err-imports.ensures.fails_from_outside)
 
 pub returns-in_err-keeps-clause-fails_from_outside : goal.returns-in_err-keeps-clause-fails_from_outside
 returns-in_err-keeps-clause-fails_from_outside g c =
@@ -48,5 +48,5 @@ returns-in_err-keeps-clause-fails_from_outside g c =
     let e = state g.S.Store c.all_keeps.new.conn in
     let said : c.from_residual-in_err-keeps.result ≡ Err c.in_err-keeps.field-0.0 = search rules in
     subst (FailsFromOutside a e) (sym said)
-    (fails_after a d e (Err c.in_err-keeps.field-0.0) (unchanged_then a b d c.in_ok-books.ensures.unchanged c.in_ok-imports.ensures.unchanged c.all_imports.ensures.reads_only)
+    (fails_after a d e c.in_err-keeps.field-0.0 (unchanged_then a b d c.in_ok-books.ensures.unchanged c.in_ok-imports.ensures.unchanged c.all_imports.ensures.reads_only)
     (reads_then a b d c.all_books.ensures.reads_only c.in_ok-books.ensures.unchanged c.all_imports.ensures.reads_only) c.all_keeps.ensures.reads_only c.in_err-keeps.ensures.fails_from_outside)

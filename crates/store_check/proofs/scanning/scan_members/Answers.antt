@@ -2,7 +2,7 @@
 -- Given here: an induction over the rows so far. The invariant says that the query gave them, that
 -- nothing changed, and that they are good, have rising ids and were counted. At the end they are
 -- all rows of the table (`all_listed`), at a fault some of them (`first_listed`).
--- If the query gets another text than `all_members_text`, the first two answers break.
+-- If the query gets another text than `scan_text`, the first two answers break.
 use Rattle.std.proofs.Common.{rules, inl, inr, arith, refl, sym, ap, subst, ◌∙◌, ◌≡◌, [], ◌∷◌, ◌++◌, Err, None, map, IsPermutation, true≢false}
 use Rattle.sqlite.specs.Effect.{Database}
 use Rattle.sqlite.specs.Held.{state}
@@ -93,7 +93,7 @@ returns-in-Some-2-clause-scans g c clean has distinct start =
     let same : IsUnchanged mid new = rw c.in_ok-row.was at (moved.same late) in
     let now_is : new.now ≡ old.now = same.0.now_is ∙ was.2.0.now_is in
     let got = first_listed new rows (ap (λ (d : Database). d.schema) now_is ∙ has) begins in
-    let step = subst (DoesTake c.args.books.now c.rows.tallies c.take_member.new.tallies c.rows.last c.take_member.new.last c.in-Some.row.now) c.in-Some-2.is c.in_ok-faulty.ensures in
+    let step = subst (DoesTake c.args.books.now c.rows.tallies c.take_member.new.tallies c.rows.last c.take_member.new.last c.in-Some.row.now) c.in-Some-2.is c.in_ok-faulty.ensures.takes in
     scanned_part (old.now.trees 4) c.args.books.now c.args.tallies.now c.rows.tallies c.take_member.new.tallies c.rows.last c.take_member.new.last was.0 c.in-Some.row.now c.in-Some-2.faulty got.0 was.3 step
     (subst (λ (d : Database). IsPermutation (map member_cells (d.trees 4)) (rows ++ got.0)) now_is got.1) distinct start
 
@@ -106,7 +106,7 @@ rows-preserved g c =
     let looked : OnlyReads old new = reads_on (state g.S.Store c.args.conn.now) (state g.S.Store c.rows.rows.conn.now) (state g.S.Store c.next.follows.lender-at-none.conn.now) c.rows.invariant.1
     (λ clean. moved_leaves _ _ c.next.result (c.next.follows.holds-at-none.same clean) (c.next.follows.holds-at-none.kept clean)) c.next.follows.holds-at-none.mode c.next.follows.holds-at-none.survives in
     let good : c.in_ok-faulty.field-0 ≡ None = search rules in
-    let step = subst (DoesTake c.args.books.now c.rows.tallies c.take_member.new.tallies c.rows.last c.take_member.new.last c.in-Some.row.now) good c.in_ok-faulty.ensures in (
+    let step = subst (DoesTake c.args.books.now c.rows.tallies c.take_member.new.tallies c.rows.last c.take_member.new.last c.in-Some.row.now) good c.in_ok-faulty.ensures.takes in (
       moved.same_reference ∙ c.rows.invariant.0,
       looked,
       λ clean has.
@@ -137,8 +137,10 @@ returns-in_err-row-clause-fails_from_outside g c ms clean has there kept =
     let fails = (rw c.in_err-row.was at (moved.err late)) scan_text [] was.0 was.1 in
     let still : mid.now.schema ≡ book_schema = ap (λ (d : Database). d.schema) was.2.0.now_is ∙ has in
     let said : c.from_residual-in_err-row.result ≡ Err c.in_err-row.field-0.0 = search rules in
+    let caused : HasOutsideCauseOfError (state g.S.Store c.args.conn.now) (state g.S.Store c.next.follows.lender-at-none.conn.now) c.from_residual-in_err-row.result =
     subst (HasOutsideCauseOfError old new) (sym said)
-    (λ room. outside_later old mid new _ _ c.rows.invariant.1.survives early moved.survives (scan_fails mid new c.in_err-row.field-0.0 still fails room))
+    (λ room. outside_later old mid new _ _ c.rows.invariant.1.survives early moved.survives (scan_fails mid new c.in_err-row.field-0.0 still fails room)) in
+    search rules
 
 pub returns-in_err-faulty-clause-fails_from_outside : goal.returns-in_err-faulty-clause-fails_from_outside
 returns-in_err-faulty-clause-fails_from_outside g c ms clean has there kept =
@@ -156,4 +158,6 @@ returns-in_err-faulty-clause-fails_from_outside g c ms clean has there kept =
     let got = scan_rises new ms rows (ap (λ (d : Database). d.schema) now_is ∙ has) (subst (λ (d : Database). HoldMembers (d.trees 4) ms) (sym now_is) there) kept begins in
     let above = above_last c.rows.last was.0 c.in-Some.row.now was.3.last_of (rises_above was.0 c.in-Some.row.now got.0 got.1) in
     let said : c.from_residual-in_err-faulty.result ≡ Err c.in_err-faulty.field-0.0 = search rules in
-    subst (HasOutsideCauseOfError old new) (sym said) (λ room. absurd (true≢false (sym above ∙ c.in_err-faulty.ensures.fails room)))
+    let caused : HasOutsideCauseOfError (state g.S.Store c.args.conn.now) (state g.S.Store c.next.follows.lender-at-none.conn.now) c.from_residual-in_err-faulty.result =
+    subst (HasOutsideCauseOfError old new) (sym said) (λ room. absurd (true≢false (sym above ∙ c.in_err-faulty.ensures.fails room))) in
+    search rules
