@@ -12,7 +12,7 @@ use Rattle.sqlite_store.specs.FileStore.{faults, is_shielded, recovers, view}
 use Rattle.sqlite_store.specs.declared.store.FileStore.{FileStore}
 use Rattle.sqlite_trees.specs.View.{IsQuiet}
 use Rattle.store_check.specs.FaultSearches.{AreFaulty, IsFaultSearch, IsSearchFault}
-use Rattle.store_check.specs.OpenResults.{IsOpenResult, max_limits}
+use Rattle.store_check.specs.OpenResults.{IsOpenResult, OpensWellFormed, max_limits}
 use Rattle.store_check.specs.declared.faults.FaultyRow.{FaultyRow}
 use Rattle.store_rows.specs.SoundTables.{HoldsWellFormed}
 use Rattle.store_schema.specs.StoredSchema.{ChangesNothing}
@@ -33,13 +33,17 @@ opening_fault db Memory is = tt
 
 module _ {D : Type 0} {g : Ghosts D} (image : Image) (conn searched : Held (FileStore D g)) (last : FileStore D g) (opened : HasCleanDisk (file_state conn) → Opens (file_state conn) × IsLive (file_state conn)) (found : HasCleanDisk (file_state conn) → FindsIn image (file_state conn))
     (quiet : IsQuiet view faults recovers is_shielded searched.store last) where
-  pub searched_files : (result : Result (Option FaultyRow) OpenFault) → (HasCleanDisk (file_state searched) → IsFaultSearch max_limits (file_state conn).now result) → ChangesNothing (file_state conn) (file_state searched)
+  pub searched_files : (result : Result (Option FaultyRow) OpenFault) → (HasCleanDisk (file_state searched) → IsFaultSearch max_limits (file_state conn).now result) → OpensWellFormed max_limits (file_state conn) (file_state searched) result → ChangesNothing (file_state conn) (file_state searched)
       → IsFileSearch image result (Some (leftover.Store last))
-  searched_files (Ok None) searched_is unchanged = λ is_clean.
+  searched_files (Ok None) searched_is opens unchanged = λ is_clean.
       let clean = still_clean searched last quiet is_clean in
       shown image conn searched last opened found quiet (HoldsWellFormed max_limits) (omega (arith, clean, unchanged.survives.clean)) (searched_is clean)
-  searched_files (Ok (Some f)) searched_is unchanged = λ is_clean.
+  searched_files (Ok (Some f)) searched_is opens unchanged = λ is_clean.
       let clean = still_clean searched last quiet is_clean in
       shown image conn searched last opened found quiet (λ db. AreFaulty max_limits db f) (omega (arith, clean, unchanged.survives.clean)) (searched_is clean)
-  searched_files (Err fault) searched_is unchanged =
-      opened_fault image conn searched last opened found quiet fault (record { left_unchanged = unchanged; right_fault = λ clean. opening_fault (file_state conn).now fault (searched_is clean) })
+  searched_files (Err fault) searched_is opens unchanged =
+      opened_fault image conn searched last opened found quiet fault (record {
+        left_unchanged = unchanged;
+        right_fault = λ clean. opening_fault (file_state conn).now fault (searched_is clean);
+        from_outside = opens;
+      })

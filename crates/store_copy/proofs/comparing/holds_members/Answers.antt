@@ -1,7 +1,7 @@
 -- The members of a table are compared with a list, one row at a time.
 -- Given here: an induction over the rows so far. The invariant says that the query gave them, that
 -- nothing changed, and that they are the first `place` of the list, with their new ids. At the end
--- they are all rows of the table (`all_listed`), and all of the list if `place` is its length.
+-- they are all rows of the table (`members_listed`), and all of the list if `place` is its length.
 -- If the query gets another text than `all_members_text`, the first two answers break.
 use Rattle.std.proofs.Common.{rules, inl, inr, arith, refl, ap, subst, ◌∙◌, ◌≡◌, [], ◌∷◌, ◌++◌, map, take, length, IsPermutation}
 use Rattle.std.proofs.Math.Seq.{take-length}
@@ -16,8 +16,8 @@ use Rattle.store_tables.proofs.Lookups.{plain_under, reads_on, moved_leaves, ref
 use Rattle.store_tables.proofs.Queries.{all_members_text}
 use Rattle.store_tables.proofs.ReturningLemmas.{shown_open}
 use Rattle.store_tables.proofs.Texts.{all_members_is, all_members_selects}
-use Rattle.store_check.proofs.ScanLemmas.{all_listed}
 use Rattle.store_copy.specs.RowsWithout.{HaveNewIds}
+use Rattle.store_copy.proofs.CompareLemmas.{members_listed}
 use Rattle.store_copy.proofs.comparing.holds_members.Goals as goal
 
 pub returns-in_err-rows-clause-reads_only : goal.returns-in_err-rows-clause-reads_only
@@ -65,7 +65,7 @@ returns-in_default-clause-same g c clean has ended =
     let late : HasCleanDisk (state g.S.Store c.next.follows.lender-at-none.conn.now) = search rules in
     let was = c.rows.invariant.2 (omega (arith, moved.survives.clean)) has in
     let shown = (rw (c.in_ok-row.was, c.in_default.is) at (moved.ok late)) all_members_text [] was.0 was.1 in
-    let listed = all_listed mid new was.0 (ap (λ (d : Database). d.schema) was.2.0.now_is ∙ has) shown in
+    let listed = members_listed mid new was.0 (ap (λ (d : Database). d.schema) was.2.0.now_is ∙ has) shown in
     let members = c.args.members.now in
     let whole : c.rows.place ≡ length members = search rules in
     let all : take c.rows.place members ≡ members = ap (λ n. take n members) whole ∙ take-length members in (

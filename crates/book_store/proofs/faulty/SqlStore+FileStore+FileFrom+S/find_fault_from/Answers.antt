@@ -1,6 +1,7 @@
-use Rattle.std.proofs.Common.{◌≡◌}
+use Rattle.std.proofs.Common.{◌≡◌, subst}
+use Rattle.sqlite.specs.Files.{file_state}
 use Rattle.sqlite.specs.WalFiles.{image_at}
-use Rattle.store_check.specs.OpenResults.{max_limits}
+use Rattle.store_check.specs.OpenResults.{OpensWellFormed, max_limits}
 use Rattle.store_schema.proofs.LeftoverLemmas.{seen_alike}
 use Rattle.book_store.proofs.RefusalLemmas.{fails_over}
 use Rattle.book_store.proofs.SearchLemmas.{searched_files}
@@ -9,7 +10,8 @@ use Rattle.book_store.proofs.faulty.SqlStore+FileStore+FileFrom+S.find_fault_fro
 pub returns-in-Ok : goal.returns-in-Ok
 returns-in-Ok g c =
     let same : c.standard.result ≡ max_limits = c.standard.ensures in
-    searched_files (image_at g.S.Start) c.in-Ok.connection c.find_faulty_row-found.new.conn c.into_store.result c.in-Ok.ensures.opened c.in-Ok.ensures.found c.into_store.ensures.quiet c.find_faulty_row-found.result (rw same at c.find_faulty_row-found.ensures.answers) c.find_faulty_row-found.ensures.changes_nothing
+    searched_files (image_at g.S.Start) c.in-Ok.connection c.find_faulty_row-found.new.conn c.into_store.result c.in-Ok.ensures.opened c.in-Ok.ensures.found c.into_store.ensures.quiet c.find_faulty_row-found.result (rw same at c.find_faulty_row-found.ensures.answers)
+    (subst (λ limits. OpensWellFormed limits (file_state c.in-Ok.connection) (file_state c.find_faulty_row-found.new.conn) c.find_faulty_row-found.result) same c.find_faulty_row-found.ensures.opens) c.find_faulty_row-found.ensures.changes_nothing
 
 pub returns-in-Err : goal.returns-in-Err
 returns-in-Err g c =
