@@ -28,7 +28,7 @@ member_fault_words member.Columns =
 member_fault_words member.NoBook = codes "no book has the id of its book"
 member_fault_words member.Number = codes "its change isn't numbered from 1 to the book's number"
 member_fault_words member.Card = codes "the card isn't a card's canonical text"
-member_fault_words member.Uid = codes "the card has another UID"
+member_fault_words member.Uid = codes "the UID isn't legal, or the card has another one"
 member_fault_words member.Tombstone = codes "the tombstone isn't above the book's horizon"
 
 abbrev pub import_fault_words : ImportFault → List ℕ

@@ -32,7 +32,7 @@ fn member_fault_words(fault: MemberFault) -> &'static str
         MemberFault::NoBook => "no book has the id of its book",
         MemberFault::Number => "its change isn't numbered from 1 to the book's number",
         MemberFault::Card => "the card isn't a card's canonical text",
-        MemberFault::Uid => "the card has another UID",
+        MemberFault::Uid => "the UID isn't legal, or the card has another one",
         MemberFault::Tombstone => "the tombstone isn't above the book's horizon",
     }
 }

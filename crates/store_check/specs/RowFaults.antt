@@ -1,5 +1,5 @@
 -- Which rows are faulty, and why. Each fault means that a test of `RowChecks` fails.
-use Rattle.std.specs.Prelude.{◌≡◌, ◌+◌, ◌<◌, ◌≤◌, ℕ, ℤ, false, List, [], Option, Some, None}
+use Rattle.std.specs.Prelude.{◌≡◌, ◌⊎◌, ◌+◌, ◌<◌, ◌≤◌, ℕ, ℤ, false, List, [], Option, Some, None}
 use Rattle.std.specs.Prelude.{IfSome}
 use Rattle.std.specs.Prelude.{filter, find, length, map}
 use Rattle.std.specs.Option.{option_map_or}
@@ -15,7 +15,7 @@ use Rattle.store_tables.specs.Keeps.{KeepRow}
 use Rattle.store_tables.specs.Members.{MemberRow, is_removed_above}
 use Rattle.store_rows.specs.TableBooks.{keep_of_book, row_counts}
 use Rattle.store_rows.specs.TableRows.{load_import, load_member}
-use Rattle.store_rows.specs.Values.{IsCanonical, natural, text_card}
+use Rattle.store_rows.specs.Values.{IsCanonical, IsLegalUid, natural, text_card}
 use Rattle.store_check.specs.BookChecks.{AgreesWithMembers, HasValidNumbers, IsCheckedBook}
 use Rattle.store_check.specs.BookChecks.{IsCheckedImport, IsIdUpTo, is_live_in}
 use Rattle.store_check.specs.RowChecks.{IsBookAnd, IsBookRow, IsImportRow, IsKeepRow, IsMemberRow}
@@ -84,8 +84,8 @@ HasMemberFault books r member.NoBook = find (has_id (load_member r).book) books 
 HasMemberFault books r member.Number =
     IsBookAnd books (load_member r).book (λ b. ¬ IsChangeOf (load_member r) b)
 HasMemberFault books r member.Card = ¬ IfSome (load_member r).card IsCanonical
-HasMemberFault books r member.Uid =
-    ¬ IfSome (load_member r).card (λ text. uid_of (text_card text) ≡ (load_member r).uid)
+HasMemberFault books r member.Uid = ¬ (IsLegalUid (load_member r).uid
+    × IfSome (load_member r).card (λ text. uid_of (text_card text) ≡ (load_member r).uid))
 HasMemberFault books r member.Tombstone = ((load_member r).card ≡ None)
     × IsBookAnd books (load_member r).book
     (λ b. natural (load_member r).changed ≤ natural b.numbers.horizon)
@@ -95,6 +95,12 @@ abbrev pub JudgesCard : List ℕ → List ℕ → Option MemberFault → Type 0
 JudgesCard text uid None = IsOwnCard text uid
 JudgesCard text uid (Some fault) = (books : List BookRow) (r : Row) →
     (load_member r).card ≡ Some text → (load_member r).uid ≡ uid → HasMemberFault books r fault
+
+-- the tombstone's fault, if it has one; else its UID is legal, and its number above the horizon
+abbrev pub JudgesTombstone : List ℕ → ℕ → ℕ → Option MemberFault → Type 0
+JudgesTombstone uid changed horizon None = IsLegalUid uid × (horizon < changed)
+JudgesTombstone uid changed horizon (Some fault) = ((fault ≡ member.Uid) × ¬ IsLegalUid uid)
+    ⊎ ((fault ≡ member.Tombstone) × (changed ≤ horizon))
 
 -- the member's fault in this book, if it has one; else it is valid there
 abbrev pub JudgesMemberOf : Row → BookRow → Option MemberFault → Type 0

@@ -60,7 +60,7 @@ pub enum MemberFault {
     Number,
     /// The text of the card is not the canonical text of a card.
     Card,
-    /// The card has another UID.
+    /// The UID is not legal, or the card has another one.
     Uid,
     /// A tombstone is not above the book's horizon.
     Tombstone,

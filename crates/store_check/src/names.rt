@@ -1,9 +1,11 @@
-//! Tests whether octets are a legal book name or import key.
+//! Tests whether octets are a legal book name, import key or UID.
 ghost use Rattle.book_model.specs.BookNames.{is_legal_name};
 ghost use Rattle.book_model.specs.Importing.{is_legal_key};
-ghost use Rattle.std.specs.Prelude.{◌≡◌};
+ghost use Rattle.store_rows.specs.Values.{IsLegalUid};
+ghost use Rattle.std.specs.Prelude.{◌≡◌, ◌↔◌, IsTrue};
 
 use book_model::decisions::{is_book_name, is_import_key};
+use vcard_text::UID_OCTETS_MAX;
 
 /// Whether the octets are a legal book name.
 pub(crate) fn is_name_text(octets: &[u8]) -> bool
@@ -23,4 +25,14 @@ pub(crate) fn is_key_text(octets: &[u8]) -> bool
         Ok(key) => is_import_key(key),
         Err(_) => false,
     }
+}
+
+/// Whether the octets are a legal UID.
+pub(crate) fn is_uid_text(octets: &[u8]) -> bool
+    ensures { IsTrue result ↔ IsLegalUid octets.now }
+{
+    if octets.is_empty() || octets.len() > UID_OCTETS_MAX || octets.contains(&b'\t') {
+        return false;
+    }
+    str::from_utf8(octets).is_ok()
 }

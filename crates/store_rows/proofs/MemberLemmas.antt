@@ -12,7 +12,7 @@ use Rattle.book_model.specs.declared.row.Row.{Row as Kept}
 use Rattle.store_tables.specs.Members.{MemberRow, has_uid, upsert_member}
 use Rattle.store_tables.proofs.KeyedRows.{same_int, int_itself}
 use Rattle.store_rows.specs.SoundTables.{IsReadableMember}
-use Rattle.store_rows.specs.Values.{natural, text_card, IsCanonical, IsNatural}
+use Rattle.store_rows.specs.Values.{natural, text_card, IsCanonical, IsLegalUid, IsNatural}
 use Rattle.store_rows.specs.TableBooks.{model_row, members_in}
 use Rattle.store_rows.proofs.KeyedEntries.{key_is, text_turned}
 use Rattle.store_rows.proofs.RowLemmas.{get-members_in}
@@ -69,12 +69,12 @@ module _ (id book : ℤ) (uid : List ℕ) (changed : ℤ) (card : Option (List �
       get-members_in other _ q ∙ find_put other q ms ∙ ap (λ t. cond (t && bytes_eq uid q) (Some (put_row changed card)) (option_map model_row (find (has_uid other q) ms))) apart ∙ sym (get-members_in other ms q))
 
   -- the members stay readable
-  pub readable_put : (ms : List MemberRow) → IsNatural changed → IfSome card IsCanonical → AllByRecursion IsReadableMember ms → AllByRecursion IsReadableMember (upsert_member id book uid changed card ms)
-  readable_put [] natural canonical h = (record { changed = natural; card = canonical }, tt)
-  readable_put (m ∷ ms) natural canonical h = step (has_uid book uid m) refl (readable_put ms natural canonical h.1)
+  pub readable_put : (ms : List MemberRow) → IsLegalUid uid → IsNatural changed → IfSome card IsCanonical → AllByRecursion IsReadableMember ms → AllByRecursion IsReadableMember (upsert_member id book uid changed card ms)
+  readable_put [] legal natural canonical h = (record { uid = legal; changed = natural; card = canonical }, tt)
+  readable_put (m ∷ ms) legal natural canonical h = step (has_uid book uid m) refl (readable_put ms legal natural canonical h.1)
     where
       step : (t : Bool) → has_uid book uid m ≡ t → AllByRecursion IsReadableMember (upsert_member id book uid changed card ms) → AllByRecursion IsReadableMember (upsert_member id book uid changed card (m ∷ ms))
-      step true e more = rw e (record { changed = natural; card = canonical }, h.1)
+      step true e more = rw e (record { uid = h.0.uid; changed = natural; card = canonical }, h.1)
       step false e more = rw e (h.0, more)
 
   -- each member belongs to a book with the fact

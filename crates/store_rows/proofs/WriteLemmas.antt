@@ -64,12 +64,12 @@ sound_members rows ms sound kept all readable = record {
 }
 
 pub put_held : PutsAreHeld
-put_held old new rows b uid changed card h sound there natural canonical is w =
+put_held old new rows b uid changed card h sound there legal natural canonical is w =
     let all = all_put is.id b.id uid changed card (HasBookId rows.books) rows.members (listed rows.books b there) sound.listed_members in
     record {
       id = is.id;
       holds = holds_members old new rows _ h is.hold w;
-      within = members_within b.id rows _ (sound_members rows _ sound is.kept all (readable_put is.id b.id uid changed card rows.members natural canonical sound.readable.members))
+      within = members_within b.id rows _ (sound_members rows _ sound is.kept all (readable_put is.id b.id uid changed card rows.members legal natural canonical sound.readable.members))
           (λ other e. others_put is.id b.id uid changed card other rows.members (int_turned b.id other ∙ e));
     }
 

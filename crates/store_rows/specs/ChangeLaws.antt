@@ -12,7 +12,7 @@ use Rattle.book_model.specs.BookChanges.{card_after, book_with_row}
 use Rattle.book_model.specs.Counting.{counts_after_change}
 use Rattle.store_tables.specs.Books.{BookRow, Numbers, HoldBooks, with_book_numbers}
 use Rattle.store_tables.specs.Members.{PutsRow}
-use Rattle.store_rows.specs.Values.{text_card, IsCanonical, IsNatural}
+use Rattle.store_rows.specs.Values.{text_card, IsCanonical, IsLegalUid, IsNatural}
 use Rattle.store_rows.specs.TableRows.{TableRows, HoldsRows, WritesTable, put_rows, renumbered_rows}
 use Rattle.store_rows.specs.TableBooks.{HeaderRow, line_row, row_book, books_of}
 use Rattle.store_rows.specs.SoundTables.{AreNaturalNumbers, AreSoundRows}
@@ -47,7 +47,7 @@ pub record HoldsPut (db : Database) (rows : TableRows) (b : BookRow) (uid : List
 abbrev pub PutsAreHeld : Type 0
 PutsAreHeld = (old new : Database) (rows : TableRows) (b : BookRow) (uid : List ℕ) (changed : ℤ)
     (card : Option (List ℕ)) → HoldsRows old rows → AreSoundRows rows → Has rows.books b →
-    IsNatural changed → IfSome card IsCanonical →
+    IsLegalUid uid → IsNatural changed → IfSome card IsCanonical →
     PutsRow new.trees b.id uid changed card rows.members → WritesTable 4 old new →
     HoldsPut new rows b uid changed card
 

@@ -8,7 +8,7 @@ use Rattle.store_tables.specs.Books.{BookRow, Numbers, AreBooks, has_id}
 use Rattle.store_tables.specs.Members.{MemberRow, AreMembers}
 use Rattle.store_tables.specs.Imports.{ImportRow, AreImports}
 use Rattle.store_tables.specs.Keeps.{KeepRow, AreKeeps}
-use Rattle.store_rows.specs.Values.{IsNatural, IsCanonical}
+use Rattle.store_rows.specs.Values.{IsCanonical, IsLegalUid, IsNatural}
 use Rattle.store_rows.specs.TableRows.{TableRows, HoldsRows}
 use Rattle.store_rows.specs.TableBooks.{books_of}
 
@@ -29,8 +29,9 @@ pub record IsReadableBook (b : BookRow) : Type 0 where
   pub id : IsNatural b.id
   pub numbers : AreNaturalNumbers b.numbers
 
--- the text of a card is canonical
+-- the UID is legal, and the text of a card is canonical
 pub record IsReadableMember (m : MemberRow) : Type 0 where
+  pub uid : IsLegalUid m.uid
   pub changed : IsNatural m.changed
   pub card : IfSome m.card IsCanonical
 
@@ -43,7 +44,8 @@ pub record IsReadableImport (i : ImportRow) : Type 0 where
 abbrev pub IsReadableKeep : KeepRow → Type 0
 IsReadableKeep k = IsNatural k.keep
 
--- no number is negative, and the text of each card is canonical: no default replaces a value
+-- no number is negative, each UID is legal, and the text of each card is canonical: no default
+-- replaces a value
 pub record AreReadable (rows : TableRows) : Type 0 where
   pub books : AllByRecursion IsReadableBook rows.books
   pub members : AllByRecursion IsReadableMember rows.members
@@ -58,7 +60,8 @@ HasBookId bs id = list_any (has_id id) bs ≡ true
 
 -- Ids and names of books are unique, and so are UIDs and import keys in one book. A book has at
 -- most one keep. Each member, import and keep belongs to a book of the table. No number is negative,
--- and the text of each card is canonical: so no default replaces a value of the rows in their books.
+-- each UID is legal, and the text of each card is canonical: so no default replaces a value of the
+-- rows in their books.
 pub record AreSoundRows (rows : TableRows) : Type 0 where
   pub books : AreBooks rows.books
   pub members : AreMembers rows.members

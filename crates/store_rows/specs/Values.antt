@@ -1,11 +1,12 @@
 -- The numbers, texts and cards of column values.
-use Rattle.std.specs.Prelude.{◌≡◌, ℕ, ℤ, pos, negsuc, List, [], Option, Some, None, Result, Ok, Err}
+use Rattle.std.specs.Prelude.{◌≡◌, ℕ, ℤ, pos, negsuc, true, List, [], Option, Some, None}
+use Rattle.std.specs.Prelude.{IsUtf8, Result, Ok, Err}
 use Rattle.sqlite.specs.declared.types.Value.{Value}
 use Rattle.sqlite.specs.declared.types.Value.TheVariants.{Null, Int, Real, Text, Blob}
 use Rattle.vcard_lines.specs.declared.fault.CardFault.{CardFault}
 use Rattle.vcard_lines.specs.declared.line.Line.{Line}
 use Rattle.vcard_text.specs.CardOfText.{card_of_text}
-use Rattle.vcard_text.specs.Cards.{canonical_text}
+use Rattle.vcard_text.specs.Cards.{canonical_text, is_uid}
 
 -- ---- numbers
 
@@ -35,6 +36,11 @@ text_or_none (Int n) = None
 text_or_none (Real x) = None
 text_or_none (Text t) = Some t
 text_or_none (Blob b) = None
+
+-- a legal UID (RFC 6350, section 6.7.6): UTF-8 of 1 to 255 octets, without a tab
+pub record IsLegalUid (uid : List ℕ) : Type 0 where
+  pub utf8 : IsUtf8 uid
+  pub legal : is_uid uid ≡ true
 
 -- ---- cards
 
