@@ -1,5 +1,5 @@
 -- Which rows are faulty, and why. Each fault means that a test of `RowChecks` fails.
-use Rattle.std.specs.Prelude.{◌≡◌, ◌⊎◌, ◌+◌, ◌<◌, ◌≤◌, ℕ, ℤ, false, List, [], Option, Some, None}
+use Rattle.std.specs.Prelude.{◌≡◌, ◌+◌, ◌<◌, ◌≤◌, ℕ, ℤ, false, List, [], Option, Some, None}
 use Rattle.std.specs.Prelude.{IfSome}
 use Rattle.std.specs.Prelude.{filter, find, length, map}
 use Rattle.std.specs.Option.{option_map_or}
@@ -95,12 +95,6 @@ abbrev pub JudgesCard : List ℕ → List ℕ → Option MemberFault → Type 0
 JudgesCard text uid None = IsOwnCard text uid
 JudgesCard text uid (Some fault) = (books : List BookRow) (r : Row) →
     (load_member r).card ≡ Some text → (load_member r).uid ≡ uid → HasMemberFault books r fault
-
--- the tombstone's fault, if it has one; else its UID is legal, and its number above the horizon
-abbrev pub JudgesTombstone : List ℕ → ℕ → ℕ → Option MemberFault → Type 0
-JudgesTombstone uid changed horizon None = IsLegalUid uid × (horizon < changed)
-JudgesTombstone uid changed horizon (Some fault) = ((fault ≡ member.Uid) × ¬ IsLegalUid uid)
-    ⊎ ((fault ≡ member.Tombstone) × (changed ≤ horizon))
 
 -- the member's fault in this book, if it has one; else it is valid there
 abbrev pub JudgesMemberOf : Row → BookRow → Option MemberFault → Type 0

@@ -1,6 +1,6 @@
 //! Checks a row of `member`.
 ghost use Rattle.store_check.specs.RowChecks.{IsMemberRow};
-ghost use Rattle.store_check.specs.RowFaults.{JudgesCard, JudgesMemberOf, JudgesTombstone};
+ghost use Rattle.store_check.specs.RowFaults.{JudgesCard, JudgesMemberOf};
 ghost use Rattle.store_rows.specs.Values.{IsCanonical, natural, text_card};
 ghost use Rattle.store_tables.specs.Books.{BookRow};
 ghost use Rattle.std.specs.Prelude.{◌≡◌, ◌↔◌, IfOk, IfSome, IsTrue, is_some};
@@ -50,20 +50,6 @@ fn card_fault(alloc: Global, text: &[u8], uid: &[u8]) -> Result<Option<MemberFau
     }
 }
 
-/// What is wrong with a tombstone of this UID and this number, if anything is.
-fn tombstone_fault(uid: &[u8], changed: u64, horizon: u64) -> Option<MemberFault>
-    ensures { JudgesTombstone uid.now changed horizon result }
-{
-    if !is_uid_text(uid) {
-        return Some(MemberFault::Uid);
-    }
-    if horizon < changed {
-        None
-    } else {
-        Some(MemberFault::Tombstone)
-    }
-}
-
 /// What is wrong with the member in a book with this number and this horizon, if anything is.
 pub(crate) fn fault_in_book(
     alloc: Global,
@@ -79,9 +65,17 @@ pub(crate) fn fault_in_book(
     if changed < 1 || changed > number {
         return Ok(Some(MemberFault::Number));
     }
+    let uid = text_at(member, 2);
+    if !is_uid_text(uid) {
+        return Ok(Some(MemberFault::Uid));
+    }
     match text_if_any_at(member, 4) {
-        Some(text) => card_fault(alloc, text, text_at(member, 2)),
-        None => Ok(tombstone_fault(text_at(member, 2), changed, natural_of(horizon))),
+        Some(text) => card_fault(alloc, text, uid),
+        None => if natural_of(horizon) < changed {
+            Ok(None)
+        } else {
+            Ok(Some(MemberFault::Tombstone))
+        },
     }
 }
 

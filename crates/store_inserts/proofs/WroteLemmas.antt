@@ -16,7 +16,7 @@ use Rattle.store_tables.specs.SchemaCreation.{HoldsInTx}
 use Rattle.store_tables.specs.Members.{PutsRow}
 use Rattle.store_tables.specs.StatementEffects.{WritesOnly}
 use Rattle.store_rows.specs.AddLaws.{import_tally_row}
-use Rattle.store_rows.specs.ChangeLaws.{IsCardTextOf, WritesWithin, header_after}
+use Rattle.store_rows.specs.ChangeLaws.{IsRowOfChange, WritesWithin, header_after}
 use Rattle.store_rows.specs.TableBooks.{HeaderRow, row_book, books_of, line_row, numbers_row, row_tally}
 use Rattle.store_rows.specs.TableRows.{TableRows, HoldsRows, put_rows, import_rows, renumbered_rows}
 use Rattle.store_rows.proofs.AddedLemmas.{import_added, import_kept}
@@ -47,12 +47,12 @@ row_remains rows now name line same there = subst (λ bs. Has bs (line_row name 
 
 -- a member was written
 module _ (old new : State) (rows : TableRows) (name : List ℕ) (header : HeaderRow) (book : Book) (uid : List ℕ) (text : Option (List ℕ)) (change : Change) (wrote : WritesBook old.now rows name header book) where
-  pub put_wrote : IsCardTextOf text change → PutsRow new.now.trees (pos header.id) uid (pos (header.number + 1)) text wrote.now.members → WritesOnly 4 old new
+  pub put_wrote : IsRowOfChange uid text change → PutsRow new.now.trees (pos header.id) uid (pos (header.number + 1)) text wrote.now.members → WritesOnly 4 old new
       → HoldsInTx new (λ db. WritesBook db rows name (header_after change header) (book_with_row book uid change))
   put_wrote is put writes =
       let same = ap pos wrote.same_id in
       let there = row_remains rows wrote.now name wrote.line wrote.within.books wrote.there in
-      let one = put_held old.now new.now wrote.now (line_row name wrote.line) uid (pos (header.number + 1)) text wrote.holds wrote.within.sound there refl is.canonical
+      let one = put_held old.now new.now wrote.now (line_row name wrote.line) uid (pos (header.number + 1)) text wrote.holds wrote.within.sound there is.uid refl is.canonical
       (subst (λ z. PutsRow new.now.trees z uid (pos (header.number + 1)) text wrote.now.members) (sym same) put) (writes_table 4 old new writes) in
       let made = λ (z : ℤ). put_rows one.id z uid (pos (header.number + 1)) text wrote.now in
       let holds : HoldsRows new.now (made (pos header.id)) = subst (λ z. HoldsRows new.now (made z)) same one.holds in

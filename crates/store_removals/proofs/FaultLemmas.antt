@@ -1,14 +1,12 @@
 -- What a planned removal or move gives to its writes.
-use Rattle.std.proofs.Common.{◌≡◌, ◌<◌, ◌≤◌, ◌+◌, ◌^◌, ℕ, ℤ, pos, Bool, true, false, not, is_some, List, [], ◌∷◌, filter, map, take, min, inl, Option, Some, None, Result, Ok, IfSome, refl, sym, ap, subst, ◌∙◌, arith}
+use Rattle.std.proofs.Common.{◌≡◌, ◌<◌, ◌≤◌, ◌+◌, ◌^◌, ℕ, ℤ, pos, Bool, true, false, not, is_some, List, [], ◌∷◌, filter, map, take, min, Option, Some, None, Result, Ok, IfSome, refl, ap, ◌∙◌, arith}
 use Rattle.std.specs.Option.{option_map_or}
 use Rattle.std.specs.List.{AllByRecursion}
 use Rattle.sqlite.specs.Order.{Row, column}
 use Rattle.sqlite.specs.declared.types.Value.TheVariants.{Int}
-use Rattle.sqlite_rules.specs.Lists.{Has}
 use Rattle.sqlite_trees.proofs.ListLemmas.{all-permutation}
 use Rattle.book_model.specs.declared.answers.Stored.{Stored}
 use Rattle.book_model.specs.Bounds.{Bounds}
-use Rattle.book_model.specs.Books.{live_at}
 use Rattle.book_model.specs.declared.answers.Moved.{Moved}
 use Rattle.book_model.specs.declared.refusal.Refusal.{Refusal}
 use Rattle.book_model.specs.declared.refusal.Refusal.TheVariants.{BookFull, UidTaken, VersionMismatch}
@@ -17,30 +15,12 @@ use Rattle.std.specs.Prelude.{nat_lt}
 use Rattle.book_model.specs.Moving.{Moving, move_answer, move_numbers, moving_of}
 use Rattle.book_model.specs.Putting.{FoundMember, is_expected, next_number}
 use Rattle.book_model.specs.Removing.{remove_number}
-use Rattle.store_tables.specs.Acceptance.{IsShort}
-use Rattle.store_tables.specs.Books.{BookRow}
-use Rattle.store_tables.specs.Members.{MemberRow, by_changed, has_uid, is_removed_above, number_shown}
+use Rattle.store_tables.specs.Members.{MemberRow, by_changed, is_removed_above, number_shown}
 use Rattle.store_tables.specs.QueryResults.{FindsFirstRow}
-use Rattle.store_tables.proofs.KeyedRows.{all_has}
-use Rattle.store_tables.proofs.RowLemmas.{at_parts}
-use Rattle.store_rows.specs.TableBooks.{row_book}
-use Rattle.store_rows.specs.TableRows.{TableRows}
 use Rattle.store_rows.specs.Values.{natural}
-use Rattle.store_rows.proofs.KeyedEntries.{has_filtered}
-use Rattle.store_rows.proofs.LookupLemmas.{member_missing}
 use Rattle.store_lookups.specs.StoreFaults.{IsFaultlessMember}
 use Rattle.store_lookups.proofs.StoreFaultLemmas.{cell}
 use Rattle.store_writes.proofs.NumberLemmas.{next_room, passed, through}
-
--- the UID of a live card is short
-pub live_short : (rows : TableRows) (b : BookRow) (uid : List ℕ) (stored : Stored) → AllByRecursion (λ m. IsShort m.uid) rows.members → live_at (row_book rows b) uid ≡ Some stored → IsShort uid
-live_short rows b uid stored short live = go (filter (has_uid b.id uid) rows.members) refl
-  where
-    go : (found : List MemberRow) → filter (has_uid b.id uid) rows.members ≡ found → IsShort uid
-    go [] e = let none = member_missing rows b uid (λ _. e) in absurd (let bad = sym none ∙ live in cc)
-    go (m ∷ ms) e =
-        let it = has_filtered (has_uid b.id uid) rows.members m (subst (λ l. Has l m) (sym e) (inl refl)) in
-        subst IsShort (at_parts b.id uid m it.1).1 (all_has (λ m. IsShort m.uid) rows.members m short it.0)
 
 -- a removal that gets a number removes a live card
 pub removes_live : (limits : Bounds) (found : FoundMember) (expect : Option ℕ) (number : ℕ) → remove_number limits found expect ≡ Ok number → (stored : Stored) × (found.live ≡ Some stored)

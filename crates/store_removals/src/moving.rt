@@ -10,7 +10,7 @@ ghost use Rattle.store_lookups.specs.OnConnections.{WriteFaultsFromOutside};
 ghost use Rattle.store_lookups.specs.StoreFaults.{FailsOnlyForMemory};
 ghost use Rattle.store_rows.specs.TableBooks.{numbers_row};
 ghost use Rattle.store_rows.specs.TableRows.{TableRows};
-ghost use Rattle.store_rows.specs.Values.{IsTextOf};
+ghost use Rattle.store_rows.specs.Values.{IsLegalUid, IsTextOf};
 ghost use Rattle.store_writes.specs.TableChanges.{HoldsBooks};
 ghost use Rattle.store_tables.specs.Books.{numbers_of};
 ghost use Rattle.store_removals.specs.internal.Moves.{table_books_after_move};
@@ -60,7 +60,7 @@ fn add_to_target<S: Alter>(
 ) -> Result<(), Denied>
     requires { header.number < 2 ^ 63 }
     ensures same_reference { tx.new.conn.ghost_name ≡ tx.old.conn.ghost_name }
-    ensures books_after { IsTextOf text.now card.now
+    ensures books_after { IsLegalUid uid.now → IsTextOf text.now card.now
         → ChangesBookInTx S.Store tx.old.conn.now tx.new.conn.now header result
         (λ book. book_with_row book uid.now (Stores card.now MoveIn)) }
     ensures obeys { InTxWithBook S.Store tx.old.conn.now tx.new.conn.now header
@@ -107,7 +107,8 @@ fn remove_keeping_horizon<S: Alter>(
 ) -> Result<(), Denied>
     requires { header.number < 2 ^ 63 }
     ensures same_reference { tx.new.conn.ghost_name ≡ tx.old.conn.ghost_name }
-    ensures books_after { ChangesBookInTx S.Store tx.old.conn.now tx.new.conn.now header result
+    ensures books_after { IsLegalUid uid.now
+        → ChangesBookInTx S.Store tx.old.conn.now tx.new.conn.now header result
         (λ book. book_with_row book uid.now (TakesAway MoveOut)) }
     ensures store_fault { header.number + 1 < 2 ^ 63 → (rows : TableRows) (name : List ℕ)
         → AcceptsMemberOf S.Store tx.old.conn.now rows name header uid.now
@@ -136,7 +137,8 @@ fn remove_raising_horizon<S: Alter>(
 ) -> Result<(), Denied>
     requires { header.number < 2 ^ 63 }
     ensures same_reference { tx.new.conn.ghost_name ≡ tx.old.conn.ghost_name }
-    ensures books_after { ChangesBookInTx S.Store tx.old.conn.now tx.new.conn.now header result
+    ensures books_after { IsLegalUid uid.now
+        → ChangesBookInTx S.Store tx.old.conn.now tx.new.conn.now header result
         (λ book. book_after_forget (book_with_row book uid.now (TakesAway MoveOut)) upto) }
     ensures store_fault { header.number + 1 < 2 ^ 63 → upto < 2 ^ 63
         → (rows : TableRows) (name : List ℕ)
@@ -167,7 +169,8 @@ fn remove_from_source<S: Alter>(
 ) -> Result<(), Denied>
     requires { header.number < 2 ^ 63 }
     ensures same_reference { tx.new.conn.ghost_name ≡ tx.old.conn.ghost_name }
-    ensures books_after { ChangesBookInTx S.Store tx.old.conn.now tx.new.conn.now header result
+    ensures books_after { IsLegalUid uid.now
+        → ChangesBookInTx S.Store tx.old.conn.now tx.new.conn.now header result
         (λ book. book_after_drop (book_with_row book uid.now (TakesAway MoveOut)) drop) }
     ensures store_fault { header.number + 1 < 2 ^ 63 → IfSome drop (λ upto. upto < 2 ^ 63)
         → (rows : TableRows) (name : List ℕ)
@@ -198,17 +201,17 @@ fn move_rows<S: Alter>(
     requires to { target.number < 2 ^ 63 }
     ensures same_reference { tx.new.conn.ghost_name ≡ tx.old.conn.ghost_name }
     ensures books_after { InTxWithBothBooks S.Store tx.old.conn.now tx.new.conn.now source target
-        (λ rows from to. IsTextOf text.now card.now
+        (λ rows from to. IsLegalUid uid.now → IsTextOf text.now card.now
         → OnOk result (HoldsInTx S.Store tx.new.conn.now
         (λ db. HoldsBooks db
         (table_books_after_move rows from source to target uid.now card.now drop)))) }
     ensures keeps_commit { InTxWithBothBooks S.Store tx.old.conn.now tx.new.conn.now source target
-        (λ rows from to. IsTextOf text.now card.now
+        (λ rows from to. IsLegalUid uid.now → IsTextOf text.now card.now
         → KeepsCommit S.Store tx.old.conn.now tx.new.conn.now) }
     ensures survives { SurvivesAsBefore S.Store tx.old.conn.now tx.new.conn.now }
     ensures fault { IfErr result IsDeniedFault }
     ensures store_fault { source.number + 1 < 2 ^ 63 → target.number + 1 < 2 ^ 63
-        → IfSome drop (λ upto. upto < 2 ^ 63) → IsShort uid.now → IsShort text.now
+        → IfSome drop (λ upto. upto < 2 ^ 63) → IsLegalUid uid.now → IsShort text.now
         → IsTextOf text.now card.now
         → MoveFaultsFromOutsideTx S.Store tx.old.conn.now tx.new.conn.now source target result }
 {
@@ -229,16 +232,16 @@ fn commit_move<S: Alter>(
     requires settled { conn.old.in_transaction ≡ false }
     requires from { source.number < 2 ^ 63 }
     requires to { target.number < 2 ^ 63 }
-    ensures atomic { IsTextOf text.now card.now
+    ensures atomic { IsLegalUid uid.now → IsTextOf text.now card.now
         → CommitsMove S.Store conn.old conn.new source target result uid.now card.now drop }
     ensures fault { IfErr result IsDeniedFault }
     ensures store_fault { source.number + 1 < 2 ^ 63 → target.number + 1 < 2 ^ 63
-        → IfSome drop (λ upto. upto < 2 ^ 63) → IsShort uid.now → IsShort text.now
+        → IfSome drop (λ upto. upto < 2 ^ 63) → IsLegalUid uid.now → IsShort text.now
         → IsTextOf text.now card.now
         → MoveFaultsFromOutside S.Store conn.old conn.new source target result }
     ensures settled { conn.new.in_transaction ≡ false }
     ensures survives { CountsFaults S.Store conn.old conn.new }
-    ensures crash { IsTextOf text.now card.now
+    ensures crash { IsLegalUid uid.now → IsTextOf text.now card.now
         → CommitsMoveOnce S.Store conn.old conn.new source target uid.now card.now drop }
 {
     assert_no_pending_writes(conn);
@@ -266,15 +269,16 @@ pub(crate) fn write_move<S: Alter>(
     requires settled { conn.old.in_transaction ≡ false }
     requires from { source.number < 2 ^ 63 }
     requires to { target.number < 2 ^ 63 }
-    ensures atomic { CommitsMove S.Store conn.old conn.new source target result uid.now card.now
-        drop }
+    ensures atomic { IsLegalUid uid.now
+        → CommitsMove S.Store conn.old conn.new source target result uid.now card.now drop }
     ensures fault { IfErr result IsDeniedFault }
     ensures store_fault { source.number + 1 < 2 ^ 63 → target.number + 1 < 2 ^ 63
-        → IfSome drop (λ upto. upto < 2 ^ 63) → IsShort uid.now
+        → IfSome drop (λ upto. upto < 2 ^ 63) → IsLegalUid uid.now
         → MoveFaultsFromOutside S.Store conn.old conn.new source target result }
     ensures settled { conn.new.in_transaction ≡ false }
     ensures survives { CountsFaults S.Store conn.old conn.new }
-    ensures crash { CommitsMoveOnce S.Store conn.old conn.new source target uid.now card.now drop }
+    ensures crash { IsLegalUid uid.now
+        → CommitsMoveOnce S.Store conn.old conn.new source target uid.now card.now drop }
 {
     assert_no_pending_writes(conn);
 

@@ -13,7 +13,7 @@ ghost use Rattle.store_tables.specs.Books.{numbers_of};
 ghost use Rattle.store_lookups.specs.OnConnections.{ChangeFaultsFromOutsideInBook};
 ghost use Rattle.store_lookups.specs.StoreFaults.{FailsOnlyForMemory};
 ghost use Rattle.store_rows.specs.TableRows.{TableRows};
-ghost use Rattle.store_tables.specs.Acceptance.{IsShort};
+ghost use Rattle.store_rows.specs.Values.{IsLegalUid};
 ghost use Rattle.store_tables.specs.OnConnections.{
   CountsFaults,
   FailsFromOutside,
@@ -51,7 +51,7 @@ pub(crate) fn write_removal_with_drop<S: Alter>(
 ) -> Result<(), Error>
     ensures same_reference { tx.new.conn.ghost_name ≡ tx.old.conn.ghost_name }
     ensures books_after { (header : HeaderRow) (why : RemovalReason) (last : ℕ)
-        → changed ≡ pos (header.number + 1) → upto ≡ pos last
+        → IsLegalUid uid.now → changed ≡ pos (header.number + 1) → upto ≡ pos last
         → AreHeaderColumns (header_after_drop why last header) id numbers
         → ChangesBookInTx S.Store tx.old.conn.now tx.new.conn.now header result
         (λ book. book_after_forget (book_with_row book uid.now (TakesAway why)) last) }
@@ -80,19 +80,19 @@ fn commit_removal_with_drop<S: Alter>(
 ) -> Result<(), Error>
     requires { conn.old.in_transaction ≡ false }
     ensures atomic { (header : HeaderRow) (why : RemovalReason) (last : ℕ)
-        → changed ≡ pos (header.number + 1) → upto ≡ pos last
+        → IsLegalUid uid.now → changed ≡ pos (header.number + 1) → upto ≡ pos last
         → AreHeaderColumns (header_after_drop why last header) id numbers
         → CommitsBook S.Store conn.old conn.new header result
         (λ book. book_after_forget (book_with_row book uid.now (TakesAway why)) last) }
     ensures settled { conn.new.in_transaction ≡ false }
     ensures survives { CountsFaults S.Store conn.old conn.new }
     ensures crash { (header : HeaderRow) (why : RemovalReason) (last : ℕ)
-        → changed ≡ pos (header.number + 1) → upto ≡ pos last
+        → IsLegalUid uid.now → changed ≡ pos (header.number + 1) → upto ≡ pos last
         → AreHeaderColumns (header_after_drop why last header) id numbers
         → CommitsBookOnce S.Store conn.old conn.new header
         (λ book. book_after_forget (book_with_row book uid.now (TakesAway why)) last) }
     ensures fails_from_outside { (header : HeaderRow) (why : RemovalReason) (last : ℕ)
-        → changed ≡ pos (header.number + 1) → upto ≡ pos last
+        → IsLegalUid uid.now → changed ≡ pos (header.number + 1) → upto ≡ pos last
         → AreHeaderColumns (header_after_drop why last header) id numbers
         → (rows : TableRows) (name : List ℕ)
         → AcceptsMemberOf S.Store conn.old rows name header uid.now changed None
@@ -129,14 +129,14 @@ fn write_deletion<S: Alter>(
 ) -> Result<(), Denied>
     requires settled { conn.old.in_transaction ≡ false }
     requires room { header.number < 2 ^ 63 }
-    ensures atomic { CommitsBook S.Store conn.old conn.new header result
+    ensures atomic { IsLegalUid uid.now → CommitsBook S.Store conn.old conn.new header result
         (λ book. book_with_row book uid.now (TakesAway Deletion)) }
     ensures fault { IfErr result IsDeniedFault }
-    ensures store_fault { header.number + 1 < 2 ^ 63 → IsShort uid.now
+    ensures store_fault { header.number + 1 < 2 ^ 63 → IsLegalUid uid.now
         → ChangeFaultsFromOutsideInBook S.Store conn.old conn.new header result }
     ensures settled { conn.new.in_transaction ≡ false }
     ensures survives { CountsFaults S.Store conn.old conn.new }
-    ensures crash { CommitsBookOnce S.Store conn.old conn.new header
+    ensures crash { IsLegalUid uid.now → CommitsBookOnce S.Store conn.old conn.new header
         (λ book. book_with_row book uid.now (TakesAway Deletion)) }
 {
     assert_no_pending_writes(conn);
@@ -155,14 +155,14 @@ fn write_drop<S: Alter>(
 ) -> Result<(), Denied>
     requires settled { conn.old.in_transaction ≡ false }
     requires room { header.number < 2 ^ 63 }
-    ensures atomic { CommitsBook S.Store conn.old conn.new header result
+    ensures atomic { IsLegalUid uid.now → CommitsBook S.Store conn.old conn.new header result
         (λ book. book_after_forget (book_with_row book uid.now (TakesAway Deletion)) upto) }
     ensures fault { IfErr result IsDeniedFault }
-    ensures store_fault { header.number + 1 < 2 ^ 63 → upto < 2 ^ 63 → IsShort uid.now
+    ensures store_fault { header.number + 1 < 2 ^ 63 → upto < 2 ^ 63 → IsLegalUid uid.now
         → ChangeFaultsFromOutsideInBook S.Store conn.old conn.new header result }
     ensures settled { conn.new.in_transaction ≡ false }
     ensures survives { CountsFaults S.Store conn.old conn.new }
-    ensures crash { CommitsBookOnce S.Store conn.old conn.new header
+    ensures crash { IsLegalUid uid.now → CommitsBookOnce S.Store conn.old conn.new header
         (λ book. book_after_forget (book_with_row book uid.now (TakesAway Deletion)) upto) }
 {
     assert_no_pending_writes(conn);
@@ -183,15 +183,15 @@ pub(crate) fn write_remove<S: Alter>(
 ) -> Result<(), Denied>
     requires settled { conn.old.in_transaction ≡ false }
     requires room { header.number < 2 ^ 63 }
-    ensures atomic { CommitsBook S.Store conn.old conn.new header result
+    ensures atomic { IsLegalUid uid.now → CommitsBook S.Store conn.old conn.new header result
         (λ book. book_after_drop (book_with_row book uid.now (TakesAway Deletion)) drop) }
     ensures fault { IfErr result IsDeniedFault }
     ensures store_fault { header.number + 1 < 2 ^ 63 → IfSome drop (λ upto. upto < 2 ^ 63)
-        → IsShort uid.now
+        → IsLegalUid uid.now
         → ChangeFaultsFromOutsideInBook S.Store conn.old conn.new header result }
     ensures settled { conn.new.in_transaction ≡ false }
     ensures survives { CountsFaults S.Store conn.old conn.new }
-    ensures crash { CommitsBookOnce S.Store conn.old conn.new header
+    ensures crash { IsLegalUid uid.now → CommitsBookOnce S.Store conn.old conn.new header
         (λ book. book_after_drop (book_with_row book uid.now (TakesAway Deletion)) drop) }
 {
     match drop {

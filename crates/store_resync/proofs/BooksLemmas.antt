@@ -130,7 +130,7 @@ module _ (limits : Bounds) (pairs : ℕ) (rows : TableRows) (plans : List BookPl
     sound = sound;
     each = λ i plan at. (planned_at i plan at).named.there;
     apart = plans_apart;
-    texts = λ i plan at. (planned_at i plan at).canonical;
+    legal = λ i plan at. (planned_at i plan at).legal;
   }
 
   abbrev step : Book → Book

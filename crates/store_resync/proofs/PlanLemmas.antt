@@ -10,12 +10,13 @@ use Rattle.std.proofs.lemmas.Option.{same_Some, slice_get-map}
 use Rattle.sqlite.specs.Tree.{Trees}
 use Rattle.base_types.specs.TextMaps.{text_cmp}
 use Rattle.book_model.specs.declared.answers.BookLine.{BookLine}
+use Rattle.book_model.specs.declared.answers.Stored.{Stored}
 use Rattle.book_model.specs.declared.denied.Denied.{Denied}
 use Rattle.book_model.specs.declared.denied.Denied.TheVariants.{Refused, Fault}
 use Rattle.book_model.specs.declared.refusal.Refusal.{Refusal}
 use Rattle.book_model.specs.declared.refusal.Refusal.TheVariants.{NoSuchBook}
 use Rattle.book_model.specs.Bounds.{Bounds}
-use Rattle.book_model.specs.Books.{Book, Books, LiveCards}
+use Rattle.book_model.specs.Books.{Book, Books, LiveCards, live_at}
 use Rattle.book_model.specs.BookQueries.{book_line_in_rows, book_lines, cards_step, live_cards}
 use Rattle.book_model.specs.CallOutcomes.{MatchesStep, ◌>>=◌}
 use Rattle.book_resync.specs.Resyncing.{accept_books, books_after_resync, counts_after_pairs, first_live_card, has_room, last_number, last_number_of, number_after_pairs, renewed_card, resync_step}
@@ -23,13 +24,18 @@ use Rattle.book_model.specs.Counting.{live_count, total_changes}
 use Rattle.book_model.specs.declared.counts.Counts.{Counts}
 use Rattle.store_rows.specs.LookupLaws.{IsBookNamed}
 use Rattle.store_rows.specs.TableBooks.{HeaderRow, books_of, line_row, row_book}
+use Rattle.store_rows.specs.SoundTables.{AreSoundRows}
 use Rattle.store_rows.specs.TableRows.{TableRows}
+use Rattle.store_rows.specs.Values.{IsLegalUid}
+use Rattle.store_rows.proofs.CardLemmas.{get-live_cards}
+use Rattle.store_rows.proofs.UidLemmas.{live_legal}
+use Rattle.store_tables.specs.Books.{BookRow}
 use Rattle.store_lookups.specs.CallResults.{FindsHeader, FollowsStep}
 use Rattle.store_lookups.specs.Faults.{IsDeniedFault}
 use Rattle.store_writes.specs.TableChanges.{HoldBooksAfter, TreesHold}
 use Rattle.store_resync.specs.declared.planning.BookPlan.{BookPlan}
 use Rattle.store_resync.specs.declared.planning.Renewal.{Renewal}
-use Rattle.store_resync.specs.internal.Plans.{ArePlans, HasCanonicalText, HasShortText, IsBookPlan, IsRenewed, planned_entry}
+use Rattle.store_resync.specs.internal.Plans.{ArePlans, HasCanonicalText, HasLegalRow, HasShortText, IsBookPlan, IsRenewed, planned_entry}
 use Rattle.store_resync.proofs.ListLemmas.{accepts_more, all_more, found_at, map_more, refuses_at, take_more}
 
 -- ---- results
@@ -77,6 +83,20 @@ with_room limits book room = rw room tt
 pub without_room : (limits : Bounds) (book : Book) (renewed : Option Renewal) → has_room limits (live_count book.counts) ≡ false → IsRenewed renewed (first_live_card book) → IsRenewed renewed (renewed_card limits book)
 without_room limits book renewed full is = rw full is
 
+-- the card that is renewed is live, so its UID is legal
+pub renewed_legal : (rows : TableRows) (b : BookRow) (renewed : Option Renewal) → AreSoundRows rows → IsRenewed renewed (first_live_card (row_book rows b)) → IfSome renewed HasCanonicalText → IfSome renewed HasLegalRow
+renewed_legal rows b renewed sound = go renewed (first_live_card (row_book rows b)) refl
+  where
+    live : (entry : List ℕ × Stored) → first_live_card (row_book rows b) ≡ Some entry → live_at (row_book rows b) entry.0 ≡ Some entry.1
+    live entry at =
+        sym (get-live_cards (row_book rows b).members entry.0) ∙ finite.get-entries (live_cards (row_book rows b)) entry.0
+        ∙ found_at (finite.entries (live_cards (row_book rows b))) 0 entry (finite.entries_sorted (live_cards (row_book rows b))) at
+
+    go : (r : Option Renewal) (o : Option (List ℕ × Stored)) → first_live_card (row_book rows b) ≡ o → IsRenewed r o → IfSome r HasCanonicalText → IfSome r HasLegalRow
+    go None o at is text = tt
+    go (Some renewal) None at is text = absurd is
+    go (Some renewal) (Some entry) at is text = record { uid = subst IsLegalUid (sym is.0) (live_legal rows b entry.0 entry.1 sound (live entry at)); text = text }
+
 -- a header that was not found
 pub header_denied : {T A : Type 0} (allows : T → A → Type 0) (rows : TableRows) (name : List ℕ) (book : Book) (denied : Denied) (due : Result T Refusal) → finite.get (books_of rows) name ≡ Some book → FindsHeader rows name (Err denied) → FollowsStep allows (Err denied) due
 header_denied allows rows name book (Refused refusal) due at finds = absurd (never_missing rows name book refusal at finds)
@@ -104,9 +124,9 @@ module _ (limits : Bounds) (pairs : ℕ) (rows : TableRows) (name : List ℕ) (h
 
   pub book_planned : (own : List ℕ) (last : ℕ) (counts : Counts) (renewed : Option Renewal) → own ≡ name → last_number limits pairs header.number (live_count header.counts) ≡ Ok last → total_changes header.counts ≡ header.number
       → header.horizon ≤ header.number → last ≡ number_after_pairs header.number pairs → last < 2 ^ 62 → counts ≡ counts_after_pairs header.counts pairs
-      → IsRenewed renewed (renewed_card limits (row_book rows (line_row name header))) → IfSome renewed HasShortText → IfSome renewed HasCanonicalText
+      → IsRenewed renewed (renewed_card limits (row_book rows (line_row name header))) → IfSome renewed HasShortText → IfSome renewed HasLegalRow
       → FollowsStep Allows (Ok (record { name = own; header = header; last = last; counts = counts; renewed = renewed })) (last_number_of limits pairs book)
-  book_planned own last counts renewed own_is value sum horizon last_is fits counts_is renewed_is short canonical =
+  book_planned own last counts renewed own_is value sum horizon last_is fits counts_is renewed_is short legal =
       subst (λ n. FollowsStep Allows (Ok (plan_with n)) (last_number_of limits pairs book)) (sym own_is)
       (answer_follows Allows (plan_with name) (last_number_of limits pairs book) last (ap (last_number_of limits pairs) (sym same_book) ∙ value) (planned, refl))
     where
@@ -114,7 +134,7 @@ module _ (limits : Bounds) (pairs : ℕ) (rows : TableRows) (name : List ℕ) (h
       plan_with n = record { name = n; header = header; last = last; counts = counts; renewed = renewed }
 
       planned : IsBookPlan limits pairs rows (plan_with name)
-      planned = record { named = named; sum = sum; horizon = horizon; last = last_is; fits = fits; counts = counts_is; renewed = renewed_is; short = short; canonical = canonical }
+      planned = record { named = named; sum = sum; horizon = horizon; last = last_is; fits = fits; counts = counts_is; renewed = renewed_is; short = short; legal = legal }
 
 -- ---- the book of a line
 

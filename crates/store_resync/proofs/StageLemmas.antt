@@ -27,8 +27,8 @@ use Rattle.store_writes.proofs.HeldLemmas.{row_remains}
 use Rattle.store_resync.specs.declared.planning.BookPlan.{BookPlan}
 use Rattle.store_resync.specs.declared.planning.Renewal.{Renewal}
 use Rattle.store_resync.specs.declared.stages.Stage.{Stage}
-use Rattle.store_rows.specs.Values.{IsCanonical}
 use Rattle.store_resync.specs.declared.stages.Stage.TheVariants.{Pairs, Forgetting}
+use Rattle.store_resync.specs.internal.Plans.{HasLegalRow}
 use Rattle.store_resync.specs.internal.Stages.{book_after_stage, header_after, header_before, horizon_after, rows_with_renewal}
 use Rattle.store_resync.specs.internal.Changes.{HasPlannedRows, HoldsMembers, HoldsResync, HoldsStage, HoldsStages, IsBookAfter, IsRowAfter, TreesHoldResync, book_name}
 
@@ -43,10 +43,10 @@ module _ (old new : Database) (rows : TableRows) (name : List ℕ) (plan : BookP
     members = rows_with_renewal (members_in (pos plan.header.id) rows.members) renewed plan.last;
   }
 
-  pub renewed_members : (renewal : Renewal) → plan.renewed ≡ Some renewal → IsCanonical renewal.text → Has rows.books (line_row name (header_before Pairs plan))
+  pub renewed_members : (renewal : Renewal) → plan.renewed ≡ Some renewal → HasLegalRow renewal → Has rows.books (line_row name (header_before Pairs plan))
       → PutsRow new.trees (pos plan.header.id) renewal.uid (pos plan.last) (Some renewal.text) rows.members → WritesTable 4 old new → HoldsMembers new rows name plan Pairs
-  renewed_members renewal is canonical there puts w =
-      let one = put_held old new rows (line_row name (header_before Pairs plan)) renewal.uid (pos plan.last) (Some renewal.text) holds sound there refl canonical puts w in
+  renewed_members renewal is legal there puts w =
+      let one = put_held old new rows (line_row name (header_before Pairs plan)) renewal.uid (pos plan.last) (Some renewal.text) holds sound there legal.uid refl legal.text puts w in
       let members = members_put one.id (pos plan.header.id) renewal.uid (pos plan.last) (Some renewal.text) rows.members in
       let made : IsBookAfter rows (put_rows one.id (pos plan.header.id) renewal.uid (pos plan.last) (Some renewal.text) rows) name plan Pairs =
       ap (λ m. record (paired None) { members = m }) members ∙ ap paired (sym is) in
@@ -79,14 +79,14 @@ module _ (old new : Database) (rows : TableRows) (name : List ℕ) (plan : BookP
         is = made;
       }
 
-pub renewed_in_tx : {A E : Type 0} (old new : State) (rows : TableRows) (name : List ℕ) (plan : BookPlan) (stage : Stage) (renewal : Renewal) (r : Result A E) → stage ≡ Pairs → plan.renewed ≡ Some renewal → IsCanonical renewal.text → HasBookRow old.now rows name (header_before stage plan)
+pub renewed_in_tx : {A E : Type 0} (old new : State) (rows : TableRows) (name : List ℕ) (plan : BookPlan) (stage : Stage) (renewal : Renewal) (r : Result A E) → stage ≡ Pairs → plan.renewed ≡ Some renewal → HasLegalRow renewal → HasBookRow old.now rows name (header_before stage plan)
     → OnOk r (PutsRow new.now.trees (pos plan.header.id) renewal.uid (pos plan.last) (Some renewal.text) rows.members) → OnOk r (WritesOnly 4 old new) → OnOk r (HoldsInTx new (λ db. HoldsMembers db rows name plan stage))
-renewed_in_tx old new rows name plan Pairs renewal (Ok x) e is canonical line puts w = record {
-  holds = renewed_members old.now new.now rows name plan line.holds line.sound renewal is canonical line.there puts (writes_table 4 old new w);
+renewed_in_tx old new rows name plan Pairs renewal (Ok x) e is legal line puts w = record {
+  holds = renewed_members old.now new.now rows name plan line.holds line.sound renewal is legal line.there puts (writes_table 4 old new w);
   inside = w.inside;
 }
-renewed_in_tx old new rows name plan Pairs renewal (Err error) e is canonical line puts w = tt
-renewed_in_tx old new rows name plan Forgetting renewal r e is canonical line puts w = absurd (let bad = e in cc)
+renewed_in_tx old new rows name plan Pairs renewal (Err error) e is legal line puts w = tt
+renewed_in_tx old new rows name plan Forgetting renewal r e is legal line puts w = absurd (let bad = e in cc)
 
 pub forgotten_in_tx : (old new : State) (rows : TableRows) (name : List ℕ) (plan : BookPlan) (stage : Stage) → stage ≡ Forgetting → HasBookRow old.now rows name (header_before stage plan)
     → HoldMembers (new.now.trees 4) (without_removed (pos plan.header.id) (pos plan.last) rows.members) → WritesOnly 4 old new → HoldsInTx new (λ db. HoldsMembers db rows name plan stage)
@@ -192,7 +192,7 @@ module _ (start one : Database) (rows : TableRows) (plans : List BookPlan) (give
     sound = paired.sound;
     each = λ i plan at. (paired.written i plan (slice_get_within plans i plan at) at).there;
     apart = given.apart;
-    texts = given.texts;
+    legal = given.legal;
   }
 
   pub both_stages : (two : Database) → HoldsStages two paired.now plans Forgetting (length plans) → HoldsResync two rows plans

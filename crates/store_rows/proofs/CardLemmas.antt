@@ -66,7 +66,7 @@ folded q (e ∷ es) m one = step (is_key q e) refl (folded q es (with_live m e) 
 
 -- ---- the book's cards
 
-get-live_cards : (members : finite.FinMap text_cmp Kept) (q : List ℕ) → finite.get (finite.from_entries {R = text_cmp} (flat_map live_card_entry (finite.entries members))) q ≡ option_and_then stored_in_row (finite.get members q)
+pub get-live_cards : (members : finite.FinMap text_cmp Kept) (q : List ℕ) → finite.get (finite.from_entries {R = text_cmp} (flat_map live_card_entry (finite.entries members))) q ≡ option_and_then stored_in_row (finite.get members q)
 get-live_cards members q =
     finite.get-from_entries text_total (flat_map live_card_entry (finite.entries members)) q ∙ find_live q (finite.entries members) (finite.entries_sorted members)
     ∙ ap (option_and_then stored_in_row) (sym (finite.get-entries members q))

@@ -11,6 +11,7 @@ pub mod OrderLemmas
 pub mod FirstLemmas
 pub mod ReportLemmas
 pub mod CardLemmas
+pub mod UidLemmas
 pub mod LineLemmas
 pub mod AddedLemmas
 pub mod OpenLemmas

@@ -51,8 +51,10 @@ PutsAreHeld = (old new : Database) (rows : TableRows) (b : BookRow) (uid : List 
     PutsRow new.trees b.id uid changed card rows.members → WritesTable 4 old new →
     HoldsPut new rows b uid changed card
 
--- the text of a row is the canonical text of the change's card, or there is neither
-pub record IsCardTextOf (text : Option (List ℕ)) (change : Change) : Type 0 where
+-- the UID is legal, and the text of a row is the canonical text of the change's card, or there is
+-- neither
+pub record IsRowOfChange (uid : List ℕ) (text : Option (List ℕ)) (change : Change) : Type 0 where
+  pub uid : IsLegalUid uid
   pub canonical : IfSome text IsCanonical
   pub card : option_map text_card text ≡ card_after change
 
@@ -68,7 +70,8 @@ header_after change header = record header {
 -- members may be upserted before the book's numbers are updated once.
 abbrev pub PutsAreRows : Type 0
 PutsAreRows = (rows : TableRows) (name : List ℕ) (header : HeaderRow) (id : ℤ) (uid : List ℕ)
-    (text : Option (List ℕ)) (change : Change) → AreSoundRows rows → IsCardTextOf text change →
+    (text : Option (List ℕ)) (change : Change) → AreSoundRows rows →
+    IsRowOfChange uid text change →
     row_book (put_rows id (pos header.id) uid (pos (header.number + 1)) text rows)
     (line_row name (header_after change header))
     ≡ book_with_row (row_book rows (line_row name header)) uid change

@@ -12,7 +12,7 @@ use Rattle.store_tables.proofs.KeyedRows.{all_has, int_itself, same_int, text_it
 use Rattle.store_rows.specs.SoundTables.{AreSoundRows}
 use Rattle.store_rows.specs.TableBooks.{HeaderRow, line_row, model_row, row_book}
 use Rattle.store_rows.specs.TableRows.{TableRows, HoldsRows}
-use Rattle.store_rows.specs.Values.{natural}
+use Rattle.store_rows.specs.Values.{IsLegalUid, natural}
 use Rattle.store_rows.proofs.KeyedEntries.{find_single}
 use Rattle.store_rows.proofs.RowLemmas.{get-members_in, single_member}
 use Rattle.std.specs.Prelude.{codes, nat_le}
@@ -69,6 +69,11 @@ uid_short (line ∷ lines) all = go (line_is_named (codes "UID") line) refl (uid
     go true e more =
         let legal = at_most (length line.value) 255 (middle_true (nat_le 1 (length line.value)) (nat_le (length line.value) 255) _ (all.0.legal_uid e)) in
         rw e (omega (arith, legal))
+
+pub legal_short : (uid : List ℕ) → IsLegalUid uid → IsShort uid
+legal_short uid h =
+    let most = at_most (length uid) 255 (middle_true (nat_le 1 (length uid)) (nat_le (length uid) 255) _ h.legal) in
+    omega (arith, most)
 
 pub card_uid_short : (lines : List Line) → IsCard lines → IsShort (uid_of lines)
 card_uid_short lines card = uid_short lines card.rules.each

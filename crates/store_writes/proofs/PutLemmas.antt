@@ -9,7 +9,7 @@ use Rattle.store_tables.specs.Books.{HasBooks, with_book_numbers}
 use Rattle.store_tables.specs.SchemaCreation.{HoldsInTx}
 use Rattle.store_tables.specs.Members.{PutsRow}
 use Rattle.store_tables.specs.StatementEffects.{WritesOnly}
-use Rattle.store_rows.specs.ChangeLaws.{IsCardTextOf}
+use Rattle.store_rows.specs.ChangeLaws.{IsRowOfChange}
 use Rattle.store_rows.specs.TableBooks.{HeaderRow, line_row, numbers_row, row_book, books_of}
 use Rattle.store_rows.specs.TableRows.{TableRows, put_rows, renumbered_rows}
 use Rattle.store_rows.proofs.BookLemmas.{changes_one, naturals_row, renumbering_held}
@@ -19,11 +19,11 @@ use Rattle.store_writes.proofs.ForgetLemmas.{writes_table}
 use Rattle.store_writes.proofs.HeldLemmas.{row_remains}
 
 module _ (old mid new : State) (rows : TableRows) (name : List ℕ) (header : HeaderRow) (uid : List ℕ) (text : Option (List ℕ)) (change : Change) where
-  pub row_put : HasBookRow old.now rows name header → IsCardTextOf text change → PutsRow mid.now.trees (pos header.id) uid (pos (header.number + 1)) text rows.members → WritesOnly 4 old mid
+  pub row_put : HasBookRow old.now rows name header → IsRowOfChange uid text change → PutsRow mid.now.trees (pos header.id) uid (pos (header.number + 1)) text rows.members → WritesOnly 4 old mid
       → HasBooks new (with_book_numbers (pos header.id) (numbers_row (header.number + 1) header.horizon (counts_after_change change header.counts)) rows.books) → WritesOnly 2 mid new
       → HoldsInTx new (λ db. HoldsChange db rows (pos header.id) (finite.insert (books_of rows) name (book_with_row (row_book rows (line_row name header)) uid change)))
   row_put line is put first books second =
-      let one = put_held old.now mid.now rows (line_row name header) uid (pos (header.number + 1)) text line.holds line.sound line.there refl is.canonical put (writes_table 4 old mid first) in
+      let one = put_held old.now mid.now rows (line_row name header) uid (pos (header.number + 1)) text line.holds line.sound line.there is.uid refl is.canonical put (writes_table 4 old mid first) in
       let with_it = put_rows one.id (pos header.id) uid (pos (header.number + 1)) text rows in
       let numbers = numbers_row (header.number + 1) header.horizon (counts_after_change change header.counts) in
       let two = renumbering_held mid.now new.now with_it (pos header.id) numbers one.holds one.within.sound (naturals_row (header.number + 1) header.horizon (counts_after_change change header.counts)) books (writes_table 2 mid new second) in

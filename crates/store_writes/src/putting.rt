@@ -4,7 +4,7 @@ ghost use Rattle.book_model.specs.Counting.{counts_after_change};
 ghost use Rattle.book_model.specs.declared.change.Change.{Change};
 ghost use Rattle.book_model.specs.declared.change.Change.TheVariants.{Stores};
 ghost use Rattle.store_lookups.specs.Faults.{IsDeniedFault};
-ghost use Rattle.store_rows.specs.ChangeLaws.{IsCardTextOf, header_after};
+ghost use Rattle.store_rows.specs.ChangeLaws.{IsRowOfChange, header_after};
 ghost use Rattle.store_rows.specs.TableBooks.{HeaderRow, numbers_row};
 ghost use Rattle.store_rows.specs.TableRows.{TableRows};
 ghost use Rattle.store_lookups.specs.OnConnections.{ChangeFaultsFromOutsideInBook};
@@ -58,7 +58,7 @@ pub fn write_member<S: Alter>(
 ) -> Result<(), Error>
     ensures same_reference { tx.new.conn.ghost_name ≡ tx.old.conn.ghost_name }
     ensures books_after { (header : HeaderRow) (change : Change) → changed ≡ pos (header.number + 1)
-        → IsCardTextOf (option_copied card.entry) change
+        → IsRowOfChange uid.now (option_copied card.entry) change
         → AreHeaderColumns (header_after change header) id numbers
         → ChangesBookInTx S.Store tx.old.conn.now tx.new.conn.now header result
         (λ book. book_with_row book uid.now change) }
@@ -94,20 +94,20 @@ pub fn commit_member<S: Alter>(
 ) -> Result<(), Error>
     requires { conn.old.in_transaction ≡ false }
     ensures atomic { (header : HeaderRow) (change : Change) → changed ≡ pos (header.number + 1)
-        → IsCardTextOf (option_copied card.entry) change
+        → IsRowOfChange uid.now (option_copied card.entry) change
         → AreHeaderColumns (header_after change header) id numbers
         → CommitsBook S.Store conn.old conn.new header result
         (λ book. book_with_row book uid.now change) }
     ensures settled { conn.new.in_transaction ≡ false }
     ensures survives { CountsFaults S.Store conn.old conn.new }
     ensures crash { (header : HeaderRow) (change : Change) → changed ≡ pos (header.number + 1)
-        → IsCardTextOf (option_copied card.entry) change
+        → IsRowOfChange uid.now (option_copied card.entry) change
         → AreHeaderColumns (header_after change header) id numbers
         → CommitsBookOnce S.Store conn.old conn.new header
         (λ book. book_with_row book uid.now change) }
     ensures fails_from_outside { (header : HeaderRow) (change : Change)
         → changed ≡ pos (header.number + 1)
-        → IsCardTextOf (option_copied card.entry) change
+        → IsRowOfChange uid.now (option_copied card.entry) change
         → AreHeaderColumns (header_after change header) id numbers
         → (rows : TableRows) (name : List ℕ)
         → AcceptsMemberOf S.Store conn.old rows name header uid.now changed

@@ -14,7 +14,7 @@ use Rattle.store_rows.specs.TableRows.{TableRows, HoldsRows}
 use Rattle.store_resync.specs.declared.planning.BookPlan.{BookPlan}
 use Rattle.store_resync.specs.declared.stages.Stage.{Stage}
 use Rattle.store_resync.specs.declared.stages.Stage.TheVariants.{Pairs, Forgetting}
-use Rattle.store_resync.specs.internal.Plans.{HasCanonicalText}
+use Rattle.store_resync.specs.internal.Plans.{HasLegalRow}
 use Rattle.store_resync.specs.internal.Stages.{header_before, header_after, book_after_stage}
 
 -- ---- one book
@@ -60,8 +60,8 @@ abbrev pub AreApart : List BookPlan → Type 0
 AreApart plans = (i j : ℕ) (a b : BookPlan) → slice_get plans i ≡ Some a →
     slice_get plans j ≡ Some b → i ≢ j → int_eq (pos a.header.id) (pos b.header.id) ≡ false
 
--- The tables hold these sound rows, among them the row of each plan before the stage. The text of
--- each renewed card is canonical.
+-- The tables hold these sound rows, among them the row of each plan before the stage. Of each
+-- renewed card the UID is legal, and the text canonical.
 pub record HasPlannedRows (db : Database) (rows : TableRows) (plans : List BookPlan)
     (stage : Stage) : Type 0 where
   pub holds : HoldsRows db rows
@@ -69,8 +69,8 @@ pub record HasPlannedRows (db : Database) (rows : TableRows) (plans : List BookP
   pub each : (i : ℕ) (plan : BookPlan) → slice_get plans i ≡ Some plan
       → Has rows.books (line_row plan.name (header_before stage plan))
   pub apart : AreApart plans
-  pub texts : (i : ℕ) (plan : BookPlan) → slice_get plans i ≡ Some plan
-      → IfSome plan.renewed HasCanonicalText
+  pub legal : (i : ℕ) (plan : BookPlan) → slice_get plans i ≡ Some plan
+      → IfSome plan.renewed HasLegalRow
 
 -- the row and the book of the plan are as before the stage
 abbrev pub IsRowBefore : TableRows → TableRows → BookPlan → Stage → Type 0

@@ -10,16 +10,16 @@ use Rattle.store_resync.specs.declared.stages.Stage.TheVariants.{Pairs}
 use Rattle.store_resync.specs.internal.Changes as changes
 use Rattle.store_resync.specs.internal.Changes.{HoldsMembers, HoldsStage, HoldsResync}
 use Rattle.store_resync.specs.internal.Changes.{TreesHoldResync}
-use Rattle.store_resync.specs.internal.Plans.{HasCanonicalText}
+use Rattle.store_resync.specs.internal.Plans.{HasLegalRow}
 use Rattle.store_resync.specs.internal.Stages.{header_before}
 
 module _ {S : Type 0} (store : Ghosts S) (old new : Held S) where
   -- ---- one book
 
   -- inside a transaction, over tables that held the row of the plan before the stage, under a name;
-  -- the text of the renewed card is canonical
+  -- the UID of the renewed card is legal, and its text canonical
   abbrev pub InTxWithPlan : BookPlan → Stage → (TableRows → List ℕ → Type 0) → Type 0
-  InTxWithPlan plan stage Then = IfSome plan.renewed HasCanonicalText →
+  InTxWithPlan plan stage Then = IfSome plan.renewed HasLegalRow →
       InTxWithBook store old new (header_before stage plan) Then
 
   -- a success writes the members of the plan's book

@@ -11,7 +11,7 @@ use Rattle.store_tables.specs.Acceptance.{IsShort}
 use Rattle.store_rows.specs.LookupLaws.{IsBookNamed}
 use Rattle.store_rows.specs.TableBooks.{books_of, line_row, row_book}
 use Rattle.store_rows.specs.TableRows.{TableRows}
-use Rattle.store_rows.specs.Values.{IsCanonical, text_card}
+use Rattle.store_rows.specs.Values.{IsCanonical, IsLegalUid, text_card}
 use Rattle.store_resync.specs.declared.planning.BookPlan.{BookPlan}
 use Rattle.store_resync.specs.declared.planning.Renewal.{Renewal}
 
@@ -31,6 +31,11 @@ HasShortText renewal = IsShort renewal.text
 abbrev pub HasCanonicalText : Renewal → Type 0
 HasCanonicalText renewal = IsCanonical renewal.text
 
+-- the UID is legal, and the text canonical
+pub record HasLegalRow (renewal : Renewal) : Type 0 where
+  pub uid : IsLegalUid renewal.uid
+  pub text : IsCanonical renewal.text
+
 -- ---- one book
 
 -- The plan is that of the named book, with its header before. Its numbers fit into columns.
@@ -45,7 +50,7 @@ pub record IsBookPlan (limits : Bounds) (pairs : ℕ) (rows : TableRows) (plan :
   pub renewed : IsRenewed plan.renewed
       (renewed_card limits (row_book rows (line_row plan.name plan.header)))
   pub short : IfSome plan.renewed HasShortText
-  pub canonical : IfSome plan.renewed HasCanonicalText
+  pub legal : IfSome plan.renewed HasLegalRow
 
 -- ---- all books
 

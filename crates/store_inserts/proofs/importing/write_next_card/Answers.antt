@@ -3,7 +3,7 @@
 -- more in the book that is being written (`put_wrote`). `likely_new` only chooses which statement
 -- is tried first, so nothing here depends on it. For faults: the table accepts the card, as its
 -- number is unused and its rules keep its texts short (`accepts_card`).
-use Rattle.std.proofs.Common.{rules, ◌≡◌, ◌+◌, Some, option_copied, option_map, string_bytes, pos, to_z, of_z, w64, sym, ap, subst, arith}
+use Rattle.std.proofs.Common.{rules, ◌≡◌, ◌+◌, Some, option_copied, option_map, string_bytes, pos, to_z, of_z, w64, sym, ap, subst, arith, IsUtf8}
 use Rattle.vcard_text.specs.Cards.{canonical_text}
 use Rattle.store_tables.specs.Acceptance.{AcceptsMember}
 use Rattle.store_writes.proofs.AcceptLemmas.{card_text_short, card_uid_short}
@@ -15,8 +15,9 @@ use Rattle.store_tables.specs.SchemaCreation.{HoldsInTx}
 use Rattle.store_tables.specs.Members.{PutsRow}
 use Rattle.vcard_text.specs.Cards.{uid_of}
 use Rattle.book_model.specs.BookChanges.{card_after}
-use Rattle.store_rows.specs.ChangeLaws.{IsCardTextOf}
-use Rattle.store_rows.specs.Values.{IsCanonical, text_card}
+use Rattle.store_rows.specs.ChangeLaws.{IsRowOfChange}
+use Rattle.store_rows.specs.Values.{IsCanonical, IsLegalUid, text_card}
+use Rattle.store_rows.proofs.UidLemmas.{card_uid_legal}
 use Rattle.store_lookups.proofs.FindLemmas.{back_of}
 use Rattle.store_inserts.specs.internal.Importing.{WritesBook, planned_pair, book_with_pair}
 use Rattle.store_inserts.proofs.WroteLemmas.{put_wrote}
@@ -36,7 +37,8 @@ returns-in-Ok-clause-book_after g c rows name book clean inside wrote =
     let at : to_z w64 (of_z w64 c.in_ok-changed.changed) ≡ pos (header.number + 1) = back_of c.in_ok-changed.changed (c.number.result + 1) (header.number + 1) c.in_ok-changed.ensures.ok c.in_ok-changed.ensures.fits (ap (λ k. k + 1) c.number.ensures) in
     let octets : c.as_str.result.now ≡ string_bytes c.in_ok-text.text = search rules in
     let card : option_map text_card (Some c.as_str.result.now) ≡ card_after change = search rules in
-    let is : IsCardTextOf text change = record { canonical = subst IsCanonical (sym octets) c.in_ok-text.ensures.is_canonical; card = card } in
+    let legal : IsLegalUid (uid_of c.args.stored.card.now) = record { utf8 = subst IsUtf8 c.uid.ensures c.uid.utf8; legal = card_uid_legal c.args.stored.card.now c.lines-lines.ensures.rules } in
+    let is : IsRowOfChange (uid_of c.args.stored.card.now) text change = record { uid = legal; canonical = subst IsCanonical (sym octets) c.in_ok-text.ensures.is_canonical; card = card } in
     let put = rw c.uid.ensures at (c.in-Ok.ensures.puts wrote.now.members clean inside wrote.holds.schema wrote.within.sound.members wrote.holds.members) in
     let there = subst (λ z. PutsRow new.now.trees (pos header.id) (uid_of c.args.stored.card.now) z text wrote.now.members) at (subst (λ z. PutsRow new.now.trees z (uid_of c.args.stored.card.now) (to_z w64 (of_z w64 c.in_ok-changed.changed)) text wrote.now.members) id put) in
     subst (λ next. HoldsInTx new (λ db. WritesBook db rows name next (book_with_pair book (planned_pair c.args.stored)))) (sym (c.after_storing.ensures c.args.stored.card.now))

@@ -11,7 +11,7 @@ use Rattle.store_tables.proofs.SchemaCreationLemmas.{clean_before}
 use Rattle.store_rows.specs.TableBooks.{line_row, row_book}
 use Rattle.store_lookups.specs.ChangeFaults.{HaveFreeIds}
 use Rattle.store_lookups.proofs.StoreFaultLemmas.{passed_cause}
-use Rattle.store_removals.proofs.FaultLemmas.{drop_below, live_short, moves_live}
+use Rattle.store_removals.proofs.FaultLemmas.{drop_below, moves_live}
 use Rattle.sqlite.specs.Effect.{Database}
 use Rattle.sqlite.specs.Held.{state}
 use Rattle.sqlite.specs.State.{State, HasCleanDisk}
@@ -32,6 +32,8 @@ use Rattle.book_model.specs.Moving.{books_after_move, move_step}
 use Rattle.store_rows.specs.SoundTables.{AreSoundRows}
 use Rattle.store_rows.specs.TableBooks.{books_in, books_of}
 use Rattle.store_rows.specs.TableRows.{TableRows, HoldsRows}
+use Rattle.store_rows.specs.Values.{IsLegalUid}
+use Rattle.store_rows.proofs.UidLemmas.{live_legal}
 use Rattle.store_writes.specs.TableChanges.{AppliesStep, CommitsOnce, HoldsBooks, IsAtomic, TreesHold}
 use Rattle.store_removals.specs.internal.Moves.{HasBothRows, IsMoveOf, table_books_after_move, moving_between_books}
 use Rattle.store_lookups.specs.CallResults.{GivenSoundRows}
@@ -89,27 +91,34 @@ module _ (g : given.Over) (c : After-write_move g) where
   both_there : (rows : TableRows) → HoldsRows (mid g planning).now rows → AreSoundRows rows → planned rows → HasBothRows (mid g planning).now rows c.args.from.now c.in_ok-plan.plan.source c.args.to.now c.in_ok-plan.plan.target
   both_there rows holds sound returned = lines_of (mid g planning).now rows c.args.from.now c.args.to.now c.args.uid.now c.args.limits c.args.expect c.in_ok-plan.plan holds sound returned.0
 
-  written : (r : Result Moved Denied) → ((rows : TableRows) → HasCleanDisk new → HasBothRows (mid g planning).now rows c.args.from.now c.in_ok-plan.plan.source c.args.to.now c.in_ok-plan.plan.target → IsAtomic (mid g planning) new r (made rows))
+  -- the card that moves was live, so its UID is legal
+  legal : (rows : TableRows) → planned rows → IsLegalUid c.args.uid.now
+  legal rows h =
+      let b = line_row c.args.from.now c.in_ok-plan.plan.source in
+      let live = moves_live c.args.limits (found_in_book (row_book rows b) c.args.uid.now) (found_in_book (row_book rows (line_row c.args.to.now c.in_ok-plan.plan.target)) c.args.uid.now) c.args.expect _ h.0.moving in
+      live_legal rows b c.args.uid.now live.0 h.3 live.1
+
+  written : (r : Result Moved Denied) → ((rows : TableRows) → HasCleanDisk new → HasBothRows (mid g planning).now rows c.args.from.now c.in_ok-plan.plan.source c.args.to.now c.in_ok-plan.plan.target → IsLegalUid c.args.uid.now → IsAtomic (mid g planning) new r (made rows))
       → ((rows : TableRows) → planned rows → IsAtomic (old g planning) new r (made rows) → IsTrue new.is_open → MatchesStep r (step g planning (books_of rows)) (stored_books (old g planning)) (stored_books new)) → AppliesStep (old g planning) new r (step g planning)
   written r atomic matches_step =
       wrote_changes made (step g planning) (old g planning) (mid g planning) new r
       c.in_ok-plan.ensures.unchanged c.plan_move.ensures.reads_only planned found c.write_move.ensures.survives
-      c.write_move.ensures.settled c.in_ok-plan.ensures.was_open (λ rows clean holds sound returned. atomic rows clean (both_there rows holds sound returned)) (λ rows a h. h.sound) matches_step
+      c.write_move.ensures.settled c.in_ok-plan.ensures.was_open (λ rows clean holds sound returned. atomic rows clean (both_there rows holds sound returned) (legal rows returned)) (λ rows a h. h.sound) matches_step
 
-  counts : (r : Result Moved Denied) (after : CountsByName) → ((rows : TableRows) → HasCleanDisk new → HasBothRows (mid g planning).now rows c.args.from.now c.in_ok-plan.plan.source c.args.to.now c.in_ok-plan.plan.target → IsAtomic (mid g planning) new r (made rows))
+  counts : (r : Result Moved Denied) (after : CountsByName) → ((rows : TableRows) → HasCleanDisk new → HasBothRows (mid g planning).now rows c.args.from.now c.in_ok-plan.plan.source c.args.to.now c.in_ok-plan.plan.target → IsLegalUid c.args.uid.now → IsAtomic (mid g planning) new r (made rows))
       → ((rows : TableRows) → planned rows → IsAtomic (old g planning) new r (made rows) → IsTrue new.is_open → AreCountsOf c.args.counts.now (stored_books (old g planning)) → stored_books (old g planning) ≡ books_of rows → AreCountsOf after (stored_books new))
       → KeepsCounts (old g planning) new c.args.counts.now after
   counts r after atomic right =
       wrote_counts made (step g planning) (old g planning) (mid g planning) new r
       c.in_ok-plan.ensures.unchanged c.plan_move.ensures.reads_only planned found c.write_move.ensures.survives
-      (λ rows clean holds sound returned. atomic rows clean (both_there rows holds sound returned)) c.args.counts.now after right
+      (λ rows clean holds sound returned. atomic rows clean (both_there rows holds sound returned) (legal rows returned)) c.args.counts.now after right
 
   crash : CommitsOnce (old g planning) new (step g planning)
   crash =
       let plan = c.in_ok-plan.plan in
       wrote_commits made (step g planning) (old g planning) (mid g planning) new (Ok plan.moved)
       c.in_ok-plan.ensures.unchanged c.plan_move.ensures.reads_only planned found c.write_move.ensures.survives c.in_ok-plan.ensures.was_open
-      (λ rows. TreesHold (moved rows)) (λ rows holds sound returned. c.write_move.ensures.crash rows c.args.from.now c.args.to.now (both_there rows holds sound returned))
+      (λ rows. TreesHold (moved rows)) (λ rows holds sound returned. c.write_move.ensures.crash (legal rows returned) rows c.args.from.now c.args.to.now (both_there rows holds sound returned))
       (λ rows returned db held. moved_holds c.args.limits rows c.args.from.now c.args.to.now c.args.uid.now c.args.expect plan.source plan.target plan.card plan.moved plan.drop returned.0.source returned.0.target returned.0.apart returned.0.moving returned.0.drop db held)
 
 -- ---- the clauses
@@ -132,14 +141,14 @@ returns-in_err-write_move-clause-changes g c =
     let before = old g (planning g p) in
     let said : c.from_residual-in_err-write_move.result ≡ Err c.in_err-write_move.field-0.0 = search rules in
     subst (λ r. AppliesStep before (new g p) r (step g (planning g p))) (sym said)
-    (written g p (Err c.in_err-write_move.field-0.0) (λ rows clean both. c.in_err-write_move.ensures.atomic rows c.args.from.now c.args.to.now clean both)
+    (written g p (Err c.in_err-write_move.field-0.0) (λ rows clean both is. c.in_err-write_move.ensures.atomic is rows c.args.from.now c.args.to.now clean both)
     (λ rows returned done up. fault_does (step g (planning g p) (books_of rows)) c.in_err-write_move.field-0.0 (stored_books before) (stored_books (new g p)) c.in_err-write_move.ensures.fault (ap (λ (d : Database). books_in d.trees) (done up).0)))
 
 pub returns-clause-changes : goal.returns-clause-changes
 returns-clause-changes g c =
     let p = (goal.at.returns-clause-changes g c).After-write_move in
     let plan = c.in_ok-plan.plan in
-    written g p (Ok plan.moved) (λ rows clean both. c.in_ok-write_move.ensures.atomic rows c.args.from.now c.args.to.now clean both)
+    written g p (Ok plan.moved) (λ rows clean both is. c.in_ok-write_move.ensures.atomic is rows c.args.from.now c.args.to.now clean both)
     (λ rows returned done up. moved_does c.args.limits rows c.args.from.now c.args.to.now c.args.uid.now c.args.expect plan.source plan.target plan.card plan.moved plan.drop returned.0.source returned.0.target returned.0.apart returned.0.moving returned.0.drop (new g p) (stored_books (old g (planning g p))) done.0)
 
 pub returns-in_err-write_move-clause-crash : goal.returns-in_err-write_move-clause-crash
@@ -165,14 +174,12 @@ returns-in_err-write_move-clause-store_fault g c rows clean holds accept free =
     let still = subst (λ (d : Database). HoldsRows d rows) (sym kept.0.now_is) holds in
     let ids = subst (λ (d : Database). HaveFreeIds d.trees) (sym kept.0.now_is) free in
     let over = found g p rows early holds accept.faultless.sound in
-    let planned = over.0 in
     let both = both_there g p rows still accept.faultless.sound over in
-    let live = moves_live c.args.limits (found_in_book (row_book rows (line_row c.args.from.now plan.source)) c.args.uid.now) (found_in_book (row_book rows (line_row c.args.to.now plan.target)) c.args.uid.now) c.args.expect _ planned.moving in
-    let short = live_short rows (line_row c.args.from.now plan.source) c.args.uid.now live.0 accept.short_uids live.1 in
+    let is = legal g p rows over in
     let fits = c.in_ok-plan.ensures.source_number_fits in
     passed_cause c.from_residual-in_err-write_move.result c.in_err-write_move.field-0.0 _ c.from_residual-in_err-write_move.ensures.1
     (λ store. outside_later before between (new g p) _ _ c.plan_move.ensures.reads_only.survives early c.write_move.ensures.survives
-    (c.in_err-write_move.ensures.store_fault fits c.in_ok-plan.ensures.target_number_fits (drop_below plan.drop plan.source.number c.in_ok-plan.ensures.drop_fits fits) short rows c.args.from.now c.args.to.now clean both accept ids store))
+    (c.in_err-write_move.ensures.store_fault fits c.in_ok-plan.ensures.target_number_fits (drop_below plan.drop plan.source.number c.in_ok-plan.ensures.drop_fits fits) is rows c.args.from.now c.args.to.now clean both accept ids store))
 
 -- ---- the numbers of tombstones
 
@@ -185,7 +192,7 @@ pub returns-in_err-write_move-clause-counts : goal.returns-in_err-write_move-cla
 returns-in_err-write_move-clause-counts g c =
     let p = (goal.at.returns-in_err-write_move-clause-counts g c).After-write_move in
     let counted = c.plan_move.new.counts in
-    counts g p (Err c.in_err-write_move.field-0.0) counted (λ rows clean both. c.in_err-write_move.ensures.atomic rows c.args.from.now c.args.to.now clean both)
+    counts g p (Err c.in_err-write_move.field-0.0) counted (λ rows clean both is. c.in_err-write_move.ensures.atomic is rows c.args.from.now c.args.to.now clean both)
     (λ rows h done up right same. failed_counts {A = Moved} (made g p rows) (old g (planning g p)) (new g p) c.in_err-write_move.field-0.0 counted done up (subst (λ (b : Books). AreCountsOf counted b) (sym same) h.1))
 
 pub returns-clause-counts : goal.returns-clause-counts
@@ -196,7 +203,7 @@ returns-clause-counts g c =
     let to = c.args.to.now in
     let uid = c.args.uid.now in
     let after = c.set_count.new.counts in
-    counts g p (Ok plan.moved) after (λ rows clean both. c.in_ok-write_move.ensures.atomic rows from to clean both)
+    counts g p (Ok plan.moved) after (λ rows clean both is. c.in_ok-write_move.ensures.atomic is rows from to clean both)
     (λ rows h done up right same.
     let source = row_book rows (line_row from plan.source) in
     let target = row_book rows (line_row to plan.target) in

@@ -11,20 +11,20 @@ use Rattle.book_model.specs.declared.change.Change.TheVariants.{Stores}
 use Rattle.book_model.specs.declared.change.StoreReason.TheVariants.{MoveIn}
 use Rattle.book_model.specs.Counting.{counts_after_change}
 use Rattle.store_tables.specs.Books.{numbers_of}
-use Rattle.store_rows.specs.ChangeLaws.{IsCardTextOf, header_after}
+use Rattle.store_rows.specs.ChangeLaws.{IsRowOfChange, header_after}
 use Rattle.store_rows.specs.TableBooks.{numbers_row}
 use Rattle.store_lookups.proofs.FindLemmas.{back_of}
 use Rattle.store_writes.specs.TableChanges.{AreHeaderColumns}
 use Rattle.store_removals.proofs.moving.add_to_target.Goals as goal
 
 pub returns-in-Ok-clause-books_after : goal.returns-in-Ok-clause-books_after
-returns-in-Ok-clause-books_after g c text rows name clean inside line =
+returns-in-Ok-clause-books_after g c legal text rows name clean inside line =
     let change = Stores c.args.card.now MoveIn in
     let id : to_z w64 (of_z w64 c.in_ok-id.id) ≡ pos c.args.header.id = back_of c.in_ok-id.id c.id.result c.args.header.id c.in_ok-id.ensures.ok c.in_ok-id.ensures.fits c.id.ensures in
     let at : to_z w64 (of_z w64 c.in_ok-changed.changed) ≡ pos (c.args.header.number + 1) = back_of c.in_ok-changed.changed (c.number.result + 1) (c.args.header.number + 1) c.in_ok-changed.ensures.ok c.in_ok-changed.ensures.fits (ap (λ k. k + 1) c.number.ensures) in
     let numbers : numbers_of c.in_ok-numbers.numbers ≡ numbers_row (c.args.header.number + 1) c.args.header.horizon (counts_after_change change c.args.header.counts) = search rules in
     let columns : AreHeaderColumns (header_after change c.args.header) (to_z w64 (of_z w64 c.in_ok-id.id)) c.in_ok-numbers.numbers = record { id_is = id; numbers = numbers } in
-    let is : IsCardTextOf (option_copied (Some c.args.text)) change = record { canonical = text.canonical; card = ap Some text.reads_back } in
+    let is : IsRowOfChange c.args.uid.now (option_copied (Some c.args.text)) change = record { uid = legal; canonical = text.canonical; card = ap Some text.reads_back } in
     c.in-Ok.ensures.books_after c.args.header change at is columns rows name clean inside line
 
 pub returns-in-Ok-clause-keeps_commit : goal.returns-in-Ok-clause-keeps_commit

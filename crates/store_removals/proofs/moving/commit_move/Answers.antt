@@ -65,23 +65,23 @@ module _ (g : given.Over) (c : After-commit g) where
 -- ---- the clauses
 
 pub returns-in-Err-clause-atomic : goal.returns-in-Err-clause-atomic
-returns-in-Err-clause-atomic g c text rows from to clean line =
+returns-in-Err-clause-atomic g c legal text rows from to clean line =
     let p = (goal.at.returns-in-Err-clause-atomic g c).After-commit in
     let same : c.commit.new.self.0 ≡ c.conn-2-1.given.0 = search rules in
     let late : HasCleanDisk (end g p) = subst (λ k. HasCleanDisk (state g.S.Store k)) (sym same) clean in
     let first = clean_mid g p late in
     let both = there g (writing g p) rows from to line in
-    let kept : KeepsCommit (state g.S.Store (record c.args.conn.now { in_transaction = true })) (mid g (writing g p)) = rw c.transaction-tx.ensures.begun at (c.in_ok-move_rows.ensures.keeps_commit rows from to first (inside g (writing g p)) both text) in
+    let kept : KeepsCommit (state g.S.Store (record c.args.conn.now { in_transaction = true })) (mid g (writing g p)) = rw c.transaction-tx.ensures.begun at (c.in_ok-move_rows.ensures.keeps_commit rows from to first (inside g (writing g p)) both legal text) in
     subst (λ k. IsTrue (state g.S.Store k).is_open → ((state g.S.Store k).now ≡ (old g (writing g p)).now) × ((state g.S.Store k).now ≡ (state g.S.Store k).committed)) same
     (failed_done (state g.S.Store (record c.args.conn.now { in_transaction = true })) (mid g (writing g p)) (end g p) c.in-Err.error kept
-    (c.in_ok-move_rows.ensures.books_after rows from to first (inside g (writing g p)) both text).inside (c.in-Err.ensures.err late) c.assert_no_pending_writes.ensures)
+    (c.in_ok-move_rows.ensures.books_after rows from to first (inside g (writing g p)) both legal text).inside (c.in-Err.ensures.err late) c.assert_no_pending_writes.ensures)
 
 pub returns-in-Ok-clause-atomic : goal.returns-in-Ok-clause-atomic
-returns-in-Ok-clause-atomic g c text rows from to clean line =
+returns-in-Ok-clause-atomic g c legal text rows from to clean line =
     let p = (goal.at.returns-in-Ok-clause-atomic g c).After-commit in
     let same : c.commit.new.self.0 ≡ c.conn-2-1.given.0 = search rules in
     let late : HasCleanDisk (end g p) = subst (λ k. HasCleanDisk (state g.S.Store k)) (sym same) clean in
-    let left = c.in_ok-move_rows.ensures.books_after rows from to (clean_mid g p late) (inside g (writing g p)) (there g (writing g p) rows from to line) text in
+    let left = c.in_ok-move_rows.ensures.books_after rows from to (clean_mid g p late) (inside g (writing g p)) (there g (writing g p) rows from to line) legal text in
     subst (λ k. HoldsBooks (state g.S.Store k).now (made g (writing g p) rows from to) × ((state g.S.Store k).now ≡ (state g.S.Store k).committed)) same
     (committed_done (mid g (writing g p)) (end g p) (λ db. HoldsBooks db (made g (writing g p) rows from to)) left (c.in-Ok.ensures.ok late).1)
 
@@ -98,13 +98,13 @@ returns-in-Ok-clause-survives g c =
     subst (λ k. Survives (old g (writing g p)) (state g.S.Store k) (λ _. ⊤)) same (survives g p)
 
 pub returns-in_err-move_rows-clause-atomic : goal.returns-in_err-move_rows-clause-atomic
-returns-in_err-move_rows-clause-atomic g c text rows from to clean line =
+returns-in_err-move_rows-clause-atomic g c legal text rows from to clean line =
     let p = (goal.at.returns-in_err-move_rows-clause-atomic g c).After-move_rows in
     let last = state g.S.Store c.drop-tx.new.self.0 in
     let same : c.drop-tx.new.self.0 ≡ c.conn-1.given.0 = search rules in
     let late : HasCleanDisk last = subst (λ k. HasCleanDisk (state g.S.Store k)) (sym same) clean in
     let first : HasCleanDisk (mid g p) = clean_before _ (mid g p) last c.drop-tx.ensures.survives late in
-    let kept : KeepsCommit (state g.S.Store (record c.args.conn.now { in_transaction = true })) (mid g p) = rw c.transaction-tx.ensures.begun at (c.in_err-move_rows.ensures.keeps_commit rows from to first (inside g p) (there g p rows from to line) text) in
+    let kept : KeepsCommit (state g.S.Store (record c.args.conn.now { in_transaction = true })) (mid g p) = rw c.transaction-tx.ensures.begun at (c.in_err-move_rows.ensures.keeps_commit rows from to first (inside g p) (there g p rows from to line) legal text) in
     let said : c.from_residual.result ≡ Err c.in_err-move_rows.field-0.0 = search rules in
     subst (λ r. IsAtomic (old g p) (state g.S.Store c.conn-1.given.0) r (λ _ db. HoldsBooks db (made g p rows from to))) (sym said)
     (subst (λ k. IsTrue (state g.S.Store k).is_open → ((state g.S.Store k).now ≡ (old g p).now) × ((state g.S.Store k).now ≡ (state g.S.Store k).committed)) same
@@ -114,7 +114,7 @@ returns-in_err-move_rows-clause-atomic g c text rows from to clean line =
 
 -- the writes failed
 pub returns-in_err-move_rows-clause-store_fault : goal.returns-in_err-move_rows-clause-store_fault
-returns-in_err-move_rows-clause-store_fault g c from_fits to_fits drop_fits short slim text rows from to clean lines accept free =
+returns-in_err-move_rows-clause-store_fault g c from_fits to_fits drop_fits legal slim text rows from to clean lines accept free =
     let p = (goal.at.returns-in_err-move_rows-clause-store_fault g c).After-move_rows in
     let end = state g.S.Store c.drop-tx.new.self.0 in
     let same : c.drop-tx.new.self.0 ≡ c.conn-1.given.0 = search rules in
@@ -124,18 +124,18 @@ returns-in_err-move_rows-clause-store_fault g c from_fits to_fits drop_fits shor
     passed_cause c.from_residual.result c.in_err-move_rows.field-0.0 _ c.from_residual.ensures.1
     (λ store. subst (λ k. HasOutsideCause (old g p) (state g.S.Store k)) same
     (if_open (old g p) end (λ up. outside_sooner (old g p) (mid g p) end _ c.drop-tx.ensures.survives
-    (rw begun at (c.in_err-move_rows.ensures.store_fault from_fits to_fits drop_fits short slim text rows from to (there g p rows from to lines) accept (rw begun free) early (inside g p)
+    (rw begun at (c.in_err-move_rows.ensures.store_fault from_fits to_fits drop_fits legal slim text rows from to (there g p rows from to lines) accept (rw begun free) early (inside g p)
     (rw begun (live_obeys (old g p) c.schema-tables.ensures.live lines.holds.schema up)) store)))))
 
 -- the commit failed
 pub returns-in-Err-clause-store_fault : goal.returns-in-Err-clause-store_fault
-returns-in-Err-clause-store_fault g c from_fits to_fits drop_fits short slim text rows from to clean lines accept free =
+returns-in-Err-clause-store_fault g c from_fits to_fits drop_fits legal slim text rows from to clean lines accept free =
     let p = (goal.at.returns-in-Err-clause-store_fault g c).After-commit in
     let w = writing g p in
     let same : c.commit.new.self.0 ≡ c.conn-2-1.given.0 = search rules in
     let late : HasCleanDisk (end g p) = subst (λ k. HasCleanDisk (state g.S.Store k)) (sym same) clean in
     let first = clean_mid g p late in
-    let left = c.in_ok-move_rows.ensures.books_after rows from to first (inside g w) (there g w rows from to lines) text in
+    let left = c.in_ok-move_rows.ensures.books_after rows from to first (inside g w) (there g w rows from to lines) legal text in
     error_faults c.in-Err.error c.fault_of.result _ c.fault_of.ensures.value
     (λ room. subst (λ k. HasOutsideCause (old g w) (state g.S.Store k)) same
     (let outside = outside_later (begun g w) (mid g w) (end g p) _ _ c.move_rows.ensures.survives first c.commit.ensures.survives

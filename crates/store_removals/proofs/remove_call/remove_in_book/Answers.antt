@@ -1,5 +1,6 @@
 -- A removal in the tables is `remove_step` on their books, also after a crash.
--- Given here: the plan and the write are one step of the book that was found (`written_changes`).
+-- Given here: the plan and the write are one step of the book that was found (`wrote_changes`).
+-- The card that goes was live, so its UID is legal.
 -- The plan holds only over right numbers of tombstones, which the caller has (`found_over_counts`).
 -- The number afterwards (`tombstones_left`) needs members with different numbers: a constraint of
 -- the tables, which `conn.schema()` gives. Without that call `found` breaks first.
@@ -8,7 +9,7 @@ use Rattle.book_model.specs.Putting.{found_in_book}
 use Rattle.store_tables.proofs.SchemaCreationLemmas.{clean_before}
 use Rattle.store_lookups.proofs.ChangeFaultLemmas.{then_change_faults}
 use Rattle.store_lookups.proofs.StoreFaultLemmas.{passed_cause}
-use Rattle.store_removals.proofs.FaultLemmas.{drop_below, live_short, removes_live}
+use Rattle.store_removals.proofs.FaultLemmas.{drop_below, removes_live}
 use Rattle.std.specs.FinMap as finite
 use Rattle.sqlite.specs.Effect.{Database}
 use Rattle.sqlite.specs.Held.{state}
@@ -25,12 +26,14 @@ use Rattle.book_model.specs.Counts.{AreCountsOf, CountsByName}
 use Rattle.store_rows.specs.SoundTables.{AreSoundRows}
 use Rattle.book_model.specs.Removing.{remove_step}
 use Rattle.store_rows.specs.TableBooks.{row_book, books_of, books_in, line_row}
-use Rattle.store_rows.specs.TableRows.{TableRows}
+use Rattle.store_rows.specs.TableRows.{TableRows, HoldsRows}
+use Rattle.store_rows.proofs.UidLemmas.{live_legal}
+use Rattle.store_rows.specs.Values.{IsLegalUid}
 use Rattle.store_writes.specs.TableChanges.{AppliesStep, CommitsOnce, HasBookRow, HoldsBooks, IsAtomic, TreesHold}
 use Rattle.store_removals.specs.internal.Removals.{IsRemovalOf}
 use Rattle.store_lookups.specs.CallResults.{GivenSoundRows}
 use Rattle.store_lookups.specs.StoredBooks.{KeepsCounts, stored_books}
-use Rattle.store_writes.proofs.CallLemmas.{failed_counts, fault_does, found_over_counts, named_does, named_row_held, read_counted, written_changes, written_commits, written_counts}
+use Rattle.store_writes.proofs.CallLemmas.{failed_counts, fault_does, found_over_counts, named_does, named_row_held, read_counted, wrote_changes, wrote_commits, wrote_counts}
 use Rattle.store_writes.proofs.TransactionFaults.{live_obeys}
 use Rattle.store_removals.proofs.CountLemmas.{HaveOwnNumbers, own_numbers, tombstones_left}
 use Rattle.store_removals.proofs.RemoveLemmas.{denied_remove, if_known, reads_over_counts, remove_of, removed_does, removed_holds}
@@ -81,27 +84,37 @@ module _ (g : given.Over) (c : After-write_remove g) where
         sound,
       ))
 
-  written : (r : Result ℕ Denied) → ((rows : TableRows) → HasCleanDisk new → HasBookRow (mid g planning).now rows c.args.name.now c.in_ok-plan.plan.header → IsAtomic (mid g planning) new r (made rows))
+  line_of : (rows : TableRows) → HoldsRows (mid g planning).now rows → AreSoundRows rows → planned rows → HasBookRow (mid g planning).now rows c.args.name.now c.in_ok-plan.plan.header
+  line_of rows holds sound h = record { holds = holds; sound = sound; there = h.0.named.there }
+
+  -- the card that is removed was live, so its UID is legal
+  legal : (rows : TableRows) → planned rows → IsLegalUid c.args.uid.now
+  legal rows h =
+      let b = line_row c.args.name.now c.in_ok-plan.plan.header in
+      let live = removes_live c.args.limits (found_in_book (row_book rows b) c.args.uid.now) c.args.expect c.in_ok-plan.plan.number h.0.number in
+      live_legal rows b c.args.uid.now live.0 h.3 live.1
+
+  written : (r : Result ℕ Denied) → ((rows : TableRows) → HasCleanDisk new → HasBookRow (mid g planning).now rows c.args.name.now c.in_ok-plan.plan.header → IsLegalUid c.args.uid.now → IsAtomic (mid g planning) new r (made rows))
       → ((rows : TableRows) → planned rows → IsAtomic (old g planning) new r (made rows) → IsTrue new.is_open → MatchesStep r (step g planning (books_of rows)) (stored_books (old g planning)) (stored_books new)) → AppliesStep (old g planning) new r (step g planning)
   written r atomic matches_step =
-      written_changes made (step g planning) (old g planning) (mid g planning) new c.args.name.now c.in_ok-plan.plan.header r
-      c.in_ok-plan.ensures.unchanged c.plan_remove.ensures.reads_only planned found (λ rows h. h.0.named) c.write_remove.ensures.survives
-      c.write_remove.ensures.settled c.in_ok-plan.ensures.was_open atomic (λ rows a h. h.sound) matches_step
+      wrote_changes made (step g planning) (old g planning) (mid g planning) new r
+      c.in_ok-plan.ensures.unchanged c.plan_remove.ensures.reads_only planned found c.write_remove.ensures.survives
+      c.write_remove.ensures.settled c.in_ok-plan.ensures.was_open (λ rows clean holds sound h. atomic rows clean (line_of rows holds sound h) (legal rows h)) (λ rows a h. h.sound) matches_step
 
-  counts : (r : Result ℕ Denied) (after : CountsByName) → ((rows : TableRows) → HasCleanDisk new → HasBookRow (mid g planning).now rows c.args.name.now c.in_ok-plan.plan.header → IsAtomic (mid g planning) new r (made rows))
+  counts : (r : Result ℕ Denied) (after : CountsByName) → ((rows : TableRows) → HasCleanDisk new → HasBookRow (mid g planning).now rows c.args.name.now c.in_ok-plan.plan.header → IsLegalUid c.args.uid.now → IsAtomic (mid g planning) new r (made rows))
       → ((rows : TableRows) → planned rows → IsAtomic (old g planning) new r (made rows) → IsTrue new.is_open → AreCountsOf c.args.counts.now (stored_books (old g planning)) → stored_books (old g planning) ≡ books_of rows → AreCountsOf after (stored_books new))
       → KeepsCounts (old g planning) new c.args.counts.now after
   counts r after atomic right =
-      written_counts made (step g planning) (old g planning) (mid g planning) new c.args.name.now c.in_ok-plan.plan.header r
-      c.in_ok-plan.ensures.unchanged c.plan_remove.ensures.reads_only planned found (λ rows h. h.0.named) c.write_remove.ensures.survives
-      atomic c.args.counts.now after right
+      wrote_counts made (step g planning) (old g planning) (mid g planning) new r
+      c.in_ok-plan.ensures.unchanged c.plan_remove.ensures.reads_only planned found c.write_remove.ensures.survives
+      (λ rows clean holds sound h. atomic rows clean (line_of rows holds sound h) (legal rows h)) c.args.counts.now after right
 
   crash : CommitsOnce (old g planning) new (step g planning)
   crash =
       let plan = c.in_ok-plan.plan in
-      written_commits made (step g planning) (old g planning) (mid g planning) new c.args.name.now plan.header (Ok plan.number)
-      c.in_ok-plan.ensures.unchanged c.plan_remove.ensures.reads_only planned found (λ rows h. h.0.named) c.write_remove.ensures.survives c.in_ok-plan.ensures.was_open
-      (λ rows. TreesHold (removed rows)) (λ rows line. c.write_remove.ensures.crash rows c.args.name.now line)
+      wrote_commits made (step g planning) (old g planning) (mid g planning) new (Ok plan.number)
+      c.in_ok-plan.ensures.unchanged c.plan_remove.ensures.reads_only planned found c.write_remove.ensures.survives c.in_ok-plan.ensures.was_open
+      (λ rows. TreesHold (removed rows)) (λ rows holds sound h. c.write_remove.ensures.crash (legal rows h) rows c.args.name.now (line_of rows holds sound h))
       (λ rows h db held. named_row_held rows c.args.name.now plan.header (remove_of c.args.limits (books_of rows) c.args.name.now c.args.uid.now c.args.expect) db h.0.named
       (removed_holds rows c.args.name.now plan.header c.args.uid.now c.args.limits c.args.expect plan.number plan.drop h.0.number h.0.drop db held))
 
@@ -121,7 +134,7 @@ returns-in_err-write_remove-clause-changes g c =
     let before = old g (planning g p) in
     let said : c.from_residual-in_err-write_remove.result ≡ Err c.in_err-write_remove.field-0.0 = search rules in
     subst (λ r. AppliesStep before (new g p) r (step g (planning g p))) (sym said)
-    (written g p (Err c.in_err-write_remove.field-0.0) (λ rows clean line. c.in_err-write_remove.ensures.atomic rows c.args.name.now clean line)
+    (written g p (Err c.in_err-write_remove.field-0.0) (λ rows clean line is. c.in_err-write_remove.ensures.atomic is rows c.args.name.now clean line)
     (λ rows h done up. fault_does (step g (planning g p) (books_of rows)) c.in_err-write_remove.field-0.0 (stored_books before) (stored_books (new g p)) c.in_err-write_remove.ensures.fault (ap (λ (d : Database). books_in d.trees) (done up).0)))
 
 pub returns-clause-changes : goal.returns-clause-changes
@@ -129,7 +142,7 @@ returns-clause-changes g c =
     let p = (goal.at.returns-clause-changes g c).After-write_remove in
     let before = old g (planning g p) in
     let plan = c.in_ok-plan.plan in
-    written g p (Ok plan.number) (λ rows clean line. c.in_ok-write_remove.ensures.atomic rows c.args.name.now clean line)
+    written g p (Ok plan.number) (λ rows clean line is. c.in_ok-write_remove.ensures.atomic is rows c.args.name.now clean line)
     (λ rows h done up. named_does rows c.args.name.now plan.header (remove_of c.args.limits (books_of rows) c.args.name.now c.args.uid.now c.args.expect) (Ok plan.number) (stored_books before) (stored_books (new g p)) h.0.named
     (removed_does rows c.args.name.now plan.header c.args.uid.now c.args.limits c.args.expect plan.number plan.drop h.0.number h.0.drop (new g p) (stored_books before) done.0))
 
@@ -152,14 +165,12 @@ returns-in_err-write_remove-clause-store_fault g c rows clean holds accept free 
     let between = mid g (planning g p) in
     let plan = c.in_ok-plan.plan in
     let name = c.args.name.now in
-    let planned = (found g p rows (clean_before _ between (new g p) c.write_remove.ensures.survives clean) holds accept.faultless.sound).0 in
-    let live = removes_live c.args.limits (found_in_book (row_book rows (line_row name plan.header)) c.args.uid.now) c.args.expect plan.number planned.number in
-    let short = live_short rows (line_row name plan.header) c.args.uid.now live.0 accept.short_uids live.1 in
+    let is = legal g p rows (found g p rows (clean_before _ between (new g p) c.write_remove.ensures.survives clean) holds accept.faultless.sound) in
     let failed : Result ℕ Denied = Err c.in_err-write_remove.field-0.0 in
     passed_cause c.from_residual-in_err-write_remove.result c.in_err-write_remove.field-0.0 _ c.from_residual-in_err-write_remove.ensures.1
     (then_change_faults before between (new g p) _ _ name plan.header failed c.plan_remove.ensures.reads_only.survives c.in_ok-plan.ensures.unchanged
     (λ rows early held sound. (found g p rows early held sound).0.named.there) c.write_remove.ensures.survives
-    (c.in_err-write_remove.ensures.store_fault c.in_ok-plan.ensures.number_fits (drop_below plan.drop plan.header.number c.in_ok-plan.ensures.drop_fits c.in_ok-plan.ensures.number_fits) short) rows clean holds accept free)
+    (c.in_err-write_remove.ensures.store_fault c.in_ok-plan.ensures.number_fits (drop_below plan.drop plan.header.number c.in_ok-plan.ensures.drop_fits c.in_ok-plan.ensures.number_fits) is) rows clean holds accept free)
 
 -- ---- the numbers of tombstones
 
@@ -172,7 +183,7 @@ pub returns-in_err-write_remove-clause-counts : goal.returns-in_err-write_remove
 returns-in_err-write_remove-clause-counts g c =
     let p = (goal.at.returns-in_err-write_remove-clause-counts g c).After-write_remove in
     let counted = c.plan_remove.new.counts in
-    counts g p (Err c.in_err-write_remove.field-0.0) counted (λ rows clean line. c.in_err-write_remove.ensures.atomic rows c.args.name.now clean line)
+    counts g p (Err c.in_err-write_remove.field-0.0) counted (λ rows clean line is. c.in_err-write_remove.ensures.atomic is rows c.args.name.now clean line)
     (λ rows h done up right same. failed_counts {A = ℕ} (made g p rows) (old g (planning g p)) (new g p) c.in_err-write_remove.field-0.0 counted done up (subst (λ (b : Books). AreCountsOf counted b) (sym same) h.1))
 
 pub returns-clause-counts : goal.returns-clause-counts
@@ -182,7 +193,7 @@ returns-clause-counts g c =
     let name = c.args.name.now in
     let uid = c.args.uid.now in
     let after = c.set_count.new.counts in
-    counts g p (Ok plan.number) after (λ rows clean line. c.in_ok-write_remove.ensures.atomic rows name clean line)
+    counts g p (Ok plan.number) after (λ rows clean line is. c.in_ok-write_remove.ensures.atomic is rows name clean line)
     (λ rows h done up right same.
     let book = row_book rows (line_row name plan.header) in
     let left = book_after_drop (book_with_row book uid (TakesAway Deletion)) plan.drop in

@@ -26,6 +26,7 @@ use Rattle.store_tables.specs.SchemaCreation.{HoldsInTx}
 use Rattle.store_tables.proofs.SchemaCreationLemmas.{clean_before}
 use Rattle.store_rows.specs.TableBooks.{HeaderRow, row_book, books_of, line_row}
 use Rattle.store_rows.specs.TableRows.{TableRows}
+use Rattle.store_rows.specs.Values.{IsLegalUid}
 use Rattle.store_writes.specs.TableChanges.{AreHeaderColumns, HasBookRow, HoldsBooks, IsAtomic, TreesHold}
 use Rattle.store_removals.specs.internal.Removals.{header_after_drop}
 use Rattle.store_writes.proofs.ChangeLemmas.{committed_done, failed_done}
@@ -58,7 +59,7 @@ module _ (g : given.Over) (c : After-commit g) where
 
 -- the writes, given what the clauses are given
 module _ (g : given.Over) (c : After-commit g) (rows : TableRows) (name : List ℕ) (header : HeaderRow) (why : RemovalReason) (last : ℕ) (line : HasBookRow (old g c).now rows name header)
-    (changed_is : c.args.changed ≡ pos (header.number + 1)) (upto_is : c.args.upto ≡ pos last) (columns : AreHeaderColumns (header_after_drop why last header) c.args.id c.args.numbers) where
+    (legal : IsLegalUid c.args.uid.now) (changed_is : c.args.changed ≡ pos (header.number + 1)) (upto_is : c.args.upto ≡ pos last) (columns : AreHeaderColumns (header_after_drop why last header) c.args.id c.args.numbers) where
   inside : IsTrue (begun g c).in_transaction
   inside = rw c.transaction-tx.ensures.begun
 
@@ -71,7 +72,7 @@ module _ (g : given.Over) (c : After-commit g) (rows : TableRows) (name : List �
   left : HasCleanDisk (mid g c) → HoldsInTx (mid g c) (λ db. HoldsBooks db (made g c rows name header why last))
   left first =
       change_inside (mid g c) rows (pos header.id) (made g c rows name header why last)
-      (c.in_ok-write_removal_with_drop.ensures.books_after header why last (to_z-of_z c.ranges.changed ∙ changed_is) (to_z-of_z c.ranges.upto ∙ upto_is) (record { id_is = id_is; numbers = columns.numbers }) rows name first inside there)
+      (c.in_ok-write_removal_with_drop.ensures.books_after header why last legal (to_z-of_z c.ranges.changed ∙ changed_is) (to_z-of_z c.ranges.upto ∙ upto_is) (record { id_is = id_is; numbers = columns.numbers }) rows name first inside there)
 
   kept : HasCleanDisk (mid g c) → KeepsCommit (state g.S.Store (record c.args.conn.now { in_transaction = true })) (mid g c)
   kept first = rw c.transaction-tx.ensures.begun at (c.in_ok-write_removal_with_drop.ensures.keeps_commit header id_is rows name first inside there)
@@ -86,7 +87,7 @@ module _ (g : given.Over) (c : After-commit g) (rows : TableRows) (name : List �
 -- ---- the clauses
 
 pub returns-in_err-commit-clause-atomic : goal.returns-in_err-commit-clause-atomic
-returns-in_err-commit-clause-atomic g c header why last changed_is upto_is columns rows name clean line =
+returns-in_err-commit-clause-atomic g c header why last legal changed_is upto_is columns rows name clean line =
     let p = (goal.at.returns-in_err-commit-clause-atomic g c).After-commit in
     let same : c.commit.new.self.0 ≡ c.conn-2-1.given.0 = search rules in
     let late : HasCleanDisk (end g p) = subst (λ k. HasCleanDisk (state g.S.Store k)) (sym same) clean in
@@ -95,15 +96,15 @@ returns-in_err-commit-clause-atomic g c header why last changed_is upto_is colum
     subst (λ r. IsAtomic (old g p) (state g.S.Store c.conn-2-1.given.0) r (λ _ db. HoldsBooks db (made g p rows name header why last))) (sym said)
     (subst (λ k. IsTrue (state g.S.Store k).is_open → ((state g.S.Store k).now ≡ (old g p).now) × ((state g.S.Store k).now ≡ (state g.S.Store k).committed)) same
     (failed_done (state g.S.Store (record c.args.conn.now { in_transaction = true })) (mid g p) (end g p) c.in_err-commit.field-0.0
-    (kept g p rows name header why last line changed_is upto_is columns first) (left g p rows name header why last line changed_is upto_is columns first).inside (c.in_err-commit.ensures.err late) c.assert_no_pending_writes.ensures))
+    (kept g p rows name header why last line legal changed_is upto_is columns first) (left g p rows name header why last line legal changed_is upto_is columns first).inside (c.in_err-commit.ensures.err late) c.assert_no_pending_writes.ensures))
 
 pub returns-clause-atomic : goal.returns-clause-atomic
-returns-clause-atomic g c header why last changed_is upto_is columns rows name clean line =
+returns-clause-atomic g c header why last legal changed_is upto_is columns rows name clean line =
     let p = (goal.at.returns-clause-atomic g c).After-commit in
     let same : c.commit.new.self.0 ≡ c.conn-2-1.given.0 = search rules in
     let late : HasCleanDisk (end g p) = subst (λ k. HasCleanDisk (state g.S.Store k)) (sym same) clean in
     subst (λ k. HoldsBooks (state g.S.Store k).now (made g p rows name header why last) × ((state g.S.Store k).now ≡ (state g.S.Store k).committed)) same
-    (committed_done (mid g p) (end g p) (λ db. HoldsBooks db (made g p rows name header why last)) (left g p rows name header why last line changed_is upto_is columns (clean_mid g p late)) (c.in_ok-commit.ensures.ok late).1)
+    (committed_done (mid g p) (end g p) (λ db. HoldsBooks db (made g p rows name header why last)) (left g p rows name header why last line legal changed_is upto_is columns (clean_mid g p late)) (c.in_ok-commit.ensures.ok late).1)
 
 pub returns-clause-survives : goal.returns-clause-survives
 returns-clause-survives g c =
@@ -113,22 +114,22 @@ returns-clause-survives g c =
     subst (λ k. Survives (old g p) (state g.S.Store k) (λ _. ⊤)) same (survives_begin g.S.Store c.args.conn.now (end g p) (λ _. ⊤) (rw c.transaction-tx.ensures.begun at all))
 
 pub returns-in_err-commit-clause-crash : goal.returns-in_err-commit-clause-crash
-returns-in_err-commit-clause-crash g c header why last changed_is upto_is columns rows name line =
+returns-in_err-commit-clause-crash g c header why last legal changed_is upto_is columns rows name line =
     let p = (goal.at.returns-in_err-commit-clause-crash g c).After-commit in
     let same : c.commit.new.self.0 ≡ c.conn-2-1.given.0 = search rules in
-    subst (λ k. Survives (old g p) (state g.S.Store k) (TreesHold (made g p rows name header why last))) same (crash g p rows name header why last line changed_is upto_is columns)
+    subst (λ k. Survives (old g p) (state g.S.Store k) (TreesHold (made g p rows name header why last))) same (crash g p rows name header why last line legal changed_is upto_is columns)
 
 pub returns-clause-crash : goal.returns-clause-crash
-returns-clause-crash g c header why last changed_is upto_is columns rows name line =
+returns-clause-crash g c header why last legal changed_is upto_is columns rows name line =
     let p = (goal.at.returns-clause-crash g c).After-commit in
     let same : c.commit.new.self.0 ≡ c.conn-2-1.given.0 = search rules in
-    subst (λ k. Survives (old g p) (state g.S.Store k) (TreesHold (made g p rows name header why last))) same (crash g p rows name header why last line changed_is upto_is columns)
+    subst (λ k. Survives (old g p) (state g.S.Store k) (TreesHold (made g p rows name header why last))) same (crash g p rows name header why last line legal changed_is upto_is columns)
 
 -- ---- errors
 
 -- the writes failed
 pub returns-in_err-write_removal_with_drop-clause-fails_from_outside : goal.returns-in_err-write_removal_with_drop-clause-fails_from_outside
-returns-in_err-write_removal_with_drop-clause-fails_from_outside g c header why last changed_is upto_is columns rows name accepts clean schema =
+returns-in_err-write_removal_with_drop-clause-fails_from_outside g c header why last legal changed_is upto_is columns rows name accepts clean schema =
     let old = state g.S.Store c.args.conn.now in
     let mid = state g.S.Store c.write_removal_with_drop.new.tx.conn.now in
     let end = state g.S.Store c.drop-tx.new.self.0 in
@@ -147,7 +148,7 @@ returns-in_err-write_removal_with_drop-clause-fails_from_outside g c header why 
 
 -- the commit failed
 pub returns-in_err-commit-clause-fails_from_outside : goal.returns-in_err-commit-clause-fails_from_outside
-returns-in_err-commit-clause-fails_from_outside g c header why last changed_is upto_is columns rows name accepts clean schema =
+returns-in_err-commit-clause-fails_from_outside g c header why last legal changed_is upto_is columns rows name accepts clean schema =
     let p = (goal.at.returns-in_err-commit-clause-fails_from_outside g c).After-commit in
     let same : c.commit.new.self.0 ≡ c.conn-2-1.given.0 = search rules in
     let late : HasCleanDisk (end g p) = subst (λ k. HasCleanDisk (state g.S.Store k)) (sym same) clean in
@@ -156,5 +157,5 @@ returns-in_err-commit-clause-fails_from_outside g c header why last changed_is u
     subst (λ r. IfErr r (λ e. e ≢ SqliteFailure OutOfMemory → HasOutsideCause (old g p) (state g.S.Store c.conn-2-1.given.0))) (sym said)
     (λ room. subst (λ k. HasOutsideCause (old g p) (state g.S.Store k)) same
     (let outside = outside_later (begun g p) (mid g p) (end g p) _ _ c.write_removal_with_drop.ensures.survives first c.commit.ensures.survives
-    (commit_fails (mid g p) (end g p) c.in_err-commit.field-0.0 (left g p rows name header why last accepts.book.line changed_is upto_is columns first).inside (c.in_err-commit.ensures.err late) room) in
+    (commit_fails (mid g p) (end g p) c.in_err-commit.field-0.0 (left g p rows name header why last accepts.book.line legal changed_is upto_is columns first).inside (c.in_err-commit.ensures.err late) room) in
     rw c.transaction-tx.ensures.begun at outside))

@@ -68,7 +68,7 @@ module _ (g : given.Over) (c : After-renumber_book g) where
 -- ---- the clauses
 
 pub returns-clause-books_after : goal.returns-clause-books_after
-returns-clause-books_after g c header why last changed_is upto_is columns rows name clean inside line =
+returns-clause-books_after g c header why last legal changed_is upto_is columns rows name clean inside line =
     let p = (goal.at.returns-clause-books_after g c).After-renumber_book in
     let a = put g p in
     let b = forgot g p in
@@ -80,7 +80,7 @@ returns-clause-books_after g c header why last changed_is upto_is columns rows n
     let uid = c.args.uid.now in
     let puts = subst (λ z. PutsRow a.now.trees z uid (pos (header.number + 1)) None rows.members) id (subst (λ z. PutsRow a.now.trees (to_z w64 (of_z w64 c.args.id)) uid z None rows.members) at (c.in_ok-put_member.ensures.puts rows.members second inside line.holds.schema line.sound.members line.holds.members)) in
     let first = c.in_ok-put_member.ensures.writes rows.members second inside line.holds.schema line.sound.members line.holds.members in
-    let one = put_held (old g p).now a.now rows (line_row name header) uid (pos (header.number + 1)) None line.holds line.sound line.there refl tt puts (writes_table 4 (old g p) a first) in
+    let one = put_held (old g p).now a.now rows (line_row name header) uid (pos (header.number + 1)) None line.holds line.sound line.there legal refl tt puts (writes_table 4 (old g p) a first) in
     let ms = upsert_member one.id (pos header.id) uid (pos (header.number + 1)) None rows.members in
     let members = subst (λ z. HasMembers b (without_removed z (pos last) ms)) id (subst (λ z. HasMembers b (without_removed (to_z w64 (of_z w64 c.args.id)) z ms)) until (c.in_ok-forget_members.ensures.forgets ms third first.inside first.schema one.within.sound.members one.holds.members)) in
     let two = c.in_ok-forget_members.ensures.writes ms third first.inside first.schema one.within.sound.members one.holds.members in

@@ -31,7 +31,7 @@ use Rattle.store_writes.proofs.TransactionFaults.{memory_cause}
 use Rattle.store_resync.specs.declared.planning.BookPlan.{BookPlan}
 use Rattle.store_resync.specs.declared.planning.Renewal.{Renewal}
 use Rattle.store_resync.specs.internal.Plans.{HasShortText, IsBookPlan, IsRenewed}
-use Rattle.store_resync.proofs.PlanLemmas.{book_planned, book_refused, cards_denied, cards_found, fault_follows, header_denied, with_room, without_room}
+use Rattle.store_resync.proofs.PlanLemmas.{book_planned, book_refused, cards_denied, cards_found, fault_follows, header_denied, renewed_legal, with_room, without_room}
 use Rattle.store_resync.proofs.planning.plan_book.Given as given
 use Rattle.store_resync.proofs.planning.plan_book.Goals as goal
 use Rattle.store_resync.proofs.planning.plan_book.Goals.{After-has_room}
@@ -100,7 +100,8 @@ returns-clause-planned g c rows clean holds sound book at =
     subst (λ m. IsRenewed c.in_ok-renewed.renewed (slice_get (finite.entries m) 0)) live (rw c.from_map.ensures at c.in_ok-renewed.ensures.renewed) in
     book_planned c.args.limits c.args.pairs rows c.args.name.now header book named at c.in_ok-own_name.own_name c.in_ok-last.last c.counts_after_pairs-counts.result c.in_ok-renewed.renewed
     (search rules) (value g p) (sum g p) (search rules) (last_is g p) (search rules) (search rules)
-    (without_room c.args.limits own c.in_ok-renewed.renewed full renewed) c.in_ok-renewed.ensures.short c.in_ok-renewed.ensures.canonical
+    (without_room c.args.limits own c.in_ok-renewed.renewed full renewed) c.in_ok-renewed.ensures.short
+    (renewed_legal rows (line_row c.args.name.now header) c.in_ok-renewed.renewed sound renewed c.in_ok-renewed.ensures.canonical)
 
 -- ---- reads
 

@@ -17,16 +17,16 @@ module _ (g : given.Over) (c : After-write_stage g) where
   columns = record { id_is = id_is; numbers = search rules }
 
 pub returns-in-Ok-clause-stage : goal.returns-in-Ok-clause-stage
-returns-in-Ok-clause-stage g c texts rows name clean inside line =
+returns-in-Ok-clause-stage g c legal rows name clean inside line =
     let p = (goal.at.returns-in-Ok-clause-stage g c).After-write_stage in
-    c.in-Ok.ensures.stage (columns g p) (last_is g p) texts rows name clean inside line
+    c.in-Ok.ensures.stage (columns g p) (last_is g p) legal rows name clean inside line
 
 pub returns-in-Ok-clause-keeps_commit : goal.returns-in-Ok-clause-keeps_commit
-returns-in-Ok-clause-keeps_commit g c texts rows name clean inside line =
+returns-in-Ok-clause-keeps_commit g c legal rows name clean inside line =
     let p = (goal.at.returns-in-Ok-clause-keeps_commit g c).After-write_stage in
-    c.write_stage.ensures.keeps_commit (id_is g p) (last_is g p) texts rows name clean inside line
+    c.write_stage.ensures.keeps_commit (id_is g p) (last_is g p) legal rows name clean inside line
 
 pub returns-in-Err-clause-keeps_commit : goal.returns-in-Err-clause-keeps_commit
-returns-in-Err-clause-keeps_commit g c texts rows name clean inside line =
+returns-in-Err-clause-keeps_commit g c legal rows name clean inside line =
     let p = (goal.at.returns-in-Err-clause-keeps_commit g c).After-write_stage in
-    c.write_stage.ensures.keeps_commit (id_is g p) (last_is g p) texts rows name clean inside line
+    c.write_stage.ensures.keeps_commit (id_is g p) (last_is g p) legal rows name clean inside line

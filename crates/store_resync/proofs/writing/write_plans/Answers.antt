@@ -43,7 +43,7 @@ returns-in_err-write_plan-clause-keeps_commit g c rows clean inside given =
     let at : slice_get plans i ≡ Some plan = slice_get_read plans (length plans) i plan refl c.loop-plan-test.true c.plan-item.is in
     let line : HasBookRow mid.now here.holds.now plan.name (header_before stage plan) =
     record { holds = here.holds.holds; sound = here.holds.sound; there = (here.holds.unwritten i plan (omega arith) at).0 } in
-    keeps_then old mid new (first.kept rows early inside given) (c.write_plan.ensures.keeps_commit (given.texts i plan at) here.holds.now plan.name clean here.inside line)
+    keeps_then old mid new (first.kept rows early inside given) (c.write_plan.ensures.keeps_commit (given.legal i plan at) here.holds.now plan.name clean here.inside line)
 
 pub loop-plan-preserved : goal.loop-plan-preserved
 loop-plan-preserved g c =
@@ -63,14 +63,14 @@ loop-plan-preserved g c =
           let here = first.holds rows early inside given in
           let line : HasBookRow mid.now here.holds.now plan.name (header_before stage plan) =
           record { holds = here.holds.holds; sound = here.holds.sound; there = (here.holds.unwritten i plan (omega arith) at).0 } in
-          let next = c.in_ok-write_plan.ensures.stage (given.texts i plan at) here.holds.now plan.name clean here.inside line in
+          let next = c.in_ok-write_plan.ensures.stage (given.legal i plan at) here.holds.now plan.name clean here.inside line in
           record { holds = stages_next old.now mid.now new.now rows plans stage i plan given at here.holds next.holds; inside = next.inside };
       kept = λ rows clean inside given.
           let early : HasCleanDisk mid = clean_before _ mid new c.write_plan.ensures.survives clean in
           let here = first.holds rows early inside given in
           let line : HasBookRow mid.now here.holds.now plan.name (header_before stage plan) =
           record { holds = here.holds.holds; sound = here.holds.sound; there = (here.holds.unwritten i plan (omega arith) at).0 } in
-          keeps_then old mid new (first.kept rows early inside given) (c.write_plan.ensures.keeps_commit (given.texts i plan at) here.holds.now plan.name clean here.inside line);
+          keeps_then old mid new (first.kept rows early inside given) (c.write_plan.ensures.keeps_commit (given.legal i plan at) here.holds.now plan.name clean here.inside line);
       survives = survives_then old mid new _ _ (λ _. ⊥) (λ _ db none. none) (λ _ db none. none) first.survives c.write_plan.ensures.survives;
     }
 

@@ -21,7 +21,7 @@ use Rattle.book_model.specs.Books.{Books}
 use Rattle.book_model.specs.BookChanges.{book_with_row}
 use Rattle.store_tables.specs.SchemaCreation.{HoldsInTx}
 use Rattle.store_tables.proofs.SchemaCreationLemmas.{clean_before}
-use Rattle.store_rows.specs.ChangeLaws.{IsCardTextOf, header_after}
+use Rattle.store_rows.specs.ChangeLaws.{IsRowOfChange, header_after}
 use Rattle.store_rows.specs.TableBooks.{HeaderRow, row_book, books_of, line_row}
 use Rattle.store_rows.specs.TableRows.{TableRows}
 use Rattle.store_writes.specs.TableChanges.{AreHeaderColumns, HasBookRow, HoldsBooks, IsAtomic, TreesHold}
@@ -55,7 +55,7 @@ module _ (g : given.Over) (c : After-commit g) where
 
 -- the writes, given what the clauses are given
 module _ (g : given.Over) (c : After-commit g) (rows : TableRows) (name : List ℕ) (header : HeaderRow) (change : Change) (line : HasBookRow (old g c).now rows name header)
-    (changed_is : c.args.changed ≡ pos (header.number + 1)) (text_is : IsCardTextOf (option_copied c.args.card) change) (columns : AreHeaderColumns (header_after change header) c.args.id c.args.numbers) where
+    (changed_is : c.args.changed ≡ pos (header.number + 1)) (text_is : IsRowOfChange c.args.uid.now (option_copied c.args.card) change) (columns : AreHeaderColumns (header_after change header) c.args.id c.args.numbers) where
   inside : IsTrue (begun g c).in_transaction
   inside = rw c.transaction-tx.ensures.begun
 

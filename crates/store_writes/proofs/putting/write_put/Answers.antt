@@ -13,8 +13,9 @@ use Rattle.book_model.specs.declared.change.Change.{Change}
 use Rattle.book_model.specs.declared.change.Change.TheVariants.{Stores}
 use Rattle.sqlite.specs.Held.{state}
 use Rattle.book_model.specs.BookChanges.{card_after}
-use Rattle.store_rows.specs.ChangeLaws.{IsCardTextOf, header_after}
+use Rattle.store_rows.specs.ChangeLaws.{IsRowOfChange, header_after}
 use Rattle.store_rows.specs.Values.{IsCanonical, text_card}
+use Rattle.store_rows.proofs.UidLemmas.{card_uid_legal}
 use Rattle.store_lookups.proofs.FindLemmas.{back_of}
 use Rattle.store_writes.specs.TableChanges.{AreHeaderColumns}
 use Rattle.store_writes.proofs.ChangeLemmas.{mapped_atomic}
@@ -27,11 +28,15 @@ module _ (g : given.Over) (c : After-commit_member g) where
   abbrev change : Change
   change = Stores c.args.card.now c.args.why
 
-  text_is : IsCardTextOf (option_copied (Some c.as_str.result)) change
+  text_is : IsRowOfChange c.uid.result.now (option_copied (Some c.as_str.result)) change
   text_is =
       let octets : c.as_str.result.now ≡ string_bytes c.in_ok-text.text = search rules in
       let card : option_map text_card (Some c.as_str.result.now) ≡ card_after change = search rules in
-      record { canonical = subst IsCanonical (sym octets) c.in_ok-text.ensures.is_canonical; card = card }
+      record {
+        uid = record { utf8 = c.uid.utf8; legal = rw c.uid.ensures (card_uid_legal c.args.card.now c.lines-lines.ensures.rules) };
+        canonical = subst IsCanonical (sym octets) c.in_ok-text.ensures.is_canonical;
+        card = card;
+      }
 
   changed_is : to_z w64 (of_z w64 c.in_ok-changed.changed) ≡ pos (c.args.header.number + 1)
   changed_is = back_of c.in_ok-changed.changed (c.number.result + 1) (c.args.header.number + 1) c.in_ok-changed.ensures.ok c.in_ok-changed.ensures.fits (ap (λ k. k + 1) c.number.ensures)
