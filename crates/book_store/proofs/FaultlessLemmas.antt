@@ -1,5 +1,5 @@
 -- The rows of well-formed books cause no fault.
-use Rattle.std.proofs.Common.{◌≡◌, ◌<◌, ◌≤◌, ◌^◌, ℕ, Bool, true, false, List, length, IsUtf8, refl, sym, ◌∙◌, true≢false, arith}
+use Rattle.std.proofs.Common.{◌≡◌, ◌<◌, ◌≤◌, ◌*◌, ◌^◌, ℕ, Bool, true, false, List, length, IsUtf8, refl, sym, ◌∙◌, true≢false, arith}
 use Rattle.std.specs.FinMap as finite
 use Rattle.std.specs.List.{AllByRecursion}
 use Rattle.std.specs.Str.{is_utf8}
@@ -15,6 +15,7 @@ use Rattle.store_rows.specs.Values.{natural}
 use Rattle.store_check.proofs.GetLemmas.{give_book}
 use Rattle.store_check.proofs.ListLemmas.{all_from_has}
 use Rattle.store_check.proofs.NameLemmas.{no_name}
+use Rattle.book_store.proofs.FewLemmas.{few_members}
 use Rattle.store_lookups.specs.StoreFaults.{AreFaultless, IsFaultlessBook, IsFaultlessMember}
 
 name_utf8 : (name : List ℕ) → is_legal_name name ≡ true → IsUtf8 name
@@ -24,9 +25,8 @@ name_utf8 name legal = go (is_utf8 name) refl
     go true e = IsUtf8-from_is_utf8 name e
     go false e = absurd (true≢false (sym legal ∙ sym (no_name name (λ utf8. true≢false (sym (is_utf8-from_IsUtf8 name utf8) ∙ e)))))
 
-pub faultless_rows : (limits : Bounds) (rows : TableRows) → limits.books_max < 2 ^ 63 → limits.changes_max < 2 ^ 63 → AreWellFormed limits rows → AllByRecursion (λ m. IsUtf8 m.uid) rows.members
-    → length rows.members < 9223372036854775807 → AreFaultless rows
-faultless_rows limits rows few_books few_changes well utf8 few = record {
+pub faultless_rows : (limits : Bounds) (rows : TableRows) → limits.books_max * limits.changes_max < 9223372036854775807 → limits.books_max < 2 ^ 63 → limits.changes_max < 2 ^ 63 → AreWellFormed limits rows → AreFaultless rows
+faultless_rows limits rows few few_books few_changes well = record {
   sound = well.sound;
   books = all_from_has IsFaultlessBook rows.books (λ b there.
       let got = give_book rows b well.sound there in
@@ -43,7 +43,8 @@ faultless_rows limits rows few_books few_changes well utf8 few = record {
         horizon = is.horizon_known;
       });
   members = all_from_has IsFaultlessMember rows.members (λ m there.
-      record { readable = all_has IsReadableMember rows.members m well.sound.readable.members there; uid = all_has (λ (m : MemberRow). IsUtf8 m.uid) rows.members m utf8 there });
+      let readable = all_has IsReadableMember rows.members m well.sound.readable.members there in
+      record { readable = readable; uid = readable.uid.utf8 });
   imports = well.sound.readable.imports;
-  few_members = few;
+  few_members = omega (arith, few, few_members limits rows well);
 }

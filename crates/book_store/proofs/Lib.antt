@@ -1,6 +1,7 @@
 pub mod SchemaLemmas
 pub mod StoreLemmas
 pub mod FileLemmas
+pub mod FewLemmas
 pub mod FaultlessLemmas
 pub mod ChangeableLemmas
 pub mod CrashLemmas

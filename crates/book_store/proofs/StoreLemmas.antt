@@ -1,5 +1,6 @@
 -- The state of a store after calls that only read.
-use Rattle.std.proofs.Common.{◌≡◌, inl, inr, IsTrue, Result, Ok, Err, refl, sym, ap, subst, ◌∙◌, arith}
+use Rattle.std.proofs.Common.{◌≡◌, inl, inr, false, IsTrue, Result, Ok, Err, refl, sym, ap, subst, ◌∙◌, arith}
+use Rattle.std.proofs.lemmas.Bool.{cases_Bool}
 use Rattle.std.specs.FinMap as finite
 use Rattle.sqlite.specs.Effect.{Database}
 use Rattle.sqlite.specs.Held.{state}
@@ -18,22 +19,24 @@ use Rattle.book_laws.proofs.WellFormedBooks.{well_none}
 use Rattle.store_check.specs.OpenResults.{max_limits}
 use Rattle.store_tables.specs.StatementEffects.{OnlyReads}
 use Rattle.store_tables.proofs.SchemaCreationLemmas.{clean_before}
-use Rattle.store_rows.specs.SoundTables.{HoldsSoundRows}
+use Rattle.store_rows.specs.SoundTables.{AreWellFormed, HoldsSoundRows}
 use Rattle.store_rows.specs.TableBooks.{books_of, books_in}
 use Rattle.store_rows.specs.TableRows.{no_rows}
 use Rattle.store_rows.proofs.HeldRows.{books_held, nothing_held, no_rows_sound}
 use Rattle.store_rows.proofs.OpenLemmas.{new_tables_empty}
 use Rattle.book_model.specs.Counts.{AreCountsOf, CountsByName}
 use Rattle.store_lookups.specs.CallResults.{FollowsStep, GivenCounts, GivenSoundRows}
-use Rattle.store_lookups.specs.ChangeFaults.{ChangeFaultsFromOutside}
-use Rattle.store_lookups.specs.StoreFaults.{FaultsFromOutside}
+use Rattle.store_lookups.specs.ChangeFaults.{ChangeFaultsFromOutside, HaveFreeIds}
+use Rattle.store_lookups.specs.StoreFaults.{FaultsFromOutside, HasOutsideCauseOfFault}
 use Rattle.book_store.specs.OpenOutcomes.{IsNewStoreCommitted}
 use Rattle.book_store.specs.StoreViews.{ChangesStore, IsStore, ReadsStore, StoreView, StoredTrees}
 use Rattle.store_writes.specs.TableChanges.{AppliesStep, CommitsOnce, HoldBooksAfter, TreesHold}
 use Rattle.store_lookups.specs.StoredBooks.{HoldCounts, IsOpenOnHonestDisk, IsCommittedAndSound, stored_books}
 use Rattle.store_writes.proofs.CallLemmas.{read_before}
 use Rattle.store_writes.proofs.HeldLemmas.{trees_held}
+use Rattle.book_store.proofs.ChangeableLemmas.{changeable_rows}
 use Rattle.book_store.proofs.CountLemmas.{matched}
+use Rattle.book_store.proofs.FaultlessLemmas.{faultless_rows}
 
 -- the answer of a call that changed nothing
 pub reads_of : {T A S : Type 0} (allows : T → A → Type 0) (r : Result A Denied) (due : Result T Refusal) (old new : S) → FollowsStep allows r due → new ≡ old → MatchesQuery allows r due old new
@@ -63,6 +66,38 @@ still_store old new limits store left = record {
   range = store.range;
 }
 
+-- ---- the cause of a fault
+
+outside_if_shut : {A : Type 0} (old new : State) (r : Result A Denied) → old.is_open ≡ false → HasOutsideCauseOfFault old new r
+outside_if_shut old new (Ok x) shut = tt
+outside_if_shut old new (Err denied) shut = λ is. inl shut
+
+-- the rows of a store that is open on an honest disk are those of well-formed books
+well_rows : (s : State) (limits : Bounds) (store : IsStore s limits) (order : IsOpenOnHonestDisk s) → AreWellFormed max_limits (store.stays_sound order).sound.rows
+well_rows s limits store order =
+    let was = (store.stays_sound order).sound in
+    record { sound = was.sound; books = subst (IsWellFormed max_limits) (books_held s.now was.rows was.holds was.sound) (store.stays_well_formed order) }
+
+pub reads_outside : {A : Type 0} (old new : State) (limits : Bounds) (r : Result A Denied) (P : Trees → Type 0) → IsStore old limits → Survives old new P → FaultsFromOutside old new r → HasCleanDisk new → HasOutsideCauseOfFault old new r
+reads_outside old new limits r P store survives causes clean = elim (cases_Bool old.is_open) [
+  | inl up ↦
+      let order : IsOpenOnHonestDisk old = (clean_before P old new survives clean, up) in
+      let was = (store.stays_sound order).sound in
+      causes was.rows clean was.holds (faultless_rows max_limits was.rows (omega arith) (omega arith) (omega arith) (well_rows old limits store order))
+  | inr shut ↦ outside_if_shut old new r shut
+]
+
+pub changes_outside : {A : Type 0} (old new : State) (limits : Bounds) (r : Result A Denied) (P : Trees → Type 0) → IsStore old limits → Survives old new P → ChangeFaultsFromOutside old new r → HasCleanDisk new → HaveFreeIds old.now.trees → HasOutsideCauseOfFault old new r
+changes_outside old new limits r P store survives causes clean ids = elim (cases_Bool old.is_open) [
+  | inl up ↦
+      let order : IsOpenOnHonestDisk old = (clean_before P old new survives clean, up) in
+      let was = (store.stays_sound order).sound in
+      causes was.rows clean was.holds (changeable_rows max_limits was.rows (omega arith) (omega arith) (omega arith) (well_rows old limits store order)) ids
+  | inr shut ↦ outside_if_shut old new r shut
+]
+
+-- ---- the contracts of calls
+
 -- a call that reads the tables of a store returns what its books contain
 pub reads_store : {T A : Type 0} (allows : T → A → Type 0) (r : Result A Denied) (step : Books → Result T Refusal) (old new : State) (limits : Bounds)
     → IsStore old limits → OnlyReads old new → GivenSoundRows old new (λ rows. FollowsStep allows r (step (books_of rows))) → IsOpenOnHonestDisk new
@@ -85,7 +120,7 @@ only_reads_store g allows old new r query store same left returned causes = reco
   };
   matches_query = reads_store allows r (query old.limits) (state g old.conn) (state g new.conn) old.limits store left returned;
   only_reads = left;
-  store_fault = causes;
+  store_fault = reads_outside (state g old.conn) (state g new.conn) old.limits r _ store left.survives causes;
 }
 
 -- the same for a call whose answer depends on the numbers that the store keeps
@@ -109,7 +144,7 @@ counted_reads_store g allows old new counts r query store right same left return
           (returned was.sound.rows order.0 was.sound.holds was.sound.sound (subst (AreCountsOf counts) held (right (read_before before after left order) was))))
           (ap (λ (d : Database). books_in d.trees) here.now_is);
       only_reads = left;
-      store_fault = causes;
+      store_fault = reads_outside before after old.limits r _ store left.survives causes;
     }
 
 -- ---- created tables
@@ -139,7 +174,7 @@ changes_store g old new r step store same changed commits causes = record {
   };
   matches_step = λ order. changed.matches_step order (store.stays_sound (changed.was_open_on_honest_disk order));
   crash = commits store.stays_sound;
-  store_fault = causes;
+  store_fault = changes_outside (state g old.conn) (state g new.conn) old.limits r _ store (commits store.stays_sound) causes;
 }
 
 pub max_in_range : IsInRange max_limits

@@ -14,8 +14,8 @@ use Rattle.book_model.specs.Bounds.{Bounds, IsInRange}
 use Rattle.book_model.specs.WellFormed.{IsWellFormed}
 use Rattle.store_check.specs.OpenResults.{max_limits}
 use Rattle.store_tables.specs.StatementEffects.{OnlyReads}
-use Rattle.store_lookups.specs.ChangeFaults.{ChangeFaultsFromOutside}
-use Rattle.store_lookups.specs.StoreFaults.{FaultsFromOutside}
+use Rattle.store_lookups.specs.ChangeFaults.{HaveFreeIds}
+use Rattle.store_lookups.specs.StoreFaults.{HasOutsideCauseOfFault}
 use Rattle.store_writes.specs.TableChanges.{CommitsStep, TreesHold}
 use Rattle.store_lookups.specs.StoredBooks.{IsOpenOnHonestDisk, IsCommittedAndSound, stored_books}
 
@@ -59,24 +59,25 @@ table_model g = record {
 }
 
 -- A call that reads: the contract of every store, and that it only reads. So a crash leaves what it
--- could leave before the call. Over rows that cause no fault, a fault of the store comes only from
--- an outside cause.
+-- could leave before the call. A fault of the store comes only from an outside cause.
 pub record ReadsStore {S : Type 0} {T A : Type 0} (g : Ghosts S) (allows : T → A → Type 0)
     (old new : StoreView S) (r : Result A Denied) (query : Bounds → Books → Result T Refusal)
     : Type 0 where
   pub keeps_terms : KeepsTerms (table_model g) old new
   pub matches_query : AnswersQuery (table_model g) allows old new r query
   pub only_reads : OnlyReads (state g old.conn) (state g new.conn)
-  pub store_fault : FaultsFromOutside (state g old.conn) (state g new.conn) r
+  pub store_fault : HasCleanDisk (state g new.conn)
+      → HasOutsideCauseOfFault (state g old.conn) (state g new.conn) r
 
 -- A call that changes the books: the contract of every store, and what a crash can leave. That is
 -- what it could leave before the call, or the one commit, with the books after the whole call, which
--- is made only over a connection that was open on an honest disk. Over rows that can be changed, a
--- fault of the store comes only from an outside cause.
+-- is made only over a connection that was open on an honest disk. While SQLite has ids for new rows,
+-- a fault of the store comes only from an outside cause.
 pub record ChangesStore {S : Type 0} {A : Type 0} (g : Ghosts S) (old new : StoreView S)
     (r : Result A Denied) (step : Bounds → Books → Result (A × Books) Refusal) : Type 0 where
   pub keeps_terms : KeepsTerms (table_model g) old new
   pub matches_step : PerformsStep (table_model g) old new r step
   pub crash : Survives (state g old.conn) (state g new.conn)
       (CommitsStep (state g old.conn) (step old.limits))
-  pub store_fault : ChangeFaultsFromOutside (state g old.conn) (state g new.conn) r
+  pub store_fault : HasCleanDisk (state g new.conn) → HaveFreeIds (state g old.conn).now.trees
+      → HasOutsideCauseOfFault (state g old.conn) (state g new.conn) r

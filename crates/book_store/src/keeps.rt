@@ -2,8 +2,9 @@
 ghost use Rattle.book_model.specs.BookQueries.{keep_step};
 ghost use Rattle.book_store.specs.StoreViews.{table_model};
 ghost use Rattle.store_lookups.specs.CallResults.{IsExactly};
-ghost use Rattle.store_lookups.specs.OnConnections.{ChangeFaultsFromOutside};
-ghost use Rattle.store_tables.specs.OnConnections.{OnlyReads};
+ghost use Rattle.store_lookups.specs.OnConnections.{HasOutsideCauseOfFault};
+ghost use Rattle.store_lookups.specs.ChangeFaults.{HaveFreeIds};
+ghost use Rattle.store_tables.specs.OnConnections.{HasCleanDisk, OnlyReads, table_rows};
 ghost use Rattle.sync_core.specs.StoreModels.{AnswersQuery, KeepsTerms};
 
 use crate::sql_store::SqlStore;
@@ -20,7 +21,9 @@ impl<S: Alter> SqlStore<S> {
         ensures answers { AnswersQuery (table_model S.Store) IsExactly self.old self.new result
             (λ _ books. keep_step books book.now) }
         ensures reads_only { OnlyReads S.Store self.old.conn self.new.conn }
-        ensures store_fault { ChangeFaultsFromOutside S.Store self.old.conn self.new.conn result }
+        ensures store_fault { HasCleanDisk S.Store self.new.conn
+            → HaveFreeIds (table_rows S.Store self.old.conn)
+            → HasOutsideCauseOfFault S.Store self.old.conn self.new.conn result }
     {
         keep_of_book(&mut self.conn, book)
     }

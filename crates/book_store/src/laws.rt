@@ -10,31 +10,27 @@ ghost use Rattle.store_lookups.specs.ChangeFaults.{AcceptChanges};
 ghost use Rattle.store_lookups.specs.StoreFaults.{AreFaultless};
 ghost use Rattle.store_rows.specs.SoundTables.{AreWellFormed};
 ghost use Rattle.store_rows.specs.TableRows.{TableRows};
-ghost use Rattle.store_tables.specs.Acceptance.{IsShort};
-ghost use Rattle.std.specs.List.{AllByRecursion};
-ghost use Rattle.std.specs.Prelude.{◌<◌, ◌^◌, IsUtf8, length};
+ghost use Rattle.std.specs.Prelude.{◌<◌, ◌*◌, ◌^◌};
 
 use sqlite::Alter;
 
-/// The rows of well-formed books cause no fault in a call that reads, if each UID is UTF-8 and
-/// there are fewer than 2^63 - 1 members.
+/// The rows of well-formed books cause no fault in a call that reads, if the limits allow fewer
+/// than 2^63 - 1 changes in all books together.
 pub fn well_formed_rows_cause_no_fault()
-    ensures { (limits : Bounds) (rows : TableRows) → limits.books_max < 2 ^ 63
-        → limits.changes_max < 2 ^ 63 → AreWellFormed limits rows
-        → AllByRecursion (λ m. IsUtf8 m.uid) rows.members
-        → length rows.members < 9223372036854775807 → AreFaultless rows }
+    ensures { (limits : Bounds) (rows : TableRows)
+        → limits.books_max * limits.changes_max < 9223372036854775807
+        → limits.books_max < 2 ^ 63 → limits.changes_max < 2 ^ 63
+        → AreWellFormed limits rows → AreFaultless rows }
 {}
 
-/// The rows of well-formed books accept changes, if each UID is UTF-8 and has at most 2^20 octets,
-/// there are fewer than 2^63 - 1 members, and the limits allow fewer than 2^63 - 1 books and fewer
-/// than 2^63 changes. A change of such rows fails with `Store` only from outside, while SQLite has
-/// ids for new rows (`HaveFreeIds`).
+/// The rows of well-formed books accept changes, if the limits allow fewer than 2^63 - 1 books,
+/// fewer than 2^63 changes of each, and fewer than 2^63 - 1 of all together. A change of such rows
+/// fails with `Store` only from outside, while SQLite has ids for new rows (`HaveFreeIds`).
 pub fn well_formed_rows_accept_changes()
-    ensures { (limits : Bounds) (rows : TableRows) → limits.books_max < 9223372036854775807
-        → limits.changes_max < 2 ^ 63 → AreWellFormed limits rows
-        → AllByRecursion (λ m. IsUtf8 m.uid) rows.members
-        → AllByRecursion (λ m. IsShort m.uid) rows.members
-        → length rows.members < 9223372036854775807 → AcceptChanges rows }
+    ensures { (limits : Bounds) (rows : TableRows)
+        → limits.books_max * limits.changes_max < 9223372036854775807
+        → limits.books_max < 9223372036854775807 → limits.changes_max < 2 ^ 63
+        → AreWellFormed limits rows → AcceptChanges rows }
 {}
 
 /// A crash between two calls of a store leaves its books, with each change that a call made before

@@ -6,11 +6,13 @@ use Rattle.book_model.specs.Bounds.{Bounds}
 use Rattle.sync_core.specs.StoreModels.{AnswersQuery, KeepsTerms}
 use Rattle.store_tables.specs.StatementEffects.{OnlyReads}
 use Rattle.store_lookups.specs.CallResults.{IsExactly}
-use Rattle.store_lookups.specs.ChangeFaults.{ChangeFaultsFromOutside}
+use Rattle.sqlite.specs.State.{HasCleanDisk}
+use Rattle.store_lookups.specs.ChangeFaults.{HaveFreeIds}
+use Rattle.store_lookups.specs.StoreFaults.{HasOutsideCauseOfFault}
 use Rattle.store_writes.proofs.CallLemmas.{read_before}
 use Rattle.book_store.specs.StoreViews.{StoreView, table_model}
 use Rattle.book_store.proofs.CountLemmas.{still_counts}
-use Rattle.book_store.proofs.StoreLemmas.{reads_store, still_store}
+use Rattle.book_store.proofs.StoreLemmas.{changes_outside, reads_store, still_store}
 use Rattle.book_store.proofs.sql_store.SqlStore.keep_of.Goals as goal
 
 pub invariant_of-self : goal.invariant_of-self
@@ -41,4 +43,6 @@ returns-clause-reads_only g c =
 
 pub returns-clause-store_fault : goal.returns-clause-store_fault
 returns-clause-store_fault g c =
-    subst (λ (v : StoreView _). ChangeFaultsFromOutside (state g.S.Store v.conn) (state g.S.Store c.keep_of_book.new.conn) c.keep_of_book.result) c.self.view_is c.keep_of_book.ensures.store_fault
+    let new = state g.S.Store c.keep_of_book.new.conn in
+    subst (λ (v : StoreView _). HasCleanDisk new → HaveFreeIds (state g.S.Store v.conn).now.trees → HasOutsideCauseOfFault (state g.S.Store v.conn) new c.keep_of_book.result) c.self.view_is
+    (changes_outside (state g.S.Store c.self.inside.conn) new c.self.inside.limits c.keep_of_book.result _ c.self.invariant.0 c.keep_of_book.ensures.reads_only.survives c.keep_of_book.ensures.store_fault)
