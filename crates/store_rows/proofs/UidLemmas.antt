@@ -1,5 +1,5 @@
 -- The UIDs of cards are legal, those of stored ones too.
-use Rattle.std.proofs.Common.{◌≡◌, ◌≤◌, ◌+◌, inl, ℕ, Bool, true, false, cond, List, [], ◌∷◌, Some, count_by, filter, refl, sym, subst, ◌∙◌, arith}
+use Rattle.std.proofs.Common.{◌≡◌, ◌≤◌, ◌+◌, inl, ℕ, Bool, true, false, cond, List, [], ◌∷◌, Some, count_by, filter, refl, sym, ap, subst, ◌∙◌, arith}
 use Rattle.std.proofs.lemmas.List.Sums.{sum_by-cons}
 use Rattle.std.specs.List.{AllByRecursion}
 use Rattle.std.specs.Prelude.{codes}
@@ -21,7 +21,7 @@ use Rattle.store_rows.proofs.LookupLemmas.{member_missing}
 
 -- of lines one of which is named UID
 named_legal : (lines : List Line) → AllByRecursion IsCardLine lines → 1 ≤ count_by (line_is_named (codes "UID")) lines → is_uid (uid_of lines) ≡ true
-named_legal [] all one = absurd (omega (arith, one))
+named_legal [] all one = let none : count_by (line_is_named (codes "UID")) [] ≡ 0 = refl in absurd (omega (arith, one, none))
 named_legal (line ∷ lines) all one = go (line_is_named (codes "UID") line) refl (named_legal lines all.1)
   where
     counted : count_by (line_is_named (codes "UID")) (line ∷ lines) ≡ cond (line_is_named (codes "UID") line) 1 0 + count_by (line_is_named (codes "UID")) lines
@@ -30,7 +30,7 @@ named_legal (line ∷ lines) all one = go (line_is_named (codes "UID") line) ref
     go : (b : Bool) → line_is_named (codes "UID") line ≡ b → (1 ≤ count_by (line_is_named (codes "UID")) lines → is_uid (uid_of lines) ≡ true) → is_uid (uid_of (line ∷ lines)) ≡ true
     go true e more = rw e (all.0.legal_uid e)
     go false e more =
-        let rest : count_by (line_is_named (codes "UID")) (line ∷ lines) ≡ 0 + count_by (line_is_named (codes "UID")) lines = rw e at counted in
+        let rest : count_by (line_is_named (codes "UID")) (line ∷ lines) ≡ 0 + count_by (line_is_named (codes "UID")) lines = counted ∙ ap (λ b. cond b 1 0 + count_by (line_is_named (codes "UID")) lines) e in
         rw e (more (omega (arith, one, rest)))
 
 pub card_uid_legal : (lines : List Line) → IsCard lines → is_uid (uid_of lines) ≡ true
