@@ -50,9 +50,9 @@ few_numbers zero [] all apart = omega arith
 few_numbers zero (m ∷ ms) all apart = absurd (omega (arith, all.0.0, all.0.1))
 few_numbers (suc k) ms all apart =
     let p = is_change (suc k) in
-    let rest = filter (λ m. not (p m)) ms in
+    let rest = filter (λ (m : MemberRow). not (p m)) ms in
     let lower : AllByRecursion (IsUpTo k) rest = below ms all in
-    omega (arith, length-filter_both p (λ m. not (p m)) (λ m. refl) ms, one_at_most (suc k) ms apart, few_numbers k rest lower (ascending-filter Differ (λ m. not (p m)) ms apart))
+    omega (arith, length-filter_both p (λ (m : MemberRow). not (p m)) (λ m. refl) ms, one_at_most (suc k) ms apart, few_numbers k rest lower (ascending-filter Differ (λ (m : MemberRow). not (p m)) ms apart))
   where
     below : (xs : List MemberRow) → AllByRecursion (IsUpTo (suc k)) xs → AllByRecursion (IsUpTo k) (filter (λ m. not (is_change (suc k) m)) xs)
     below [] h = tt
