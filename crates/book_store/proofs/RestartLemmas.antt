@@ -73,6 +73,10 @@ clean_left c it quiet clean =
 -- ---- why files that hold a store don't open
 
 module _ {D : Type 0} {g : Ghosts D} (db : Database) (files : Files D) where
+  pub cause_kind : (left : Leftover D g) (fault : OpenFault) → HasRestartCause db files left fault → IsErrorFault fault
+  cause_kind left fault (inl memory) = inr memory
+  cause_kind left fault (inr (store, cause)) = inl store
+
   -- no connection was opened over them
   pub unopened_cause : (left : Leftover D g) (e : Error) (fault : OpenFault) → IsErrorFault fault → fault ≡ open_fault_of_error e → HasOpenCause files left e → HasRestartCause db files left fault
   unopened_cause left e fault kind is (inl memory) = inl (is ∙ ap open_fault_of_error memory)

@@ -7,6 +7,7 @@ ghost use Rattle.sqlite.specs.Files.{IsCleanLeft, file_state, image_of};
 ghost use Rattle.sqlite.specs.State.{HasCleanDisk};
 ghost use Rattle.sqlite.specs.WalReads.{AreClean};
 ghost use Rattle.store_lookups.specs.StoredBooks.{IsOpenOnHonestDisk, stored_books};
+ghost use Rattle.store_schema.specs.OpenFaults.{IsErrorFault};
 ghost use Rattle.store_writes.specs.TableChanges.{TreesHold};
 ghost use Rattle.std.specs.Prelude.{◌≡◌, IfErr, IfOk, IsTrue};
 
@@ -53,6 +54,10 @@ impl<D: Disk + Drop> SqlStore<FileStore<D>> {
         ensures cause { (books : Books) → (holds : HoldsStore (image_of D.Disk files) books)
             → IfErr result (λ refused. IsCleanLeft refused.1
             → HasRestartCause (declared_over holds.trees) files refused.1 refused.0) }
+
+        // So it is never refused as damaged, or as a store of another kind.
+        ensures kind { (books : Books) → HoldsStore (image_of D.Disk files) books
+            → IfErr result (λ refused. IsCleanLeft refused.1 → IsErrorFault refused.0) }
     {
         match runs::open_again(alloc, files, options) {
             Ok(connection) => match SqlStore::try_adopt(alloc, connection, limits) {

@@ -1,11 +1,12 @@
 use Rattle.std.proofs.Common.{subst, sym, ◌∙◌}
 use Rattle.sqlite.specs.Files.{file_state, image_of}
 use Rattle.sqlite.specs.State.{HasCleanDisk}
+use Rattle.sqlite.specs.declared.file.Leftover.TheVariants as leftover
 use Rattle.store_check.specs.OpenResults.{max_limits}
 use Rattle.store_rows.specs.SoundTables.{HoldsWellFormed}
 use Rattle.store_tables.proofs.SchemaCreationLemmas.{clean_before}
 use Rattle.book_store.specs.Restarts.{declared_over}
-use Rattle.book_store.proofs.RestartLemmas.{clean_left, shown_books, unopened_cause, unread_cause}
+use Rattle.book_store.proofs.RestartLemmas.{cause_kind, clean_left, shown_books, unopened_cause, unread_cause}
 use Rattle.book_store.proofs.restarting.SqlStore+FileStore+D.open_again.Goals as goal
 
 pub returns-in-Ok-try_adopt-clause-opens : goal.returns-in-Ok-try_adopt-clause-opens
@@ -27,3 +28,7 @@ returns-in-Err-try_adopt-clause-cause g c books holds clean =
     let shows = c.in-Ok.ensures.opens (declared_over holds.trees) holds.listed early in
     unread_cause (declared_over holds.trees) c.args.files c.in-Ok.connection c.in-Err-try_adopt.connection c.into_store.result c.in-Err-try_adopt.fault c.in-Ok.ensures.fresh.unlimited shows c.into_store.ensures.quiet
     (refused.from_outside late (subst (HoldsWellFormed max_limits) (sym shows.shows) holds.well_formed))
+
+pub returns-in-Err-try_adopt-clause-kind : goal.returns-in-Err-try_adopt-clause-kind
+returns-in-Err-try_adopt-clause-kind g c books holds clean =
+    cause_kind (declared_over holds.trees) c.args.files (leftover.Store c.into_store.result) c.in-Err-try_adopt.fault (returns-in-Err-try_adopt-clause-cause g c books holds clean)
