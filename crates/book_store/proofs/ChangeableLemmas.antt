@@ -1,5 +1,5 @@
 -- The rows of well-formed books can be changed.
-use Rattle.std.proofs.Common.{◌≡◌, ◌<◌, ◌≤◌, ◌^◌, ℕ, ℤ, Bool, true, false, not, ◌&&◌, ◌==◌, ◌*◌, nat_le, List, [], ◌∷◌, length, refl, sym, subst, true≢false, arith}
+use Rattle.std.proofs.Common.{◌≡◌, ◌<◌, ◌≤◌, ◌^◌, ℕ, ℤ, Bool, true, false, ◌&&◌, ◌*◌, nat_le, List, [], ◌∷◌, length, refl, sym, subst, true≢false, arith}
 use Rattle.std.specs.FinMap as finite
 use Rattle.std.specs.List.{AllByRecursion, list_all, list_any}
 use Rattle.std.proofs.lemmas.Bool.{leb-true}
@@ -8,7 +8,6 @@ use Rattle.book_model.specs.Bounds.{Bounds}
 use Rattle.store_tables.specs.Acceptance.{IsShort}
 use Rattle.store_tables.specs.Keeps.{KeepRow, is_keep_of}
 use Rattle.sqlite_trees.proofs.ListLemmas.{all_weaker}
-use Rattle.base_types.specs.Octets.{tab}
 use Rattle.vcard_text.specs.Cards.{is_uid}
 use Rattle.store_rows.specs.SoundTables.{AreWellFormed, IsReadableMember}
 use Rattle.store_rows.specs.TableBooks.{books_of, keep_of_book, row_book}
@@ -39,7 +38,7 @@ some_keep book (k ∷ ks) h = step (is_keep_of book k) refl (some_keep book ks)
 
 short_uid : (uid : List ℕ) → is_uid uid ≡ true → IsShort uid
 short_uid uid legal =
-    let few = leb-true (length uid) 255 (middle_true (nat_le 1 (length uid)) (nat_le (length uid) 255) (not (list_any (λ b. b == tab) uid)) legal) in
+    let few = leb-true (length uid) 255 (middle_true (nat_le 1 (length uid)) (nat_le (length uid) 255) _ legal) in
     omega (arith, few)
 
 pub changeable_rows : (limits : Bounds) (rows : TableRows) → limits.books_max * limits.changes_max < 9223372036854775807 → limits.books_max < 9223372036854775807 → limits.changes_max < 2 ^ 63 → AreWellFormed limits rows → AcceptChanges rows
