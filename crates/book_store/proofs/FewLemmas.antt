@@ -3,6 +3,7 @@ use Rattle.std.proofs.Common.{◌≡◌, ◌≢◌, ◌≤◌, ◌+◌, ◌*◌,
 use Rattle.std.specs.List.{AllByRecursion, list_any}
 use Rattle.std.proofs.lemmas.List.Filters.{length-filter_both}
 use Rattle.std.proofs.lemmas.Nat.{mul-le}
+use Rattle.std.proofs.Math.Nat.{suc-mul}
 use Rattle.sqlite_trees.specs.Tree.{IsAscending}
 use Rattle.sqlite_trees.proofs.ListLemmas.{all-filter, all_weaker, ascending-filter, ascending_weaker}
 use Rattle.book_model.specs.Bounds.{Bounds}
@@ -124,7 +125,7 @@ by_books k (b ∷ bs) ms all apart =
     let numbers = all_weaker (Fits (b ∷ bs) k) (IsUpTo k) (λ m fits. fits.2) (filter p ms) (all-filter (Fits (b ∷ bs) k) p ms all) in
     let own = few_numbers k (filter p ms) numbers (own_apart b.id (filter p ms) (owned (b ∷ bs) k b.id ms all) (ascending-filter Apart p ms apart)) in
     let rest = by_books k bs (filter others ms) (of_others b bs k ms all) (ascending-filter Apart others ms apart) in
-    let times : length (b ∷ bs) * k ≡ k + length bs * k = search arith in
+    let times : length (b ∷ bs) * k ≡ length bs * k + k = suc-mul (length bs) k in
     omega (arith, whole, own, rest, times)
 
 -- ---- all members
