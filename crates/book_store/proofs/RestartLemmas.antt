@@ -5,6 +5,7 @@ use Rattle.sqlite.specs.Effect.{Database}
 use Rattle.sqlite.specs.Files.{HoldsDatabase, file_state, over_files}
 use Rattle.sqlite.specs.Held.{Held}
 use Rattle.sqlite.specs.Recovery.{Image}
+use Rattle.sqlite.specs.Start.{FindsIn}
 use Rattle.sqlite.specs.State.{State, HasCleanDisk}
 use Rattle.sqlite.specs.Tree.{Trees}
 use Rattle.sqlite.specs.WalReads.{AreClean}
@@ -17,6 +18,7 @@ use Rattle.book_model.specs.Books.{Books}
 use Rattle.database_files.specs.Restarts.{HasOpenCause, LeaveOneOf, ShowsOpened}
 use Rattle.store_check.specs.OpenResults.{max_limits}
 use Rattle.store_lookups.specs.StoredBooks.{IsOpenOnHonestDisk, stored_books}
+use Rattle.store_rows.specs.TableBooks.{books_in}
 use Rattle.store_rows.proofs.HeldRows.{books_held}
 use Rattle.store_schema.specs.OpenFaults.{ComesFromOutside, IsErrorFault, open_fault_of_error}
 use Rattle.store_schema.specs.declared.open_fault.OpenFault.{OpenFault}
@@ -34,7 +36,12 @@ use Rattle.book_store.specs.StoreViews.{IsStore, StoredTrees}
 module _ (image : Image) (books : Books) (holds : HoldsStore image books) (s : State) (shows : HasCleanDisk s → ShowsOpened s (declared_over holds.trees)) where
   -- a connection that shows them has these books
   pub shown_books : HasCleanDisk s → stored_books s ≡ books
-  shown_books clean = ap (λ (d : Database). Rattle.store_rows.specs.TableBooks.books_in d.trees) (shows clean).shows ∙ holds.books_are
+  shown_books clean = ap (λ (d : Database). books_in d.trees) (shows clean).shows ∙ holds.books_are
+
+-- so has one that was opened at a path
+pub found_books : (image : Image) (books : Books) → HoldsStore image books → (s : State) → s.now ≡ s.committed → FindsIn image s → stored_books s ≡ books
+found_books image books holds s settled found =
+    ap (λ (d : Database). books_in d.trees) settled ∙ ap books_in (found.holds holds.trees holds.listed.holds) ∙ holds.books_are
 
 -- what a crash leaves of the files of a store holds its books
 pub left_books : {D : Type 0} {g : Ghosts D} (c : Held (FileStore D g)) (limits : Bounds) (files : Files D) → StoresSurviveCrashes (over_files {g = g}) → IsStore (file_state c) limits → LeaveOneOf g files (file_state c).may_leave

@@ -8,7 +8,9 @@ ghost use Rattle.book_store.specs.FileRefusals.{
   IsOpenFaultAfter,
   IsOpenRefusalAfter,
 };
+ghost use Rattle.book_model.specs.Books.{Books};
 ghost use Rattle.book_store.specs.OpenOutcomes.{StartsWithoutTables};
+ghost use Rattle.book_store.specs.Restarts.{HoldsStore};
 ghost use Rattle.store_check.specs.OpenResults.{max_limits};
 ghost use Rattle.store_rows.specs.SoundTables.{HoldsWellFormed};
 ghost use Rattle.store_lookups.specs.StoredBooks.{IsOpenOnHonestDisk, stored_books};
@@ -177,6 +179,9 @@ impl<S: Start> SqlStore<FileStore<FileFrom<S>>> {
     ) -> Result<FileBooksFrom<S>, FileRefusal<S>>
         ensures found { IfOk result (λ store. IsOpenOnHonestDisk (file_state store.conn)
             → FindsIn (image_at S.Start) (file_state store.conn)) }
+        ensures opens { (books : Books) → HoldsStore (image_at S.Start) books
+            → IfOk result (λ store. IsOpenOnHonestDisk (file_state store.conn)
+            → stored_books (file_state store.conn) ≡ books) }
         ensures well_formed { IfOk result (λ store. IsOpenOnHonestDisk (file_state store.conn)
             → HoldsWellFormed max_limits (file_state store.conn).now) }
         ensures limits { IfOk result (λ store. store.limits ≡ limits) }
