@@ -17,13 +17,16 @@ DAMAGED = 4
 NUMBERS = "the counts don't add up to the number, or the number or the horizon is too large"
 KEEP = "the keep is missing or 0, or there are more tombstones than it allows"
 KEY = "the key isn't a legal key of an import"
+UID = "the UID isn't legal, or the card has another one"
 
 # A name, the statements, and the line.
 DAMAGES = [
     ("a card", "UPDATE member SET card = 'x' WHERE uid = 'ann'",
      "member ann of staff (row 1): the card isn't a card's canonical text"),
     ("the UID of a card", "UPDATE member SET uid = 'hal2' WHERE uid = 'hal'",
-     "member hal2 of friends (row 8): the UID isn't legal, or the card has another one"),
+     f"member hal2 of friends (row 8): {UID}"),
+    ("the UID of a tombstone", "UPDATE member SET uid = 'b' || char(9) WHERE uid = 'bob'",
+     f"member b\\x09 of staff (row 2): {UID}"),
     ("a change that isn't made yet", "UPDATE member SET changed = 9 WHERE uid = 'ann'",
      "member ann of staff (row 1): its change isn't numbered from 1 to the book's number"),
     ("a tombstone at the horizon", "UPDATE book SET horizon = 5 WHERE id = 1",
@@ -58,9 +61,9 @@ DAMAGES = [
      "member fay of clients (row 6): the card isn't a card's canonical text"),
     ("octets that aren't visible",
      "UPDATE member SET uid = 'h' || char(246) || char(10) || char(92) WHERE uid = 'hal'",
-     "member h\\xc3\\xb6\\x0a\\x5c of friends (row 8): the UID isn't legal, or the card has another one"),
+     f"member h\\xc3\\xb6\\x0a\\x5c of friends (row 8): {UID}"),
     ("a long UID", "UPDATE member SET uid = printf('%0300d', 0) WHERE uid = 'hal'",
-     f"member {'0' * 255}.. of friends (row 8): the UID isn't legal, or the card has another one"),
+     f"member {'0' * 255}.. of friends (row 8): {UID}"),
 ]
 
 # The same over rows that may refer to books that aren't there.

@@ -173,7 +173,8 @@ class StoreFiles(Words):
         self.assert_said(["tally", "a.db", "staff"], words + advice, "fault open 4")
         self.assert_said(["books", "a.db"], words + advice, "fault open 4", always=True)
         self.assert_said(["verify", "a.db"], words, "fault open 4", always=True,
-                         output=b"member a of staff (row 1): the card has another UID\n")
+                         output=b"member a of staff (row 1): the UID isn't legal, or the card has "
+                                b"another one\n")
 
     def test_not_empty(self):
         self.make_books()
