@@ -1,7 +1,8 @@
 //! Checks a row of `member`.
 ghost use Rattle.store_check.specs.RowChecks.{IsMemberRow};
 ghost use Rattle.store_check.specs.RowFaults.{JudgesCard, JudgesMemberOf};
-ghost use Rattle.store_rows.specs.Values.{IsCanonical, natural, text_card};
+ghost use Rattle.store_rows.specs.TableRows.{load_member};
+ghost use Rattle.store_rows.specs.Values.{IsCanonical, IsLegalUid, natural, text_card};
 ghost use Rattle.store_tables.specs.Books.{BookRow};
 ghost use Rattle.std.specs.Prelude.{◌≡◌, ◌↔◌, IfOk, IfSome, IsTrue, is_some};
 
@@ -50,6 +51,13 @@ fn card_fault(alloc: Global, text: &[u8], uid: &[u8]) -> Result<Option<MemberFau
     }
 }
 
+/// Whether the member has a legal UID.
+fn has_legal_uid(member: &Row) -> bool
+    ensures { IsTrue result ↔ IsLegalUid (load_member member.now).uid }
+{
+    is_uid_text(text_at(member, 2))
+}
+
 /// What is wrong with the member in a book with this number and this horizon, if anything is.
 pub(crate) fn fault_in_book(
     alloc: Global,
@@ -65,12 +73,11 @@ pub(crate) fn fault_in_book(
     if changed < 1 || changed > number {
         return Ok(Some(MemberFault::Number));
     }
-    let uid = text_at(member, 2);
-    if !is_uid_text(uid) {
+    if !has_legal_uid(member) {
         return Ok(Some(MemberFault::Uid));
     }
     match text_if_any_at(member, 4) {
-        Some(text) => card_fault(alloc, text, uid),
+        Some(text) => card_fault(alloc, text, text_at(member, 2)),
         None => if natural_of(horizon) < changed {
             Ok(None)
         } else {
