@@ -135,7 +135,8 @@ member_fails books r member.Columns h good = h good.0
 member_fails books r member.NoBook h good = of_none books (load_member r).book (IsValidMember (load_member r)) h good.1
 member_fails books r member.Number h good = of_both books (load_member r).book _ (IsValidMember (load_member r)) (λ b no v. no (v.checked.first, v.checked.known)) h good.1
 member_fails books r member.Card h good = h (of_one books (load_member r).book (IsValidMember (load_member r)) _ (λ b v. v.readable.card) good.1)
-member_fails books r member.Uid h good = h (of_one books (load_member r).book (IsValidMember (load_member r)) _ (λ b v. (v.readable.uid, v.checked.own_card)) good.1)
+member_fails books r member.Uid h good = h (of_one books (load_member r).book (IsValidMember (load_member r)) _ (λ b v. v.readable.uid) good.1)
+    (of_one books (load_member r).book (IsValidMember (load_member r)) _ (λ b v. v.checked.own_card) good.1)
 member_fails books r member.Tombstone h good = of_both books (load_member r).book _ (IsValidMember (load_member r)) (λ b low v. let above = v.checked.remembered h.0 in omega (arith, low, above)) h.1 good.1
 
 import_fails : (books : List BookRow) (r : Row) (fault : ImportFault) → HasImportFault books r fault → IsImportRow r → IsBookAnd books (load_import r).book (IsCheckedImport (load_import r)) → ⊥

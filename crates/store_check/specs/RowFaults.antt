@@ -84,8 +84,8 @@ HasMemberFault books r member.NoBook = find (has_id (load_member r).book) books 
 HasMemberFault books r member.Number =
     IsBookAnd books (load_member r).book (λ b. ¬ IsChangeOf (load_member r) b)
 HasMemberFault books r member.Card = ¬ IfSome (load_member r).card IsCanonical
-HasMemberFault books r member.Uid = ¬ (IsLegalUid (load_member r).uid
-    × IfSome (load_member r).card (λ text. uid_of (text_card text) ≡ (load_member r).uid))
+HasMemberFault books r member.Uid = IsLegalUid (load_member r).uid →
+    ¬ IfSome (load_member r).card (λ text. uid_of (text_card text) ≡ (load_member r).uid)
 HasMemberFault books r member.Tombstone = ((load_member r).card ≡ None)
     × IsBookAnd books (load_member r).book
     (λ b. natural (load_member r).changed ≤ natural b.numbers.horizon)
