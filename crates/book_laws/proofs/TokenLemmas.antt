@@ -31,10 +31,10 @@ use Rattle.book_laws.proofs.RemovalCountLemmas.{still_lost}
 -- ---- a page of a book
 
 -- the position of a page's mark in the log
-record IsWithin (history : BookHistory) (mark : Mark) : Type 0 where
-  at : mark.at ≤ length history.log
-  base : mark.base ≤ length history.log
-  remembered : history.horizon ≤ mark.base
+pub record IsWithin (history : BookHistory) (mark : Mark) : Type 0 where
+  pub at : mark.at ≤ length history.log
+  pub base : mark.base ≤ length history.log
+  pub remembered : history.horizon ≤ mark.base
 
 first_within : (history : BookHistory) → IsSoundHistory history → IsWithin history (record { at = 0; base = length history.log })
 first_within history sound = record { at = omega arith; base = omega arith; remembered = sound.within_log }
@@ -67,13 +67,13 @@ report_within history sound mark k w =
     ]
 
 -- what an accepted report implies
-record Answered (histories : BookHistories) (name : List ℕ) (page : Page) : Type 0 where
-  history : BookHistory
-  found : finite.get histories name ≡ Some history
-  book : page.book ≡ history.id
-  within : IsWithin history page.mark
+pub record Answered (histories : BookHistories) (name : List ℕ) (page : Page) : Type 0 where
+  pub history : BookHistory
+  pub found : finite.get histories name ≡ Some history
+  pub book : page.book ≡ history.id
+  pub within : IsWithin history page.mark
 
-answered : (store : StoreHistory) (name : List ℕ) (token : Option Token) (limit : Option ℕ) (page : Page) → AreSoundHistories store.books → report_on_histories store.limits store.books name token limit ≡ Ok page → Answered store.books name page
+pub answered : (store : StoreHistory) (name : List ℕ) (token : Option Token) (limit : Option ℕ) (page : Page) → AreSoundHistories store.books → report_on_histories store.limits store.books name token limit ≡ Ok page → Answered store.books name page
 answered store name token limit page sound = by_history (finite.get store.books name) refl
   where
     by_size : (history : BookHistory) → finite.get store.books name ≡ Some history → (mark : Mark) → IsWithin history mark → (size : Result ℕ Refusal) → (size >>= λ k. Ok (page_of history.id (report history.log mark k))) ≡ Ok page → Answered store.books name page
