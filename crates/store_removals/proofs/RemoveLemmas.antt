@@ -127,9 +127,9 @@ if_known X (Some n) planned is each = each n is
 
 -- ---- a call that wrote nothing, over right numbers
 
-pub reads_over_counts : {A : Type 0} (step : Books → Result (A × Books) Refusal) (old new : State) (counts : CountsByName) (r : Result A Denied) → old.in_transaction ≡ false → OnlyReads old new → HoldCounts old counts
-    → ((rows : TableRows) → HasCleanDisk new → HoldsRows old.now rows → AreSoundRows rows → AreCountsOf counts (books_of rows) → stored_books new ≡ stored_books old → MatchesStep r (step (books_of rows)) (stored_books old) (stored_books new)) → AppliesStep old new r step
-reads_over_counts step old new counts r settled left held matches_step = record {
+pub reads_over_counts : {A : Type 0} (step : Books → Result (A × Books) Refusal) (old new : State) (counts : CountsByName) (denied : Denied) → old.in_transaction ≡ false → OnlyReads old new → HoldCounts old counts
+    → ((rows : TableRows) → HasCleanDisk new → HoldsRows old.now rows → AreSoundRows rows → AreCountsOf counts (books_of rows) → stored_books new ≡ stored_books old → MatchesStep (Err denied) (step (books_of rows)) (stored_books old) (stored_books new)) → AppliesStep old new (Err denied) step
+reads_over_counts step old new counts denied settled left held matches_step = record {
   settled = left.mode settled;
   was_open_on_honest_disk = read_before old new left;
   stays_sound = λ order was. (read_keeps_sound old new left order was).1;
@@ -137,8 +137,9 @@ reads_over_counts step old new counts r settled left held matches_step = record 
       let rows = was.sound in
       let books : stored_books old ≡ books_of rows.rows = books_held old.now rows.rows rows.holds rows.sound in
       let right = subst (λ (b : Books). AreCountsOf counts b) books (held (read_before old new left order) was) in
-      subst (λ (b : Books). MatchesStep r (step b) (stored_books old) (stored_books new)) (sym books)
+      subst (λ (b : Books). MatchesStep (Err denied) (step b) (stored_books old) (stored_books new)) (sym books)
       (matches_step rows.rows order.0 rows.holds rows.sound right (ap (λ (d : Database). books_in d.trees) (read_keeps_sound old new left order was).0));
+  stays_open = λ clean stays. tt;
 }
 
 -- ---- the step of the book

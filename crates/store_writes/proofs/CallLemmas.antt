@@ -1,5 +1,5 @@
 -- The state of a store after a call that changes its tables.
-use Rattle.std.proofs.Common.{◌≡◌, false, IsTrue, List, ℕ, Result, Ok, Err, sym, ap, subst, ◌∙◌}
+use Rattle.std.proofs.Common.{◌≡◌, false, IsTrue, List, ℕ, OnOk, Result, Ok, Err, sym, ap, subst, ◌∙◌}
 use Rattle.std.specs.Prelude.{⊤}
 use Rattle.std.specs.Option.{option_map_or}
 use Rattle.sqlite.specs.Effect.{Database}
@@ -22,7 +22,7 @@ use Rattle.store_rows.specs.TableRows.{TableRows, HoldsRows}
 use Rattle.store_rows.proofs.HeldRows.{books_held}
 use Rattle.store_lookups.specs.CallResults.{FollowsStep, FindsHeader, IsExactly, GivenCounts, GivenSoundRows}
 use Rattle.store_lookups.specs.Faults.{IsDeniedFault}
-use Rattle.store_writes.specs.TableChanges.{AppliesStep, CommitsOnce, CommitsStep, HasBookRow, HoldBooksAfter, IsAtomic}
+use Rattle.store_writes.specs.TableChanges.{AppliesStep, CommitsOnce, CommitsStep, HasBookRow, HoldBooksAfter, IsAtomic, StaysOpenOnOk}
 use Rattle.store_lookups.specs.StoredBooks.{HoldCounts, IsOpenOnHonestDisk, IsCommittedAndSound, KeepsCounts, stored_books}
 
 -- ---- the step of a book
@@ -110,12 +110,23 @@ found_over_counts old mid counts Q held settled left opened found rows clean hol
     let had = held (clean_before _ old mid left.survives clean, up) (record { committed = settled up; sound = record { rows = rows; holds = holds; sound = sound } }) in
     found rows clean holds sound (subst (λ (b : Books). AreCountsOf counts b) (books_held old.now rows holds sound) had)
 
+-- ---- the connection after a success
+
+-- a transaction that succeeded leaves it open
+committed_open : {A E : Type 0} (H : A → Database → Type 0) (old new : State) (r : Result A E) → IsAtomic old new r H → OnOk r (IsTrue new.is_open)
+committed_open H old new (Ok answer) done = done.2
+committed_open H old new (Err e) done = tt
+
+-- so does a success that wrote nothing
+pub read_stays_open : (old new : State) → OnlyReads old new → (HasCleanDisk new → IsTrue old.is_open) → GivenTables old new (IsUnchanged old new) → HasCleanDisk new → (IsOpenOnHonestDisk old → IsCommittedAndSound old) → IsTrue new.is_open
+read_stays_open old new left opened same clean stays = (same clean (stays (clean_before _ old new left.survives clean, opened clean)).sound.holds.schema).0.is_open
+
 -- ---- whole calls
 
 -- a call that wrote nothing
 pub reads_changes : {A : Type 0} (step : Books → Result (A × Books) Refusal) (old new : State) (r : Result A Denied) → old.in_transaction ≡ false → OnlyReads old new
-    → ((rows : TableRows) → HasCleanDisk new → HoldsRows old.now rows → AreSoundRows rows → stored_books new ≡ stored_books old → MatchesStep r (step (books_of rows)) (stored_books old) (stored_books new)) → AppliesStep old new r step
-reads_changes step old new r settled left matches_step = record {
+    → ((rows : TableRows) → HasCleanDisk new → HoldsRows old.now rows → AreSoundRows rows → stored_books new ≡ stored_books old → MatchesStep r (step (books_of rows)) (stored_books old) (stored_books new)) → StaysOpenOnOk old new r → AppliesStep old new r step
+reads_changes step old new r settled left matches_step opened = record {
   settled = left.mode settled;
   was_open_on_honest_disk = read_before old new left;
   stays_sound = λ order was. (read_keeps_sound old new left order was).1;
@@ -123,6 +134,7 @@ reads_changes step old new r settled left matches_step = record {
       let held : stored_books old ≡ books_of was.sound.rows = books_held old.now was.sound.rows was.sound.holds was.sound.sound in
       subst (λ (books : Books). MatchesStep r (step books) (stored_books old) (stored_books new)) (sym held)
       (matches_step was.sound.rows order.0 was.sound.holds was.sound.sound (ap (λ (d : Database). books_in d.trees) (read_keeps_sound old new left order was).0));
+  stays_open = opened;
 }
 
 -- a call that reads and then writes
@@ -144,6 +156,11 @@ module _ {A : Type 0} (H : TableRows → A → Database → Type 0) (step : Book
             let held : stored_books old ≡ books_of was.sound.rows = books_held old.now was.sound.rows was.sound.holds was.sound.sound in
             subst (λ (books : Books). MatchesStep r (step books) (stored_books old) (stored_books new)) (sym held)
             (matches_step was.sound.rows (returned order was) (whole order was) order.1);
+        stays_open = λ clean stays.
+            let first = clean_before _ mid new survives clean in
+            let was = stays (clean_before _ old mid left.survives first, opened first) in
+            committed_open (H was.sound.rows) mid new r
+            (done was.sound.rows clean (holds_still old mid new same survives clean was) was.sound.sound (found was.sound.rows first was.sound.holds was.sound.sound));
       }
 
   -- the numbers of tombstones afterwards

@@ -31,8 +31,8 @@ prepare_reads Q sql old new r ok err mode survives = record {
 -- ---- a transaction
 
 -- it was committed
-pub committed_done : (mid end : State) (P : Database → Type 0) → HoldsInTx mid P → Shows mid end mid.now mid.now false → P end.now × (end.now ≡ end.committed)
-committed_done mid end P left shows = (subst P (sym shows.now_is) left.holds, shows.now_is ∙ sym shows.committed_is)
+pub committed_done : (mid end : State) (P : Database → Type 0) → HoldsInTx mid P → Shows mid end mid.now mid.now false → P end.now × (end.now ≡ end.committed) × IsTrue end.is_open
+committed_done mid end P left shows = (subst P (sym shows.now_is) left.holds, shows.now_is ∙ sym shows.committed_is, shows.is_open)
 
 -- its commit failed
 pub failed_done : (begun mid end : State) (e : Error) → KeepsCommit begun mid → IsTrue mid.in_transaction → FailsToCommit mid end e → (IsTrue begun.is_open → begun.now ≡ begun.committed) → IsTrue end.is_open → (end.now ≡ begun.now) × (end.now ≡ end.committed)

@@ -1,5 +1,6 @@
 -- The tables before and after a change, and the contract of a changing call.
-use Rattle.std.specs.Prelude.{◌≡◌, false, ℕ, ℤ, pos, List, IsTrue, Result, Ok, Err}
+use Rattle.std.specs.Prelude.{◌≡◌, false, ℕ, ℤ, pos, List, IsTrue, OnOk, Result}
+use Rattle.std.specs.Prelude.{Ok, Err}
 use Rattle.std.specs.Ordering.{int_eq}
 use Rattle.sqlite.specs.Effect.{Database}
 use Rattle.sqlite.specs.State.{State, HasCleanDisk, Survives}
@@ -69,9 +70,11 @@ pub record HoldsChange (db : Database) (rows : TableRows) (id : ℤ) (books : Bo
 
 -- ---- the outcome of a transaction
 
--- It was committed and this holds; or nothing changed, unless the connection was closed.
+-- It was committed, the connection is open, and this holds; or nothing changed, unless the connection
+-- was closed.
 abbrev pub IsAtomic : {A E : Type 0} → State → State → Result A E → (A → Database → Type 0) → Type 0
-IsAtomic old new (Ok answer) Then = Then answer new.now × (new.now ≡ new.committed)
+IsAtomic old new (Ok answer) Then =
+    Then answer new.now × (new.now ≡ new.committed) × IsTrue new.is_open
 IsAtomic old new (Err e) Then =
     IsTrue new.is_open → (new.now ≡ old.now) × (new.now ≡ new.committed)
 
@@ -87,8 +90,15 @@ CommitsStep old step trees =
 
 -- ---- the contract of a changing call
 
+-- A success leaves the connection open. The condition is that the tables of a connection that was
+-- open on an honest disk were committed and sound.
+abbrev pub StaysOpenOnOk : {A E : Type 0} → State → State → Result A E → Type 0
+StaysOpenOnOk old new result = HasCleanDisk new
+    → (IsOpenOnHonestDisk old → IsCommittedAndSound old) → OnOk result (IsTrue new.is_open)
+
 -- No transaction is open after the call. If the connection is open on an honest disk after it, it
--- was so before; and then the tables are sound again and hold the books that the step returns.
+-- was so before; and then the tables are sound again and hold the books that the step returns. A
+-- success leaves the connection open.
 pub record AppliesStep {A : Type 0} (old new : State) (r : Result A Denied)
     (step : Books → Result (A × Books) Refusal) : Type 0 where
   pub settled : new.in_transaction ≡ false
@@ -96,6 +106,7 @@ pub record AppliesStep {A : Type 0} (old new : State) (r : Result A Denied)
   pub stays_sound : IsOpenOnHonestDisk new → IsCommittedAndSound old → IsCommittedAndSound new
   pub matches_step : IsOpenOnHonestDisk new → IsCommittedAndSound old →
       MatchesStep r (step (stored_books old)) (stored_books old) (stored_books new)
+  pub stays_open : StaysOpenOnOk old new r
 
 -- A crash leaves what it could leave before the call, or the one commit, which is the whole step. It
 -- is made only over a connection that was open on an honest disk. The condition is that the tables

@@ -83,7 +83,7 @@ returns-clause-atomic g c book most id_is keep_is rows clean line =
     let p = (goal.at.returns-clause-atomic g c).After-commit in
     let same : c.commit.new.self.0 ≡ c.conn-2-1.given.0 = search rules in
     let late : HasCleanDisk (end g p) = subst (λ k. HasCleanDisk (state g.S.Store k)) (sym same) clean in
-    subst (λ k. HoldsBooks (state g.S.Store k).now (made g p rows book most) × ((state g.S.Store k).now ≡ (state g.S.Store k).committed)) same
+    subst (λ k. HoldsBooks (state g.S.Store k).now (made g p rows book most) × ((state g.S.Store k).now ≡ (state g.S.Store k).committed) × IsTrue (state g.S.Store k).is_open) same
     (committed_done (mid g p) (end g p) (λ db. HoldsBooks db (made g p rows book most)) (left g p rows line book most id_is keep_is (clean_mid g p late)) (c.in_ok-commit.ensures.ok late).1)
 
 pub returns-clause-survives : goal.returns-clause-survives

@@ -81,7 +81,7 @@ returns-in_err-id-clause-changes g c =
     let said : c.from_residual.result ≡ Err c.in_err-id.field-0.0 = search rules in
     subst (λ r. AppliesStep (old g p) (mid g p) r (step g p)) (sym said)
     (reads_changes (step g p) (old g p) (mid g p) (Err c.in_err-id.field-0.0) c.requires c.plan_create.ensures.reads_only
-    (λ rows clean holds sound same. denied_does (new_id_among c.args.limits name (books_of rows)) (λ id. (id, finite.insert (books_of rows) name (fresh_book id c.args.limits.keep))) c.in_err-id.field-0.0 (stored_books (old g p)) (stored_books (mid g p)) (c.in_err-id.ensures.planned rows clean holds sound) same))
+    (λ rows clean holds sound same. denied_does (new_id_among c.args.limits name (books_of rows)) (λ id. (id, finite.insert (books_of rows) name (fresh_book id c.args.limits.keep))) c.in_err-id.field-0.0 (stored_books (old g p)) (stored_books (mid g p)) (c.in_err-id.ensures.planned rows clean holds sound) same) (λ clean stays. tt))
 
 pub returns-in_err-write_create-clause-changes : goal.returns-in_err-write_create-clause-changes
 returns-in_err-write_create-clause-changes g c =

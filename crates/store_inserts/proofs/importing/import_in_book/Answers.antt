@@ -32,7 +32,7 @@ use Rattle.store_inserts.specs.internal.Importing.{IsImportPlanned, ReplacesFor,
 use Rattle.book_model.specs.Counts.{AreCountsOf, CountsByName}
 use Rattle.store_lookups.specs.StoredBooks.{KeepsCounts, stored_books}
 use Rattle.store_inserts.specs.declared.import_plan.ImportDecision.TheVariants.{Kept, New}
-use Rattle.store_writes.proofs.CallLemmas.{failed_counts, fault_does, read_counts, reads_changes, wrote_changes, wrote_commits, wrote_counts}
+use Rattle.store_writes.proofs.CallLemmas.{failed_counts, fault_does, read_counts, read_stays_open, reads_changes, wrote_changes, wrote_commits, wrote_counts}
 use Rattle.store_inserts.proofs.ImportLemmas.{answered_does, answered_holds, line_of, refused_does}
 use Rattle.store_inserts.proofs.importing.import_in_book.Given as given
 use Rattle.store_inserts.proofs.importing.import_in_book.Goals as goal
@@ -116,7 +116,7 @@ returns-in_err-header-clause-changes g c =
     let said : c.from_residual.result ≡ Err c.in_err-header.field-0.0 = search rules in
     subst (λ r. AppliesStep (old g p) (mid g p) r (step g p)) (sym said)
     (reads_changes (step g p) (old g p) (mid g p) (Err c.in_err-header.field-0.0) c.requires.settled c.plan_import.ensures.reads_only
-    (λ rows clean holds sound same. refused_does (step g p (books_of rows)) c.in_err-header.field-0.0 (stored_books (old g p)) (stored_books (mid g p)) (c.in_err-header.ensures.planned rows clean holds sound) same))
+    (λ rows clean holds sound same. refused_does (step g p (books_of rows)) c.in_err-header.field-0.0 (stored_books (old g p)) (stored_books (mid g p)) (c.in_err-header.ensures.planned rows clean holds sound) same) (λ clean stays. tt))
 
 pub returns-in-Kept-clause-changes : goal.returns-in-Kept-clause-changes
 returns-in-Kept-clause-changes g c =
@@ -127,6 +127,7 @@ returns-in-Kept-clause-changes g c =
     (λ rows clean holds sound same.
     let kept = subst (λ o. IsImportPlanned c.args.limits rows c.args.name.now c.args.key.now c.args.cards.now (Ok (c.in_ok-header.header, o))) order (c.in_ok-header.ensures.planned rows clean holds sound) in
     answered_does (step g p (books_of rows)) tally (books_of rows) (stored_books (old g p)) (stored_books (mid g p)) kept.2 (same ∙ books_held (old g p).now rows holds sound))
+    (read_stays_open (old g p) (mid g p) c.plan_import.ensures.reads_only c.in_ok-header.ensures.was_open c.in_ok-header.ensures.unchanged)
 
 pub returns-in_err-commit_import-clause-changes : goal.returns-in_err-commit_import-clause-changes
 returns-in_err-commit_import-clause-changes g c =

@@ -131,7 +131,7 @@ returns-in_err-plan-clause-changes g c =
     let uid = c.args.uid.now in
     let said : c.from_residual.result ≡ Err c.in_err-plan.field-0.0 = search rules in
     subst (λ r. AppliesStep (old g p) (mid g p) r (step g p)) (sym said)
-    (reads_over_counts (step g p) (old g p) (mid g p) c.args.counts.now (Err c.in_err-plan.field-0.0) c.requires.settled c.plan_move.ensures.reads_only c.requires.counts
+    (reads_over_counts (step g p) (old g p) (mid g p) c.args.counts.now c.in_err-plan.field-0.0 c.requires.settled c.plan_move.ensures.reads_only c.requires.counts
     (λ rows clean holds sound right same. denied_move (book_named (books_of rows) from) (book_named (books_of rows) to) (same_name from to) (moving_between_books c.args.limits uid c.args.expect)
     (λ source target moving. (moving.numbers, books_after_move (books_of rows) from to uid source target moving.card)) c.in_err-plan.field-0.0 (stored_books (old g p)) (stored_books (mid g p)) (c.in_err-plan.ensures.planned rows clean holds sound right) same))
 

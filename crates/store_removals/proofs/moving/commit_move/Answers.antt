@@ -82,7 +82,7 @@ returns-in-Ok-clause-atomic g c legal text rows from to clean line =
     let same : c.commit.new.self.0 ≡ c.conn-2-1.given.0 = search rules in
     let late : HasCleanDisk (end g p) = subst (λ k. HasCleanDisk (state g.S.Store k)) (sym same) clean in
     let left = c.in_ok-move_rows.ensures.books_after rows from to (clean_mid g p late) (inside g (writing g p)) (there g (writing g p) rows from to line) legal text in
-    subst (λ k. HoldsBooks (state g.S.Store k).now (made g (writing g p) rows from to) × ((state g.S.Store k).now ≡ (state g.S.Store k).committed)) same
+    subst (λ k. HoldsBooks (state g.S.Store k).now (made g (writing g p) rows from to) × ((state g.S.Store k).now ≡ (state g.S.Store k).committed) × IsTrue (state g.S.Store k).is_open) same
     (committed_done (mid g (writing g p)) (end g p) (λ db. HoldsBooks db (made g (writing g p) rows from to)) left (c.in-Ok.ensures.ok late).1)
 
 pub returns-in-Err-clause-survives : goal.returns-in-Err-clause-survives

@@ -125,7 +125,7 @@ returns-in_err-plan-clause-changes g c =
     let p = (goal.at.returns-in_err-plan-clause-changes g c).After-plan_remove in
     let said : c.from_residual.result ≡ Err c.in_err-plan.field-0.0 = search rules in
     subst (λ r. AppliesStep (old g p) (mid g p) r (step g p)) (sym said)
-    (reads_over_counts (step g p) (old g p) (mid g p) c.args.counts.now (Err c.in_err-plan.field-0.0) c.requires.settled c.plan_remove.ensures.reads_only c.requires.counts
+    (reads_over_counts (step g p) (old g p) (mid g p) c.args.counts.now c.in_err-plan.field-0.0 c.requires.settled c.plan_remove.ensures.reads_only c.requires.counts
     (λ rows clean holds sound right same. denied_remove c.args.limits (books_of rows) c.args.name.now c.args.uid.now c.args.expect (book_named (books_of rows) c.args.name.now) c.in_err-plan.field-0.0 (stored_books (old g p)) (stored_books (mid g p)) (c.in_err-plan.ensures.planned rows clean holds sound right) same))
 
 pub returns-in_err-write_remove-clause-changes : goal.returns-in_err-write_remove-clause-changes

@@ -104,7 +104,7 @@ returns-in_err-plans-clause-changes g c =
     let said : c.from_residual.result ≡ Err c.in_err-plans.field-0.0 = search rules in
     subst (λ r. AppliesStep (old g p) (mid g p) r (step g p)) (sym said)
     (reads_changes (step g p) (old g p) (mid g p) (Err c.in_err-plans.field-0.0) c.requires.settled c.plan_resync.ensures.reads_only
-    (λ rows clean holds sound same. denied_resync c.args.limits (books_of rows) c.args.pairs (λ (_ : Unit {0}) (plans : Vec BookPlan Global). ArePlans c.args.limits c.args.pairs rows plans.items) c.in_err-plans.field-0.0 (stored_books (old g p)) (stored_books (mid g p)) (c.in_err-plans.ensures.planned rows clean holds sound) same))
+    (λ rows clean holds sound same. denied_resync c.args.limits (books_of rows) c.args.pairs (λ (_ : Unit {0}) (plans : Vec BookPlan Global). ArePlans c.args.limits c.args.pairs rows plans.items) c.in_err-plans.field-0.0 (stored_books (old g p)) (stored_books (mid g p)) (c.in_err-plans.ensures.planned rows clean holds sound) same) (λ clean stays. tt))
 
 pub returns-in_err-commit_resync-clause-changes : goal.returns-in_err-commit_resync-clause-changes
 returns-in_err-commit_resync-clause-changes g c =

@@ -96,7 +96,7 @@ returns-in-Ok-clause-atomic g c rows clean planned =
     let same : c.commit.new.self.0 ≡ c.conn-2-1.given.0 = search rules in
     let late : HasCleanDisk (end g p) = subst (λ k. HasCleanDisk (state g.S.Store k)) (sym same) clean in
     let left = c.in_ok-write_resync.ensures.resynced rows (clean_mid g p late) (inside g (writing g p)) (there g (writing g p) rows planned) in
-    subst (λ k. HoldsResync (state g.S.Store k).now rows c.args.plans.now × ((state g.S.Store k).now ≡ (state g.S.Store k).committed)) same
+    subst (λ k. HoldsResync (state g.S.Store k).now rows c.args.plans.now × ((state g.S.Store k).now ≡ (state g.S.Store k).committed) × IsTrue (state g.S.Store k).is_open) same
     (committed_done (mid g (writing g p)) (end g p) (λ db. HoldsResync db rows c.args.plans.now) left (c.in-Ok.ensures.ok late).1)
 
 pub returns-in-Err-clause-survives : goal.returns-in-Err-clause-survives

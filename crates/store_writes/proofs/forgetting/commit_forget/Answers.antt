@@ -96,8 +96,8 @@ returns-clause-atomic g c header last upto_is columns rows name clean line =
     let late : HasCleanDisk (end g p) = subst (λ k. HasCleanDisk (state g.S.Store k)) (sym same) clean in
     let first = clean_mid g p late in
     let did = committed_done (mid g p) (end g p) (λ db. HoldsBooks db (made rows name header last)) (left g p rows name header last line upto_is columns first) (c.in_ok-commit.ensures.ok late).1 in
-    subst (λ k. ((c.in_ok-dropped.dropped ≡ dropped_row_count (row_book rows (line_row name header)).members last) × HoldsBooks (state g.S.Store k).now (made rows name header last)) × ((state g.S.Store k).now ≡ (state g.S.Store k).committed)) same
-    ((dropped g p rows name header last line upto_is columns first, did.0), did.1)
+    subst (λ k. ((c.in_ok-dropped.dropped ≡ dropped_row_count (row_book rows (line_row name header)).members last) × HoldsBooks (state g.S.Store k).now (made rows name header last)) × ((state g.S.Store k).now ≡ (state g.S.Store k).committed) × IsTrue (state g.S.Store k).is_open) same
+    ((dropped g p rows name header last line upto_is columns first, did.0), did.1, did.2)
 
 pub returns-clause-survives : goal.returns-clause-survives
 returns-clause-survives g c =

@@ -91,7 +91,7 @@ returns-in_err-header-clause-changes g c =
     let said : c.from_residual.result ≡ Err c.in_err-header.field-0.0 = search rules in
     subst (λ r. AppliesStep (old g p) (mid g p) r (step g p)) (sym said)
     (reads_changes (step g p) (old g p) (mid g p) (Err c.in_err-header.field-0.0) c.requires c.open_header.ensures.reads_only
-    (λ rows clean holds sound same. unnamed_does rows c.args.name.now (forget_of (books_of rows) c.args.name.now c.args.upto) c.in_err-header.field-0.0 (stored_books (old g p)) (stored_books (mid g p)) (c.in_err-header.ensures.finds rows clean holds sound) same))
+    (λ rows clean holds sound same. unnamed_does rows c.args.name.now (forget_of (books_of rows) c.args.name.now c.args.upto) c.in_err-header.field-0.0 (stored_books (old g p)) (stored_books (mid g p)) (c.in_err-header.ensures.finds rows clean holds sound) same) (λ clean stays. tt))
 
 pub returns-then-not-may_forget-clause-changes : goal.returns-then-not-may_forget-clause-changes
 returns-then-not-may_forget-clause-changes g c =
@@ -101,6 +101,7 @@ returns-then-not-may_forget-clause-changes g c =
     reads_changes (step g p) (old g p) (mid g p) (Err (Refused BadForget)) c.requires c.open_header.ensures.reads_only
     (λ rows clean holds sound same. named_does rows c.args.name.now header (forget_of (books_of rows) c.args.name.now c.args.upto) (Err (Refused BadForget)) (stored_books (old g p)) (stored_books (mid g p)) (c.in_ok-header.ensures.finds rows clean holds sound)
     (refused_forget (books_of rows) c.args.name.now c.args.upto (row_book rows (line_row c.args.name.now header)) (stored_books (old g p)) (stored_books (mid g p)) never same))
+    (λ clean stays. tt)
 
 pub returns-in_err-dropped-clause-changes : goal.returns-in_err-dropped-clause-changes
 returns-in_err-dropped-clause-changes g c =

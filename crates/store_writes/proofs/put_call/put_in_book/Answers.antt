@@ -30,7 +30,7 @@ use Rattle.store_rows.proofs.HeldRows.{books_held}
 use Rattle.store_writes.specs.TableChanges.{AppliesStep, CommitsOnce, HasBookRow, HoldsBooks, IsAtomic, TreesHold}
 use Rattle.store_writes.specs.internal.PutPlans.{IsPutPlanned}
 use Rattle.store_lookups.specs.StoredBooks.{KeepsCounts, stored_books}
-use Rattle.store_writes.proofs.CallLemmas.{failed_counts, fault_does, named_does, named_row_held, read_counts, reads_changes, written_changes, written_commits, written_counts}
+use Rattle.store_writes.proofs.CallLemmas.{failed_counts, fault_does, named_does, named_row_held, read_counts, read_stays_open, reads_changes, written_changes, written_commits, written_counts}
 use Rattle.store_writes.proofs.PlanLemmas.{denied_put, put_holds, put_of, same_put, stored_put}
 use Rattle.store_writes.proofs.put_call.put_in_book.Given as given
 use Rattle.store_writes.proofs.put_call.put_in_book.Goals as goal
@@ -100,7 +100,7 @@ returns-in_err-header-clause-changes g c =
     let said : c.from_residual.result ≡ Err c.in_err-header.field-0.0 = search rules in
     subst (λ r. AppliesStep (old g p) (mid g p) r (step g p)) (sym said)
     (reads_changes (step g p) (old g p) (mid g p) (Err c.in_err-header.field-0.0) c.requires c.plan_put.ensures.reads_only
-    (λ rows clean holds sound same. denied_put c.args.limits (books_of rows) c.args.name.now c.args.card.now c.args.expect (book_named (books_of rows) c.args.name.now) c.in_err-header.field-0.0 (stored_books (old g p)) (stored_books (mid g p)) (c.in_err-header.ensures.planned rows clean holds sound) same))
+    (λ rows clean holds sound same. denied_put c.args.limits (books_of rows) c.args.name.now c.args.card.now c.args.expect (book_named (books_of rows) c.args.name.now) c.in_err-header.field-0.0 (stored_books (old g p)) (stored_books (mid g p)) (c.in_err-header.ensures.planned rows clean holds sound) same) (λ clean stays. tt))
 
 pub returns-in_default-clause-changes : goal.returns-in_default-clause-changes
 returns-in_default-clause-changes g c =
@@ -115,6 +115,7 @@ returns-in_default-clause-changes g c =
     subst (λ (b : Books). MatchesStep (Ok answer) (step g p (books_of rows)) b (stored_books (mid g p))) (sym held)
     (named_does rows c.args.name.now header (put_of c.args.limits (books_of rows) c.args.name.now c.args.card.now c.args.expect) (Ok answer) (books_of rows) (stored_books (mid g p)) planned_put.0
     (same_put c.args.limits (books_of rows) c.args.name.now c.args.card.now c.args.expect (row_book rows (line_row c.args.name.now header)) answer (stored_books (mid g p)) planned_put.1 none (same ∙ held))))
+    (read_stays_open (old g p) (mid g p) c.plan_put.ensures.reads_only c.in_ok-header.ensures.was_open c.in_ok-header.ensures.unchanged)
 
 pub returns-in_err-write_put-clause-changes : goal.returns-in_err-write_put-clause-changes
 returns-in_err-write_put-clause-changes g c =
