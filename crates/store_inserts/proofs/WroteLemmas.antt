@@ -52,7 +52,7 @@ module _ (old new : State) (rows : TableRows) (name : List ℕ) (header : Header
   put_wrote is put writes =
       let same = ap pos wrote.same_id in
       let there = row_remains rows wrote.now name wrote.line wrote.within.books wrote.there in
-      let one = put_held old.now new.now wrote.now (line_row name wrote.line) uid (pos (header.number + 1)) text wrote.holds wrote.within.sound there is.uid refl is.canonical
+      let one = put_held old.now new.now wrote.now (line_row name wrote.line) uid (pos (header.number + 1)) text wrote.holds wrote.within.sound there is.legal refl is.canonical
       (subst (λ z. PutsRow new.now.trees z uid (pos (header.number + 1)) text wrote.now.members) (sym same) put) (writes_table 4 old new writes) in
       let made = λ (z : ℤ). put_rows one.id z uid (pos (header.number + 1)) text wrote.now in
       let holds : HoldsRows new.now (made (pos header.id)) = subst (λ z. HoldsRows new.now (made z)) same one.holds in
@@ -66,7 +66,7 @@ module _ (old new : State) (rows : TableRows) (name : List ℕ) (header : Header
           now = made (pos header.id);
           holds = holds;
           within = go_on (pos header.id) rows wrote.now (made (pos header.id)) wrote.within within;
-          is = put_is_row wrote.now name header one.id uid text change wrote.within.sound is ∙ ap (λ b. book_with_row b uid change) wrote.is;
+          is = put_is_row wrote.now name header one.id uid text change wrote.within.sound is.card ∙ ap (λ b. book_with_row b uid change) wrote.is;
         };
         inside = writes.inside;
       }

@@ -72,7 +72,7 @@ module _ (old a b new : State) (rows : TableRows) (name : List ℕ) (header : He
           books_are = changes_one rows left (line_row name header) numbers line.sound line.there (go_on (pos header.id) rows with_it left one.within two.within)
               ∙ ap (finite.insert (books_of rows) name)
               (forgetting_forgets with_it name (header_after (TakesAway why) header) upto one.within.sound
-              ∙ ap (λ k. book_after_forget k upto) (put_is_row rows name header one.id uid None (TakesAway why) line.sound (record { canonical = tt; card = refl })));
+              ∙ ap (λ k. book_after_forget k upto) (put_is_row rows name header one.id uid None (TakesAway why) line.sound refl));
           others = λ b there apart. (row_remains (pos header.id) numbers rows.books b there apart, two.within.others b apart ∙ one.within.others b apart);
         };
         inside = third.inside;

@@ -74,6 +74,6 @@ put_held old new rows b uid changed card h sound there legal natural canonical i
     }
 
 pub put_is_row : PutsAreRows
-put_is_row rows name header id uid text change sound is =
-    let members = members_put id (pos header.id) uid (pos (header.number + 1)) text rows.members ∙ ap (λ c. finite.insert (members_in (pos header.id) rows.members) uid (record { changed = header.number + 1; card = c })) is.card in
+put_is_row rows name header id uid text change sound card =
+    let members = members_put id (pos header.id) uid (pos (header.number + 1)) text rows.members ∙ ap (λ c. finite.insert (members_in (pos header.id) rows.members) uid (record { changed = header.number + 1; card = c })) card in
     λ i. record (book_with_row (row_book rows (line_row name header)) uid change) { members = members i }

@@ -54,7 +54,7 @@ PutsAreHeld = (old new : Database) (rows : TableRows) (b : BookRow) (uid : List 
 -- the UID is legal, and the text of a row is the canonical text of the change's card, or there is
 -- neither
 pub record IsRowOfChange (uid : List ℕ) (text : Option (List ℕ)) (change : Change) : Type 0 where
-  pub uid : IsLegalUid uid
+  pub legal : IsLegalUid uid
   pub canonical : IfSome text IsCanonical
   pub card : option_map text_card text ≡ card_after change
 
@@ -71,7 +71,7 @@ header_after change header = record header {
 abbrev pub PutsAreRows : Type 0
 PutsAreRows = (rows : TableRows) (name : List ℕ) (header : HeaderRow) (id : ℤ) (uid : List ℕ)
     (text : Option (List ℕ)) (change : Change) → AreSoundRows rows →
-    IsRowOfChange uid text change →
+    option_map text_card text ≡ card_after change →
     row_book (put_rows id (pos header.id) uid (pos (header.number + 1)) text rows)
     (line_row name (header_after change header))
     ≡ book_with_row (row_book rows (line_row name header)) uid change

@@ -38,7 +38,7 @@ returns-in-Ok-clause-book_after g c rows name book clean inside wrote =
     let octets : c.as_str.result.now ≡ string_bytes c.in_ok-text.text = search rules in
     let card : option_map text_card (Some c.as_str.result.now) ≡ card_after change = search rules in
     let legal : IsLegalUid (uid_of c.args.stored.card.now) = record { utf8 = subst IsUtf8 c.uid.ensures c.uid.utf8; legal = card_uid_legal c.args.stored.card.now c.lines-lines.ensures.rules } in
-    let is : IsRowOfChange (uid_of c.args.stored.card.now) text change = record { uid = legal; canonical = subst IsCanonical (sym octets) c.in_ok-text.ensures.is_canonical; card = card } in
+    let is : IsRowOfChange (uid_of c.args.stored.card.now) text change = record { legal = legal; canonical = subst IsCanonical (sym octets) c.in_ok-text.ensures.is_canonical; card = card } in
     let put = rw c.uid.ensures at (c.in-Ok.ensures.puts wrote.now.members clean inside wrote.holds.schema wrote.within.sound.members wrote.holds.members) in
     let there = subst (λ z. PutsRow new.now.trees (pos header.id) (uid_of c.args.stored.card.now) z text wrote.now.members) at (subst (λ z. PutsRow new.now.trees z (uid_of c.args.stored.card.now) (to_z w64 (of_z w64 c.in_ok-changed.changed)) text wrote.now.members) id put) in
     subst (λ next. HoldsInTx new (λ db. WritesBook db rows name next (book_with_pair book (planned_pair c.args.stored)))) (sym (c.after_storing.ensures c.args.stored.card.now))

@@ -19,7 +19,7 @@ returns-in-Ok-clause-books_after g c legal rows name clean inside line =
     let at : to_z w64 (of_z w64 c.in_ok-changed.changed) ≡ pos (c.args.header.number + 1) = back_of c.in_ok-changed.changed (c.number.result + 1) (c.args.header.number + 1) c.in_ok-changed.ensures.ok c.in_ok-changed.ensures.fits (ap (λ k. k + 1) c.number.ensures) in
     let numbers : numbers_of c.in_ok-numbers.numbers ≡ numbers_row (c.args.header.number + 1) c.args.header.horizon (counts_after_change change c.args.header.counts) = search rules in
     let columns : AreHeaderColumns (header_after change c.args.header) (to_z w64 (of_z w64 c.in_ok-id.id)) c.in_ok-numbers.numbers = record { id_is = id; numbers = numbers } in
-    c.in-Ok.ensures.books_after c.args.header change at (record { uid = legal; canonical = tt; card = refl }) columns rows name clean inside line
+    c.in-Ok.ensures.books_after c.args.header change at (record { legal = legal; canonical = tt; card = refl }) columns rows name clean inside line
 
 pub returns-in-Ok-clause-keeps_commit : goal.returns-in-Ok-clause-keeps_commit
 returns-in-Ok-clause-keeps_commit g c rows name clean inside line =

@@ -31,12 +31,12 @@ pub returns-clause-atomic : goal.returns-clause-atomic
 returns-clause-atomic g c legal rows name clean line =
     let p = (goal.at.returns-clause-atomic g c).After-commit_member in
     mapped_atomic (state g.S.Store c.args.conn.now) (state g.S.Store c.commit_member.new.conn) c.commit_member.result c.map_err.result _ _ c.map_err.ensures.cases
-    (c.commit_member.ensures.atomic c.args.header (TakesAway Deletion) (changed_is g p) (record { uid = legal; canonical = tt; card = refl }) (columns g p) rows name clean line)
+    (c.commit_member.ensures.atomic c.args.header (TakesAway Deletion) (changed_is g p) (record { legal = legal; canonical = tt; card = refl }) (columns g p) rows name clean line)
 
 pub returns-clause-crash : goal.returns-clause-crash
 returns-clause-crash g c legal rows name line =
     let p = (goal.at.returns-clause-crash g c).After-commit_member in
-    c.commit_member.ensures.crash c.args.header (TakesAway Deletion) (changed_is g p) (record { uid = legal; canonical = tt; card = refl }) (columns g p) rows name line
+    c.commit_member.ensures.crash c.args.header (TakesAway Deletion) (changed_is g p) (record { legal = legal; canonical = tt; card = refl }) (columns g p) rows name line
 
 -- ---- faults
 
@@ -68,4 +68,4 @@ returns-clause-store_fault g c fits legal rows name clean holds accept free ther
     let member = accepts_member db rows name c.args.header c.args.uid.now None holds accept free there (legal_short c.args.uid.now legal) tt in
     let ready = subst (λ z. AcceptsMemberOf db rows name c.args.header c.args.uid.now z None) (sym (changed_is g p)) member in
     mapped_faults c.commit_member.result c.map_err.result _ _ (λ e d h. search (rules, h)) c.map_err.ensures.cases
-    (c.commit_member.ensures.fails_from_outside c.args.header (TakesAway Deletion) (changed_is g p) (record { uid = legal; canonical = tt; card = refl }) (columns g p) rows name ready clean holds.schema)
+    (c.commit_member.ensures.fails_from_outside c.args.header (TakesAway Deletion) (changed_is g p) (record { legal = legal; canonical = tt; card = refl }) (columns g p) rows name ready clean holds.schema)

@@ -33,7 +33,7 @@ module _ (g : given.Over) (c : After-commit_member g) where
       let octets : c.as_str.result.now ≡ string_bytes c.in_ok-text.text = search rules in
       let card : option_map text_card (Some c.as_str.result.now) ≡ card_after change = search rules in
       record {
-        uid = record { utf8 = c.uid.utf8; legal = rw c.uid.ensures (card_uid_legal c.args.card.now c.lines-lines.ensures.rules) };
+        legal = record { utf8 = c.uid.utf8; legal = rw c.uid.ensures (card_uid_legal c.args.card.now c.lines-lines.ensures.rules) };
         canonical = subst IsCanonical (sym octets) c.in_ok-text.ensures.is_canonical;
         card = card;
       }
