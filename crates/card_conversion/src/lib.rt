@@ -40,7 +40,7 @@ pub use delivery::{Outcome, deliver};
 pub use exports::convert_more_exports;
 pub use fault::ConversionFault;
 pub use file::{convert_file, convert_more_file};
-pub use foreign::foreign_format;
+pub use foreign::{foreign_format, is_quoted_export};
 pub use ledger::Summary;
 pub use line_ends::{LineEnds, ends_with_returns};
 pub use media_sink::{MediaDelivery, MediaKind, MediaOwner, MediaSink, NoMedia};
