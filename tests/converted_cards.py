@@ -35,6 +35,14 @@ def added_uid(octets):
     return uuid.UUID(bytes=digest[:16], version=5).urn
 
 
+# How many lines of a card are read as Windows-1252 though nothing says that they are.
+GUESSED = {
+    "octets that Windows-1252 has no character for": 2,
+    "a line most of which is UTF-8 is UTF-8, and what is no character of it U+FFFD; any other "
+    "line is Windows-1252": 2,
+    "Windows-1252, a path, images without a TYPE, and encodings that can't be undone": 1,
+}
+
 CARDS = [
     Converted(
         "vCard 4.0 stays as it is",

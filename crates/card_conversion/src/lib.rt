@@ -3,6 +3,7 @@
 #![tactic(auto)]
 
 mod card_sink;
+mod change_words;
 mod chunks;
 mod contacts;
 mod course;
@@ -13,6 +14,7 @@ mod fault;
 mod file;
 mod foreign;
 mod form_changes;
+mod guesses;
 pub mod laws;
 mod ledger;
 mod left_out;
