@@ -30,15 +30,26 @@ pub(crate) fn without_gaps(alloc: Global, name: &str) -> Result<Vec<u8>, AllocEr
     Ok(octets)
 }
 
+/// Whether the octet is at the place.
+fn is_at(octets: &[u8], place: usize, octet: u8) -> bool {
+    match octets.get(place) {
+        Some(found) => *found == octet,
+        None => false,
+    }
+}
+
 /// Whether these are the octets of the name without what parts its words.
 fn is_joined(name: &[u8], joined: &[u8]) -> bool {
-    let mut rest = joined.iter();
+    let mut place: usize = 0;
     for octet in name {
-        if !is_gap(*octet) && rest.next() != Some(octet) {
-            return false;
+        if !is_gap(*octet) {
+            if !is_at(joined, place, *octet) {
+                return false;
+            }
+            place = place.saturating_add(1);
         }
     }
-    rest.next().is_none()
+    place == joined.len()
 }
 
 /// What was found with one more name in English.
