@@ -414,9 +414,9 @@ Example:
 
 Needs no store file. Standard error gets a line for each card whose content changed or that can't \
 be carried over, how often each other change came, and the numbers of cards. The status is 1 if a \
-card wasn't carried over, or a file for --photos wasn't written. With --rows or --octets the files are named after the first FILE, \
-`phone-1.csv`, `phone-2.csv` and so on, beside it or in the folder. No file is overwritten, and \
-nothing is written before each FILE is known to be one that is converted.
+card wasn't carried over, or a file for --photos wasn't written. With --rows or --octets the files \
+are named after the first FILE, `phone-1.csv`, `phone-2.csv` and so on, beside it or in the folder. \
+No file is overwritten, and nothing is written before each FILE is known to be one that is converted.
 """
 
 HELP["books"] = """\
