@@ -23,6 +23,9 @@ Springfield",1 Main St,Springfield,,IL,62701,US,,Spouse,Bob,Blog,https://ann.tes
 Anniversary,2010-06-01,Shoe size,42
 """
 
+# The titles of those in which a cell is read as Windows-1252 though nothing says that it is.
+GUESSED = {"an octet that isn't UTF-8 is a character of Latin-1"}
+
 EXPORTS = [
     Export(
         "Google's columns of today; a label that is no type of RFC 6350 goes to X-ABLABEL",

@@ -27,6 +27,16 @@ def numbers(written, changed, aside, refused, files=None):
             f"{int(refused)} not carried{made}\n")
 
 
+def guesses(cells=0, lines=0):
+    """What is said of cells and lines that are read as Windows-1252 since they aren't UTF-8."""
+    told = ""
+    for count, thing in (cells, "cell"), (lines, "line"):
+        if count:
+            things = f"{count:,} {thing} that isn't" if count == 1 else f"{count:,} {thing}s that aren't"
+            told += f"read as Windows-1252: {things} UTF-8\n"
+    return told
+
+
 def form_of(words):
     """The change of form that the words tell: the text for it, its name and its thing."""
     for pattern, text, thing in FORMS:
@@ -44,8 +54,9 @@ def weight(line):
     return 2 if any(words in line for words in lost) else 1
 
 
-def digest(lines, written, changed, refused, files=None):
-    """What is printed if these lines are listed, each `card 1, line 2: WORDS` or `row ..`."""
+def digest(lines, written, changed, refused, files=None, guessed=""):
+    """What is printed if these lines are listed, each `card 1, line 2: WORDS` or `row ..`. `guessed`
+    is what is said of guesses."""
     forms, told, aside = {}, [], set()
     for line in lines:
         found = re.fullmatch(r"(?:(card|row) (\d+), )?line (\d+): (.*)", line)
@@ -72,6 +83,7 @@ def digest(lines, written, changed, refused, files=None):
     for (text, name, thing), count in forms.items():
         things = f"{count:,} {thing}" + ("" if count == 1 else "s")
         end.append(text.format(name=name, count=things, be="isn't" if count == 1 else "aren't"))
+    end += guessed.splitlines()
     if printed:
         end.append("look first at: " + max(printed, key=weight))
     return ("".join(line + "\n" for line in printed + end)

@@ -35,6 +35,14 @@ def added_uid(octets):
     return uuid.UUID(bytes=digest[:16], version=5).urn
 
 
+# How many lines of a card are read as Windows-1252 though nothing says that they are.
+GUESSED = {
+    "octets that Windows-1252 has no character for": 2,
+    "a line most of which is UTF-8 is UTF-8, and what is no character of it U+FFFD; any other "
+    "line is Windows-1252": 2,
+    "Windows-1252, a path, images without a TYPE, and encodings that can't be undone": 1,
+}
+
 CARDS = [
     Converted(
         "vCard 4.0 stays as it is",
@@ -496,6 +504,36 @@ CARDS = [
              "TITLE:Head", " of sales"),
         ["UID:a", "FN:Ann", "NOTE:" + LONG_WORD[:71] + " " + LONG_WORD, "TITLE:Head of sales"],
         [],
+    ),
+    Converted(
+        "a photo that is cut at 72 octets tells nothing of the text beside it, which is cut at 76: "
+        "its words stay whole, before and after the photo",
+        card("2.1", "UID:a", "FN:Ann", "URL:https://" + LONG_WORD[:64], " " + LONG_WORD[64:],
+             "PHOTO;ENCODING=BASE64;JPEG:", " " + PNG[:72], " " + PNG[72:], "",
+             "NOTE:" + LONG_WORD[:71], " " + LONG_WORD[71:]),
+        ["UID:a", "FN:Ann", "URL:https://" + LONG_WORD, "PHOTO:data:image/jpeg;base64," + PNG,
+         "NOTE:" + LONG_WORD],
+        ["line 7: PHOTO rewritten"],
+    ),
+    Converted(
+        "nor does a photo as Android writes it, which begins on the line of its name, nor one whose "
+        "encoding is called B, nor a soft line break before a space (RFC 2045, section 6.7)",
+        card("2.1", "UID:a", "FN:Ann", "PHOTO;ENCODING=BASE64;PNG:" + PNG[:40], " " + PNG[40:],
+             "", "LOGO;TYPE=PNG;ENCODING=B:" + PNG[:40], " " + PNG[40:], "",
+             "TITLE;ENCODING=QUOTED-PRINTABLE:Head=", " of: =", " sales",
+             "NOTE:" + LONG_WORD[:71], " " + LONG_WORD[71:]),
+        ["UID:a", "FN:Ann", "PHOTO:data:image/png;base64," + PNG,
+         "LOGO:data:image/png;base64," + PNG, "TITLE:Head of:  sales", "NOTE:" + LONG_WORD],
+        ["line 5: PHOTO rewritten", "line 8: LOGO rewritten", "line 11: TITLE rewritten"],
+    ),
+    Converted(
+        "a photo that is cut at 76 octets tells nothing either: a title that is folded at a space "
+        "keeps it, and so does the note",
+        card("2.1", "UID:a", "FN:Ann", "PHOTO;ENCODING=BASE64;PNG:" + PNG[:50], " " + PNG[50:], "",
+             "TITLE:Head", " of sales", "NOTE:" + LONG_WORD[:71], " " + LONG_WORD[:30]),
+        ["UID:a", "FN:Ann", "PHOTO:data:image/png;base64," + PNG, "TITLE:Head of sales",
+         "NOTE:" + LONG_WORD[:71] + " " + LONG_WORD[:30]],
+        ["line 5: PHOTO rewritten"],
     ),
     Converted(
         "vCard 4.0 has no ENCODING: a photo is a URI, and a note is a text (RFC 6350, sections "

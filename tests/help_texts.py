@@ -399,7 +399,8 @@ files of --rows and --octets
 n.given, n.additional, n.prefix, n.suffix, nickname, org, org.unit, title, role, email, tel, adr, \
 adr.street, adr.city, adr.region, adr.code, adr.country, adr.box, adr.extended, url, bday, \
 anniversary, note, categories, uid, gender, lang, impp, or - to leave it out. If all are numbers, the \
-first row is a person, unless it is a header that is known, or `header` is among them
+first row is a person, unless it is a header that is known, or the entry `header` is among them. \
+With the entry `rows`, or `rows=comma;cells=2` for the form of the rows, it is a person in any case
       --charset <CHARSET>  Character set of the file: UTF-8, UTF-16, ISO-8859-1 to -16, \
 windows-1250 to -1258 or -874, KOI8-R or KOI8-U
       --report <REPORT>    New file for all lines of the report, one for each line of a card that \
@@ -413,9 +414,9 @@ Example:
 
 Needs no store file. Standard error gets a line for each card whose content changed or that can't \
 be carried over, how often each other change came, and the numbers of cards. The status is 1 if a \
-card wasn't carried over. With --rows or --octets the files are named after the first FILE, \
-`phone-1.csv`, `phone-2.csv` and so on, beside it or in the folder. No file is overwritten, and \
-nothing is written before each FILE is known to be one that is converted.
+card wasn't carried over, or a file for --photos wasn't written. With --rows or --octets the files \
+are named after the first FILE, `phone-1.csv`, `phone-2.csv` and so on, beside it or in the folder. \
+No file is overwritten, and nothing is written before each FILE is known to be one that is converted.
 """
 
 HELP["books"] = """\

@@ -16,8 +16,8 @@ import unittest
 import uuid
 
 from card_rows import octets as octets_of
-from conversion_reports import digest
-from converted_cards import ADDED_UID, CARDS, added_uid, card
+from conversion_reports import digest, guesses
+from converted_cards import ADDED_UID, CARDS, GUESSED, added_uid, card
 from order_trials import OrderTest
 from program import ROOT, Ended, run
 
@@ -77,9 +77,9 @@ def rows_of(octets):
     return list(csv.reader(io.StringIO(octets.decode(), newline="")))[1:]
 
 
-def report(lines, written, changed, refused, files=None):
+def report(lines, written, changed, refused, files=None, guessed=""):
     """What is printed where these are the lines of the report."""
-    return digest(lines, written, changed, refused, files).encode()
+    return digest(lines, written, changed, refused, files, guessed).encode()
 
 
 class Convert(OrderTest):
@@ -116,7 +116,8 @@ class Convert(OrderTest):
                     made = card("4.0", *(uid if it == ADDED_UID else it for it in wanted))
                     self.assertEqual(made, unfolded(rows[0][1].encode()))
                     listed = [f"card 1, {line}" for line in changes]
-                    due = report(listed, 1, bool(changes), 0)
+                    guessed = guesses(lines=GUESSED.get(title, 0))
+                    due = report(listed, 1, bool(changes), 0, guessed=guessed)
                     self.assertEqual((0, due), (ended.status, ended.err))
                     self.assertEqual(ended, self.convert(octets), "not the same again")
                     self.imported(ended.out, 1)

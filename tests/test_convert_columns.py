@@ -84,6 +84,29 @@ CELLS = [
         ["Email kept as X-EMAIL", "Phone kept as X-PHONE"],
     ),
     (
+        "names that are written together or apart otherwise than in the tables",
+        "first_name,Last-Name,E-Mail Adresse,Mobile.Phone,Web-Site,Job_Title\n"
+        "Ann,Lee,a@x.test,1,https://a.test/,Clerk\n",
+        ["EMAIL:a@x.test", "FN:Ann Lee", "N:Lee;Ann;;;", "TEL;TYPE=cell:1", "TITLE:Clerk",
+         "URL:https://a.test/"],
+        [],
+    ),
+    (
+        "users of Azure",
+        "userPrincipalName,displayName,surname,mail,givenName,jobTitle,streetAddress,city,"
+        "postalCode,telephoneNumber,mobile\n"
+        "ann,Ann Lee,Lee,a@x.test,Ann,Clerk,Park Lane 1,Town,1,2,3\n",
+        ["ADR:;;Park Lane 1;Town;;1;", "EMAIL:a@x.test", "FN:Ann Lee", "N:Lee;Ann;;;",
+         "TEL:2", "TEL;TYPE=cell:3", "TITLE:Clerk", "X-USERPRINCIPALNAME:ann"],
+        ["userPrincipalName kept as X-USERPRINCIPALNAME"],
+    ),
+    (
+        "a name that two names are without spaces: it is a date for the one, a day for the other",
+        "Name,E Mail,birth_day\nAnn,a@x.test,15\n",
+        ["EMAIL:a@x.test", "FN:Ann", "X-BIRTH-DAY:15"],
+        ["birth_day kept as X-BIRTH-DAY"],
+    ),
+    (
         "a year alone",
         "Name,Primary Email,Birth Year,Birth Month,Birth Day\nAnn,a@x.test,1980,,\n",
         ["EMAIL:a@x.test", "FN:Ann", "X-BIRTH-YEAR:1980"],
@@ -116,7 +139,7 @@ class ConvertColumns(OrderTest):
                 ended = self.convert(text)
                 changes = [f"row 1, line 2: the cell of {words}" for words in told]
                 self.assertEqual(lines, self.lines(ended))
-                self.assertEqual((0, digest(changes, 1, 1, 0)),
+                self.assertEqual((0, digest(changes, 1, bool(changes), 0)),
                                  (ended.status, ended.err.decode()))
 
     def refused(self, text, unread, columns):

@@ -10,7 +10,7 @@ import os
 import resource
 import unittest
 
-from conversion_reports import digest, numbers
+from conversion_reports import digest, guesses, numbers
 from converted_cards import added_uid, card
 from order_trials import OrderTest
 from program import Ended, run
@@ -232,6 +232,71 @@ class ConvertFiles(OrderTest):
             ended = self.convert("a.csv")
             self.assertTrue(ended.err.decode().startswith(told), ended)
             self.assertIn("NOTE:a\ufffd\r\n", ended.out.decode())
+
+    def test_a_guess_is_told(self):
+        """Cells and lines that aren't UTF-8 are read as Windows-1252, and counted."""
+        head = "First Name,E-mail Address,Notes\n"
+        rows = "Jörg,a@x.test,Grüße aus Köln\nAnn,b@x.test,\nAndré,,\n"
+        self.write(a_csv=(head + rows).encode("cp1252"))
+        for options, guessed in [([], guesses(cells=3)), (["--charset", "windows-1252"], "")]:
+            with self.subTest(options):
+                ended = self.convert("a.csv", *options)
+                self.assertEqual((0, guessed + numbers(3, 0, 0, 0)),
+                                 (ended.status, ended.err.decode()))
+                self.assertIn("NOTE:Grüße aus Köln\r\n", ended.out.decode())
+        self.write(a_csv=(head + rows).encode(), b_csv=(head + "Zoë,,\n").encode("cp1252"))
+        ended = self.convert("a.csv", "b.csv")
+        self.assertEqual(guesses(cells=1) + numbers(4, 0, 0, 0), ended.err.decode())
+        # A character set that a line names is no guess. A fold may be within a character.
+        lines = card("3.0", "UID:a", "FN:Jörg", "NOTE;CHARSET=ISO-8859-1:ü", "TITLE:a\r\n ü")
+        self.write(a_vcf=text(lines).encode("latin-1"), b_vcf=text(
+            card("3.0", "UID:a", "FN:A")).encode().replace(b"FN:A", b"FN:J\xc3\r\n \xb6rg"))
+        listed = [f"card 1, line {line}" for line in
+                  ("4: FN rewritten", "5: NOTE rewritten", "6: TITLE rewritten")]
+        for name, changes, guessed in [("a.vcf", listed, guesses(lines=2)), ("b.vcf", [], "")]:
+            with self.subTest(name):
+                ended = self.convert(name)
+                due = digest(changes, 1, bool(changes), 0, guessed=guessed)
+                self.assertEqual((0, due), (ended.status, ended.err.decode()))
+
+    def test_lost_characters_count_as_a_change(self):
+        told = "FN has U+FFFD in place of characters that couldn't be read"
+        self.write(a_csv=b"Name,Email\nJ\x81rg,a@x.test\nAnn,b@x.test\n")
+        ended = self.convert("a.csv")
+        due = digest([f"row 1, line 2: {told}"], 2, 1, 0, guessed=guesses(cells=1))
+        self.assertEqual((0, due), (ended.status, ended.err.decode()))
+        # A card of vCard 4.0 that has such a character is carried as it is.
+        self.write(a_vcf=text(card("4.0", "UID:a", "FN:J\ufffdrg")).encode())
+        ended = self.convert("a.vcf")
+        self.assertEqual((0, digest([f"card 1, line 1: {told}"], 1, 1, 0)),
+                         (ended.status, ended.err.decode()))
+
+    def test_an_export_that_was_saved_again(self):
+        """One with its header in quotes is read. One without commas is told, and not taken for
+        contacts."""
+        vcard = text(card("4.0", "UID:a", "FN:Ann"))
+        plain = f'uid,vcard\r\na,"{vcard}"\r\n'
+        self.write(a_csv=plain.encode())
+        due = self.convert("a.csv")
+        self.assertEqual((0, numbers(1, 0, 0, 0).encode()), (due.status, due.err))
+        for mark in "", "\ufeff":
+            for head in '"uid","vcard"', 'uid,"vcard"', '"uid",vcard':
+                with self.subTest(head, mark=mark):
+                    self.write(b_csv=(mark + plain.replace("uid,vcard", head)).encode())
+                    self.assertEqual(due, self.convert("b.csv"))
+            for delimiter in ";", "\t", "|":
+                for head in f"uid{delimiter}vcard", f'"uid"{delimiter}"vcard"':
+                    for name, options in [("b.csv", []), ("b.txt", []),
+                                          ("b.csv", ["--columns", "vcard=fn"])]:
+                        with self.subTest(head, mark=mark, name=name, options=options):
+                            rows = plain.replace("uid,vcard", head).replace("a,", "a" + delimiter)
+                            (self.folder / name).write_bytes((mark + rows).encode())
+                            ended = self.convert(name, *options)
+                            words = (f"fault device 1: {name} is rows of cards that were saved "
+                                     "again, without commas between uid and vcard; convert the "
+                                     "file as it was exported\n")
+                            self.assertEqual((3, b"", words),
+                                             (ended.status, ended.out, ended.err.decode()))
 
     def test_text_that_is_not_quite_utf8(self):
         """U+FFFD stands for what is no character of it, also if all of it is said to be UTF-8."""

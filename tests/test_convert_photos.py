@@ -73,7 +73,7 @@ class ConvertPhotos(OrderTest):
             with self.subTest(ending):
                 ended = self.convert(card("a", binary("PHOTO", octets), "TITLE:t"))
                 wanted = f"card 1, line 5: PHOTO written to p/a-photo.{ending}"
-                self.assertEqual((0, self.told([wanted], 1, ", 1 pictures and sounds written")),
+                self.assertEqual((0, self.told([wanted], 1, ", 1 picture or sound written")),
                                  (ended.status, ended.err.decode()))
                 self.assertEqual({f"a-photo.{ending}": octets}, self.photos())
                 [(uid, lines)] = self.cards(ended)
@@ -96,7 +96,7 @@ class ConvertPhotos(OrderTest):
                 ended = self.convert(card("a", line, version=version))
                 self.assertEqual(0, ended.status, ended.err)
                 self.assertEqual({"a-photo.jpg": JPEG}, self.photos())
-                self.assertTrue(ended.err.endswith(b", 1 pictures and sounds written\n"), ended.err)
+                self.assertTrue(ended.err.endswith(b", 1 picture or sound written\n"), ended.err)
                 (self.folder / "p/a-photo.jpg").unlink()
 
     def test_several_of_a_card(self):
@@ -184,7 +184,7 @@ class ConvertPhotos(OrderTest):
         (self.folder / "p/a-photo.jpg").write_bytes(b"mine")
         ended = self.convert(card("a", binary("PHOTO", JPEG)))
         line = "card 1, line 5: PHOTO left out: the file p/a-photo.jpg exists"
-        self.assertEqual((1, self.told([line], 1, ", 1 pictures and sounds not written")),
+        self.assertEqual((1, self.told([line], 1, ", 1 picture or sound not written")),
                          (ended.status, ended.err.decode()))
         self.assertEqual({"a-photo.jpg": b"mine"}, self.photos())
         self.assertEqual(["a"], [uid for uid, _ in self.cards(ended)])
@@ -195,7 +195,7 @@ class ConvertPhotos(OrderTest):
                 value = f"data:{front}{300_000 * octet}"
                 ended = self.convert(card("a", f"PHOTO:{value}", version="4.0"))
                 line = "card 1, line 5: PHOTO left out: its value is no base64 that can be read"
-                self.assertEqual((1, self.told([line], 1, ", 1 pictures and sounds not written")),
+                self.assertEqual((1, self.told([line], 1, ", 1 picture or sound not written")),
                                  (ended.status, ended.err.decode()))
                 self.assertEqual({}, self.photos())
 

@@ -1,5 +1,10 @@
 -- How many cards of a file were written, were changed and weren't carried.
-use Rattle.std.specs.Prelude.{ℕ, ◌+◌, ◌-◌, ◌^◌, ◌==◌, List, length, min, fold, if◌then◌else◌}
+use Rattle.std.specs.Prelude.{ℕ, ◌+◌, ◌-◌, ◌^◌, ◌==◌, ◌||◌, Bool, not, nat_lt, List, length, min}
+use Rattle.std.specs.Prelude.{count_by, fold, if◌then◌else◌}
+use Rattle.std.specs.List.{list_any}
+use Rattle.std.specs.Str.{chars}
+use Rattle.import_text.specs.Encodings.{is_lost}
+use Rattle.vcard_lines.specs.declared.line.Line.{Line}
 use Rattle.vcard_import.specs.declared.conversion.Conversion.{Conversion}
 use Rattle.card_conversion.specs.declared.fate.Fate.{Fate}
 use Rattle.card_conversion.specs.declared.fate.Fate.TheVariants.{Blank, Other, Long, Overfull, Refused}
@@ -15,11 +20,23 @@ nothing_counted = record { written = 0; changed = 0; refused = 0 }
 abbrev pub one_more : ℕ → ℕ
 one_more count = min (count + 1) (2 ^ 64 - 1)
 
--- a card that was written, which is changed if a change of it is reported
+-- the text has U+FFFD, which stands for a character that couldn't be read
+abbrev pub has_lost : List ℕ → Bool
+has_lost text = nat_lt 0 (count_by is_lost (chars text))
+
+-- one of the lines has such a character
+abbrev pub have_lost : List Line → Bool
+have_lost lines = list_any (λ line. has_lost line.value) lines
+
+-- a change of the card is reported, or characters of it couldn't be read
+abbrev pub is_changed : Conversion → Bool
+is_changed made = not (length made.changes == 0) || have_lost made.card
+
+-- a card that was written, and that may be changed
 abbrev pub with_written : Summary → Conversion → Summary
 with_written summary made = record {
   written = one_more summary.written;
-  changed = if length made.changes == 0 then summary.changed else one_more summary.changed;
+  changed = if is_changed made then one_more summary.changed else summary.changed;
   refused = summary.refused;
 }
 

@@ -28,6 +28,45 @@ fn is_ldif(text: &[u8]) -> bool {
         || text.starts_with(b"version: 1\r\n")
 }
 
+/// The octets after one that is the first, if it is; else all.
+fn after_octet(octets: &[u8], first: u8) -> &[u8] {
+    match octets.split_first() {
+        Some((octet, rest)) if *octet == first => rest,
+        _ => octets,
+    }
+}
+
+/// The octets after the word at their front, which may be in quotes.
+fn after_word<'a>(octets: &'a [u8], word: &[u8]) -> Option<&'a [u8]> {
+    let rest = after_octet(octets, b'"').strip_prefix(word)?;
+    Some(after_octet(rest, b'"'))
+}
+
+/// The octet between the names `uid` and `vcard`, each perhaps in quotes, if they are the first
+/// line.
+fn export_delimiter(text: &[u8]) -> Option<u8> {
+    let (delimiter, rest) = after_word(text, b"uid")?.split_first()?;
+    let end = after_word(rest, b"vcard")?;
+    if end.is_empty() || end.starts_with(b"\n") || end.starts_with(b"\r") {
+        Some(*delimiter)
+    } else {
+        None
+    }
+}
+
+/// Whether a file that begins with these octets has rows of cards whose header is `uid,vcard`, with
+/// each name in quotes or without: programs write them that quote all cells.
+pub fn is_quoted_export(head: &[u8]) -> bool {
+    let text = head.strip_prefix(b"\xEF\xBB\xBF").unwrap_or(head);
+    export_delimiter(text) == Some(b',')
+}
+
+/// Whether the text has rows of cards that a spreadsheet saved, with something else than commas
+/// between its cells.
+fn is_saved_export(text: &[u8]) -> bool {
+    matches!(export_delimiter(text), Some(b';' | b'\t' | b'|'))
+}
+
 /// What a file is, and what to do with it, if it begins with these octets and has a format that
 /// isn't converted.
 pub fn foreign_format(head: &[u8]) -> Option<&'static str> {
@@ -42,6 +81,11 @@ pub fn foreign_format(head: &[u8]) -> Option<&'static str> {
         Some("a PDF; export the contacts as vCard or CSV")
     } else if head.starts_with(b"\x1F\x8B") {
         Some("compressed by gzip; unpack it, and convert its files")
+    } else if is_saved_export(text) {
+        Some(
+            "rows of cards that were saved again, without commas between uid and vcard; convert \
+             the file as it was exported",
+        )
     } else if is_ldif(text) {
         Some("LDIF; export the contacts as vCard or CSV")
     } else if text.starts_with(b"<?xml") || text.starts_with(b"<html") {

@@ -64,7 +64,7 @@ fn grouped(alloc: Global, number: u64) -> Result<String, NoMemory> {
 }
 
 /// A number of things: `1 line`, or `1,000 lines`.
-fn counted(alloc: Global, number: u64, thing: &str) -> Result<String, NoMemory> {
+pub(crate) fn counted(alloc: Global, number: u64, thing: &str) -> Result<String, NoMemory> {
     let digits = grouped(alloc, number)?;
     if number == 1 {
         return Ok(format!(in alloc; "{digits} {thing}")?);

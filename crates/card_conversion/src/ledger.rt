@@ -1,17 +1,20 @@
 //! How many pieces there were, of each kind, and where the next one is.
 ghost use Rattle.std.specs.Prelude.{◌≡◌};
-ghost use Rattle.card_conversion.specs.Counts.{counted, nothing_counted};
+ghost use Rattle.card_conversion.specs.Counts.{counted, is_changed, nothing_counted};
 
 use crate::fate::Fate;
+use crate::parts::have_lost;
 use crate::report::Place;
 use import_text::count_lines;
+use vcard_import::Conversion;
 
 /// What became of the cards of a file.
 #[derive(Clone, Copy)]
 pub struct Summary {
     /// The number of cards that were written.
     pub written: u64,
-    /// The number of those whose lines weren't all kept as they were.
+    /// The number of those whose lines weren't all kept as they were, or have characters that
+    /// couldn't be read.
     pub changed: u64,
     /// The number of cards that weren't written, and of texts that are no card.
     pub refused: u64,
@@ -22,6 +25,14 @@ pub struct Summary {
 pub(crate) struct Ledger {
     pub(crate) place: Place,
     pub(crate) summary: Summary,
+}
+
+/// Whether a card that was written says something else than what it was made of, or in another
+/// form: a change of it is reported, or characters of it couldn't be read.
+pub(crate) fn is_changed(conversion: &Conversion) -> bool
+    ensures { result ≡ is_changed conversion.now }
+{
+    !conversion.changes.is_empty() || have_lost(conversion.card.lines())
 }
 
 impl Ledger {
@@ -74,7 +85,7 @@ impl Ledger {
             }
             Fate::Written(conversion) => {
                 summary.written = summary.written.saturating_add(1);
-                if !conversion.changes.is_empty() {
+                if is_changed(conversion) {
                     summary.changed = summary.changed.saturating_add(1);
                 }
             }

@@ -3,6 +3,7 @@
 #![tactic(auto)]
 
 mod card_sink;
+mod change_words;
 mod chunks;
 mod contacts;
 mod course;
@@ -13,6 +14,7 @@ mod fault;
 mod file;
 mod foreign;
 mod form_changes;
+mod guesses;
 pub mod laws;
 mod ledger;
 mod left_out;
@@ -40,7 +42,7 @@ pub use delivery::{Outcome, deliver};
 pub use exports::convert_more_exports;
 pub use fault::ConversionFault;
 pub use file::{convert_file, convert_more_file};
-pub use foreign::foreign_format;
+pub use foreign::{foreign_format, is_quoted_export};
 pub use ledger::Summary;
 pub use line_ends::{LineEnds, ends_with_returns};
 pub use media_sink::{MediaDelivery, MediaKind, MediaOwner, MediaSink, NoMedia};

@@ -37,12 +37,29 @@ impl<'a> PieceLines<'a> {
         }
         split_line(self.rest).0
     }
+
+    /// The line that the cursor is at, with the physical lines that it is folded to.
+    pub(crate) fn line_on(&self) -> &'a [u8] {
+        let mut len: usize = 0;
+        for line in self.rest.split(|octet| *octet == b'\n') {
+            if len > 0 && !is_folded(line) {
+                break;
+            }
+            len = len.saturating_add(line.len()).saturating_add(1);
+        }
+        self.rest.get(..len.saturating_sub(1)).unwrap_or(self.rest)
+    }
+}
+
+/// Whether a physical line begins with white space, and so goes on with the one before it.
+fn is_folded(line: &[u8]) -> bool {
+    line.starts_with(b" ") || line.starts_with(b"\t")
 }
 
 /// Whether a physical line goes on with the one before it: it begins with white space, or has no
 /// colon, as lines of base64 that weren't folded.
 fn goes_on(line: &[u8]) -> bool {
-    line.starts_with(b" ") || line.starts_with(b"\t") || !line.contains(&b':')
+    is_folded(line) || !line.contains(&b':')
 }
 
 /// The first of the longest lines of a piece, each with those that go on with it: the number of

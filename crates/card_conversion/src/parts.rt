@@ -1,4 +1,8 @@
 //! `Parts`: what is said of one card in one line of the report.
+ghost use Rattle.std.specs.Prelude.{◌≡◌, count_by};
+ghost use Rattle.std.specs.Str.{chars};
+ghost use Rattle.import_text.specs.Encodings.{is_lost};
+ghost use Rattle.card_conversion.specs.Counts.{has_lost, have_lost};
 
 use crate::reporting::Weight;
 use base_types::NoMemory;
@@ -53,14 +57,38 @@ impl Parts {
     }
 }
 
-/// What stands for a character that couldn't be read.
-const LOST: &str = "\u{FFFD}";
+/// Whether the character is U+FFFD, which stands for one that couldn't be read.
+fn is_lost(c: char) -> bool
+    ensures { result ≡ is_lost c }
+{
+    c == '\u{FFFD}'
+}
+
+/// How many characters of the text couldn't be read.
+#[tactic(auto, using(std::proofs::lemmas::Str::chars_from_encodes))]
+fn count_lost(text: &str) -> usize
+    ensures { result ≡ count_by is_lost (chars text.now) }
+{
+    text.chars().filter(|c| is_lost(*c)).count()
+}
+
+/// Whether the value of the line has characters that couldn't be read.
+fn has_lost(line: &Line) -> bool
+    ensures { result ≡ has_lost line.now.value }
+{
+    count_lost(line.value.as_str()) > 0
+}
+
+/// Whether one of the lines has characters that couldn't be read.
+pub(crate) fn have_lost(lines: &[Line]) -> bool
+    ensures { result ≡ have_lost lines.now }
+{
+    lines.iter().any(|line| has_lost(line))
+}
 
 /// The name of the first line that has a character that couldn't be read.
 fn lost_name(lines: &[Line]) -> Option<&str> {
-    let place = lines
-        .iter()
-        .position(|line| line.value.as_str().contains(LOST))?;
+    let place = lines.iter().position(|line| has_lost(line))?;
     let line = lines.get(place)?;
     Some(line.name.as_str())
 }

@@ -1,11 +1,13 @@
 //! The lines of the report: one for each card whose content changed or that isn't carried, and for
 //! the file of the report one for each change.
 
+use crate::change_words::{Reported, Said, change_words};
 use crate::fate::Fate;
 use crate::fault::ConversionFault;
 use crate::form_changes::FormKind;
-use crate::line_cursor::{PieceLines, find_name, longest_line};
-use crate::line_names::{extension_name, is_empty_name, name_of};
+use crate::guesses::is_guessed_line;
+use crate::line_cursor::longest_line;
+use crate::line_names::name_of;
 use crate::media_sink::MediaDelivery;
 use crate::parts::{Parts, lost_words};
 use crate::reporting::{Report, Weight};
@@ -40,24 +42,6 @@ pub(crate) fn no_fields() -> RowFields<'static> {
     }
 }
 
-/// A conversion that is reported: the lines of its piece and of its card from one on.
-#[derive(Clone, Copy)]
-struct Reported<'a> {
-    piece: PieceLines<'a>,
-    lines: &'a [Line],
-    added: &'a [Line],
-    /// What became of the pictures and sounds that are left out from here on; empty if they aren't
-    /// wanted.
-    media: &'a [MediaDelivery],
-    /// Whether the card has a name.
-    has_name: bool,
-}
-
-/// Whether the line is a name that isn't empty.
-fn is_name(line: &Line) -> bool {
-    line.name.as_str() == "FN" && !line.value.as_str().is_empty()
-}
-
 /// The lines at the end of the card that were added.
 fn added_lines<'a>(conversion: &'a Conversion) -> &'a [Line] {
     let lines = conversion.card.lines();
@@ -71,121 +55,6 @@ fn added_lines<'a>(conversion: &'a Conversion) -> &'a [Line] {
         .unwrap_or(&[])
 }
 
-/// The words for a line that was kept under another name.
-fn aside_words(alloc: Global, at: &mut Reported<'_>, name: &str) -> Result<String, NoMemory> {
-    let aside = extension_name(alloc, name)?;
-    match find_name(at.lines, aside.as_str(), "X-AGENT") {
-        Some((kept, rest)) => {
-            at.lines = rest;
-            Ok(format!(in alloc; "{name} kept as {kept}")?)
-        }
-        None => Ok(format!(in alloc; "{name} kept under another name")?),
-    }
-}
-
-/// What a line that was added is, and the words for it. A UID changes nothing that one reads.
-fn added_words(alloc: Global, at: &mut Reported<'_>) -> Result<(Said, String), NoMemory> {
-    let Some((line, rest)) = at.added.split_first() else {
-        let words = String::from_str(alloc, "a line added")?;
-        return Ok((Said::Content(Weight::Moved), words));
-    };
-    at.added = rest;
-    let name = line.name.as_str();
-    let words = format!(in alloc; "{name} added")?;
-    if name == "UID" {
-        return Ok((Said::Form(FormKind::NewUid), words));
-    }
-    Ok((Said::Content(Weight::Moved), words))
-}
-
-/// What a line that was left out is, and the words for it: what is written beside the card isn't
-/// lost.
-fn left_out_words(
-    alloc: Global,
-    at: &mut Reported<'_>,
-    name: &str,
-) -> Result<(Said, String), NoMemory> {
-    let Some((delivery, rest)) = at.media.split_first() else {
-        let words = format!(in alloc; "{name} left out")?;
-        return Ok((Said::Content(Weight::Lost), words));
-    };
-    at.media = rest;
-    match delivery {
-        MediaDelivery::Written(path) => {
-            let path = path.as_str();
-            let words = format!(in alloc; "{name} written to {path}")?;
-            Ok((Said::Content(Weight::Moved), words))
-        }
-        MediaDelivery::Refused(why) => {
-            let why = why.as_str();
-            let words = format!(in alloc; "{name} left out: {why}")?;
-            Ok((Said::Content(Weight::Lost), words))
-        }
-    }
-}
-
-/// What the report says of a change: a change of form, or words on one of content.
-#[derive(Drop)]
-enum Said {
-    Form(FormKind),
-    Content(Weight),
-}
-
-/// What a change is, and the words for it, such as `CLASS kept as X-CLASS`.
-fn change_words(
-    alloc: Global,
-    at: &mut Reported<'_>,
-    name: &str,
-    line: &[u8],
-    kind: ChangeKind,
-) -> Result<(Said, String), NoMemory> {
-    let moved = Said::Content(Weight::Moved);
-    let told = match kind {
-        ChangeKind::Rewritten if at.has_name && is_empty_name(name, line) => {
-            (moved, format!(in alloc; "{name} was empty and got a name")?)
-        }
-        ChangeKind::Rewritten => {
-            (
-                Said::Form(FormKind::Rewritten),
-                format!(in alloc; "{name} rewritten")?,
-            )
-        }
-        ChangeKind::Shortened => {
-            (
-                Said::Content(Weight::Lost),
-                format!(in alloc; "{name} lost the fraction of a second")?,
-            )
-        }
-        ChangeKind::Cleaned => {
-            (
-                Said::Content(Weight::Lost),
-                format!(in alloc; "{name} lost control characters")?,
-            )
-        }
-        ChangeKind::Renamed => (
-            Said::Form(FormKind::Renamed),
-            format!(in alloc; "{name} renamed")?,
-        ),
-        ChangeKind::KeptAside => (moved, aside_words(alloc, at, name)?),
-        ChangeKind::Unreadable => (moved, String::from_str(alloc, "kept as X-UNREADABLE")?),
-        ChangeKind::Added => added_words(alloc, at)?,
-        ChangeKind::Joined => {
-            (
-                Said::Form(FormKind::Joined),
-                format!(in alloc; "{name} joined to its ADR")?,
-            )
-        }
-        ChangeKind::LeftOut => left_out_words(alloc, at, name)?,
-        ChangeKind::Labelled => {
-            (
-                Said::Form(FormKind::Labelled),
-                format!(in alloc; "{name} given a LABEL")?,
-            )
-        }
-    };
-    Ok(told)
-}
-
 /// The line for a card, with these words.
 fn card_line(alloc: Global, place: Place, words: &str) -> Result<String, NoMemory> {
     let Place { card, line } = place;
@@ -195,6 +64,20 @@ fn card_line(alloc: Global, place: Place, words: &str) -> Result<String, NoMemor
 /// Whether the change keeps a line under a name that begins with X-.
 fn keeps_aside(change: &Change) -> bool {
     matches!(change.kind, ChangeKind::KeptAside | ChangeKind::Unreadable)
+}
+
+/// Counts the line of a change if it is read as Windows-1252. Each such line has a change, since it
+/// isn't what its octets spell. One that was added has no octets.
+fn count_guess<E: Write, T: Write>(
+    alloc: Global,
+    at: &Reported<'_>,
+    change: &Change,
+    report: &mut Report<E, T>,
+) -> Result<(), NoMemory> {
+    if change.kind != ChangeKind::Added && is_guessed_line(alloc, at.piece.line_on())? {
+        report.count_guessed_line();
+    }
+    Ok(())
 }
 
 /// Reports one change of a card: a change of form is counted, and one of content is a part of the
@@ -209,6 +92,7 @@ fn report_change<E: Write, T: Write>(
 ) -> Result<(), ConversionFault> {
     let octets = at.piece.go_to(change.place);
     let name = name_of(alloc, octets)?;
+    count_guess(alloc, at, change, report)?;
     let (said, words) = change_words(alloc, at, name.as_str(), octets, change.kind)?;
     let line = place.line.saturating_add(change.place as u64);
     let card = place.card;
@@ -335,13 +219,7 @@ fn report_changes<E: Write, T: Write>(
 ) -> Result<(), ConversionFault> {
     let lines = conversion.card.lines();
     let changes = conversion.changes.as_slice();
-    let mut at = Reported {
-        piece: PieceLines::new(piece),
-        lines,
-        added: added_lines(conversion),
-        media,
-        has_name: lines.iter().any(is_name),
-    };
+    let mut at = Reported::new(piece, lines, added_lines(conversion), media);
     for change in changes {
         report_change(alloc, place, &mut at, change, parts, report)?;
     }

@@ -1,7 +1,7 @@
 //! `Report`: what is said of a conversion, and where.
 
 use crate::fault::ConversionFault;
-use crate::form_changes::{FormChanges, FormKind};
+use crate::form_changes::{FormChanges, FormKind, counted};
 use crate::ledger::Summary;
 use crate::media_sink::MediaDelivery;
 use base_types::{NoMemory, Text};
@@ -59,6 +59,10 @@ pub struct Report<E, T> {
     /// The name of the file that is converted and a colon, if there are several; else empty.
     source: String,
     forms: FormChanges,
+    /// The number of cells that were read as Windows-1252 since they aren't UTF-8.
+    guessed_cells: u64,
+    /// The number of such lines of cards.
+    guessed_lines: u64,
     /// The number of cards of which a line or a cell is kept aside.
     aside: u64,
     /// The number of pictures and sounds that were written beside their cards.
@@ -90,6 +94,8 @@ impl<E: Write, T: Write> Report<E, T> {
             file: None,
             source: String::new(alloc),
             forms: FormChanges::new(alloc),
+            guessed_cells: 0,
+            guessed_lines: 0,
             aside: 0,
             media: 0,
             lost_media: 0,
@@ -178,6 +184,16 @@ impl<E: Write, T: Write> Report<E, T> {
         self.forms.count(alloc, kind, name)
     }
 
+    /// Counts cells that were read as Windows-1252.
+    pub(crate) fn count_guessed_cells(&mut self, count: u64) {
+        self.guessed_cells = self.guessed_cells.saturating_add(count);
+    }
+
+    /// Counts a line of a card that was read as Windows-1252.
+    pub(crate) fn count_guessed_line(&mut self) {
+        self.guessed_lines = self.guessed_lines.saturating_add(1);
+    }
+
     /// Counts a card of which something is kept aside.
     pub(crate) fn count_aside(&mut self) {
         self.aside = self.aside.saturating_add(1);
@@ -203,17 +219,26 @@ impl<E: Write, T: Write> Report<E, T> {
         let mut text = String::new(alloc);
         let media = self.media;
         if media > 0 {
-            text.push_str(format!(in alloc; ", {media} pictures and sounds written")?.as_str())?;
+            let things = media_things(media);
+            text.push_str(format!(in alloc; ", {media} {things} written")?.as_str())?;
         }
         let lost = self.lost_media;
         if lost > 0 {
-            text.push_str(format!(in alloc; ", {lost} pictures and sounds not written")?.as_str())?;
+            let things = media_things(lost);
+            text.push_str(format!(in alloc; ", {lost} {things} not written")?.as_str())?;
         }
         Ok(text)
     }
 
-    /// Writes the end: the numbers of changes of form, the line to look at first, and the numbers
-    /// of cards and of pictures and sounds beside them. `files` is the number of files of cards or
+    /// The lines that say how much was read as Windows-1252.
+    fn guessed_text(&self, alloc: Global) -> Result<String, NoMemory> {
+        let mut text = guessed_line(alloc, self.guessed_cells, "cell")?;
+        text.push_str(guessed_line(alloc, self.guessed_lines, "line")?.as_str())?;
+        Ok(text)
+    }
+
+    /// Writes the end: the numbers of changes of form and of what was read as Windows-1252, the line
+    /// to look at first, and the numbers of cards and of pictures and sounds beside them. `files` is the number of files of cards or
     /// rows that were made, if the conversion made files.
     pub fn finish(
         &mut self,
@@ -223,6 +248,8 @@ impl<E: Write, T: Write> Report<E, T> {
     ) -> Result<(), ConversionFault> {
         let forms = self.forms.text(alloc)?;
         self.say(forms.as_str())?;
+        let guessed = self.guessed_text(alloc)?;
+        self.say(guessed.as_str())?;
         let first = self.first_text(alloc)?;
         self.say(first.as_str())?;
         let mut numbers = summary_text(alloc, summary, self.aside, files)?;
@@ -241,6 +268,25 @@ impl<E: Write, T: Write> Report<E, T> {
             None => Ok(String::new(alloc)),
         }
     }
+}
+
+/// What so many pictures and sounds are called.
+fn media_things(count: u64) -> &'static str {
+    if count == 1 {
+        "picture or sound"
+    } else {
+        "pictures and sounds"
+    }
+}
+
+/// The line that says how many things were read as Windows-1252. Empty for none.
+fn guessed_line(alloc: Global, count: u64, thing: &str) -> Result<String, NoMemory> {
+    if count == 0 {
+        return Ok(String::new(alloc));
+    }
+    let things = counted(alloc, count, thing)?;
+    let are = if count == 1 { "isn't" } else { "aren't" };
+    Ok(format!(in alloc; "read as Windows-1252: {things} that {are} UTF-8\n")?)
 }
 
 /// The front of the last line of the report.

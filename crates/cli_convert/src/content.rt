@@ -4,6 +4,7 @@ ghost use Rattle.csv_cards.specs.Exports.{is_export};
 ghost use Rattle.cli_convert.specs.declared.content.Content.TheVariants.{Export};
 
 use base_types::NoMemory;
+use card_conversion::is_quoted_export;
 use contact_csv::{Header, find_header};
 use csv_cards::is_export;
 use import_text::begins_with_word;
@@ -21,7 +22,7 @@ const READS_MAX: u32 = 1_000_000;
 pub(crate) enum Content<'a> {
     /// Cards, or what is no card.
     Cards,
-    /// Rows `uid,vcard`.
+    /// Rows `uid,vcard`, whose header may be in quotes.
     Export,
     /// Contacts with this header.
     Contacts(Header<'a>),
@@ -47,7 +48,7 @@ pub(crate) fn content_of<'a>(
 ) -> Result<Content<'a>, NoMemory>
     ensures { IfOk result (λ content. IsTrue (is_export head.now) → content ≡ Export) }
 {
-    if is_export(head) {
+    if is_export(head) || is_quoted_export(head) {
         return Ok(Content::Export);
     }
     let text = head.strip_prefix(b"\xEF\xBB\xBF").unwrap_or(head);

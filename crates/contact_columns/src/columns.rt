@@ -5,7 +5,7 @@ use crate::dates::DateOrder;
 use crate::fields::row_field;
 use crate::folded::folded_names;
 use crate::google::{google_meaning, name_meaning};
-use crate::known_names::known_name;
+use crate::known_names::{joined_name, known_name};
 use crate::meaning::{Meaning, Part};
 use crate::numbered_names::numbered_name;
 use crate::outlook::outlook_meaning;
@@ -63,6 +63,19 @@ fn property_of(meaning: Meaning<'_>) -> &str {
     }
 }
 
+/// The name in English that the tables have for one in lower case: for that very name, or else for
+/// one whose words are only parted otherwise.
+fn known_in_tables(
+    alloc: Global,
+    program: Program,
+    folded: &str,
+) -> Result<Option<&'static str>, NoMemory> {
+    match known_name(program, folded) {
+        Some(english) => Ok(Some(english)),
+        None => joined_name(alloc, program, folded),
+    }
+}
+
 /// The name in English that Google or Outlook has for a column of this name; the name itself if
 /// none is known. `folded` is the name in lower case.
 fn english_name(
@@ -78,7 +91,10 @@ fn english_name(
             let part = it.part;
             Ok(format!(in alloc; "{kind} {number} - {part}")?)
         }
-        None => Ok(String::from_str(alloc, known_name(program, folded).unwrap_or(name))?),
+        None => {
+            let known = known_in_tables(alloc, program, folded)?;
+            Ok(String::from_str(alloc, known.unwrap_or(name))?)
+        }
     }
 }
 

@@ -1,7 +1,10 @@
 //! Names of columns in other words and other languages, and the names of Google's and Outlook's
 //! exports in English for them.
 
+use crate::joined_names::{Joined, joined_in, without_gaps};
 use crate::programs::{Program, own_names};
+use std::alloc::Global;
+use vcard_text::NoMemory;
 
 /// A name in lower case, with `ss` for `ß`, and the name of Google's or Outlook's in English. Some
 /// names mean something only beside others (see `Signs`).
@@ -157,6 +160,7 @@ const PHONES: &[KnownName] = &[
     ("phone", "Other Phone"),
     ("phone number", "Other Phone"),
     ("telephone", "Other Phone"),
+    ("telephone number", "Other Phone"),
     ("tel", "Other Phone"),
     ("tel.", "Other Phone"),
     ("telefon", "Other Phone"),
@@ -197,6 +201,8 @@ const PHONES: &[KnownName] = &[
     ("mobil-tel.-nr.", "Mobile Phone"),
     ("mobil", "Mobile Phone"),
     ("handy", "Mobile Phone"),
+    ("handynummer", "Mobile Phone"),
+    ("mobilnummer", "Mobile Phone"),
     ("tél. mobile", "Mobile Phone"),
     ("portable", "Mobile Phone"),
     ("business fax", "Business Fax"),
@@ -376,11 +382,9 @@ pub(crate) fn name_in(table: &[KnownName], name: &str) -> Option<&'static str> {
     None
 }
 
-/// The name in English that Google or Outlook has for a column of this name, which is in lower
-/// case, with `ss` for `ß`.
-pub(crate) fn known_name(program: Program, name: &str) -> Option<&'static str> {
-    for table in [
-        own_names(program),
+/// The tables of names that mean the same in each program.
+fn common_names() -> [&'static [KnownName]; 8] {
+    [
         PERSONS,
         WORK,
         NET,
@@ -389,10 +393,42 @@ pub(crate) fn known_name(program: Program, name: &str) -> Option<&'static str> {
         WORK_PLACES,
         HOME_PLACES,
         IDENTIFIERS,
-    ] {
+    ]
+}
+
+/// The name in English that Google or Outlook has for a column of this name, which is in lower
+/// case, with `ss` for `ß`.
+pub(crate) fn known_name(program: Program, name: &str) -> Option<&'static str> {
+    if let Some(english) = name_in(own_names(program), name) {
+        return Some(english);
+    }
+    for table in common_names() {
         if let Some(english) = name_in(table, name) {
             return Some(english);
         }
     }
     None
+}
+
+/// The same for a name that a table has with other spaces, hyphens, underscores or dots, as
+/// `first_name`. `None` also if it stands for names that mean something else, as `birth_day`, which
+/// may be a date or a day of the month.
+pub(crate) fn joined_name(
+    alloc: Global,
+    program: Program,
+    name: &str,
+) -> Result<Option<&'static str>, NoMemory> {
+    let joined = without_gaps(alloc, name)?;
+    let joined = joined.as_slice();
+    if let Joined::One(english) = joined_in(own_names(program), joined, Joined::None) {
+        return Ok(Some(english));
+    }
+    let mut found = Joined::None;
+    for table in common_names() {
+        found = joined_in(table, joined, found);
+    }
+    match found {
+        Joined::One(english) => Ok(Some(english)),
+        Joined::None | Joined::Several => Ok(None),
+    }
 }

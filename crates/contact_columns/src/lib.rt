@@ -14,6 +14,7 @@ mod folded;
 mod google;
 mod header;
 mod headerless;
+mod joined_names;
 mod known_names;
 mod mapping;
 mod meaning;

@@ -117,6 +117,11 @@ impl<R: Read + Drop> ContactReader<R> {
         &self.columns
     }
 
+    /// The last row that was read.
+    pub fn row(&self) -> &ByteRecord {
+        &self.row
+    }
+
     /// The number of the physical line after the last row, counted from 1. Rows end with LF or CR
     /// LF, all alike; only that which stands for a broken row ends with LF in any case (see
     /// `RowText`).

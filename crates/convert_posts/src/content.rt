@@ -6,7 +6,7 @@ use crate::contact_part::header_octets;
 use crate::cut::PIECE_OCTETS_MAX;
 use crate::unconverted::Unconverted;
 use base_types::NoMemory;
-use card_conversion::foreign_format;
+use card_conversion::{foreign_format, is_quoted_export};
 use contact_columns::{are_numbers, has_row_form, rows_end_with_returns, wish_fault};
 use contact_csv::{Header, find_header};
 use csv_cards::is_export;
@@ -270,6 +270,11 @@ fn contacts_in<'a>(alloc: Global, asked: &'a Asked, body: &[u8]) -> Result<Conte
     }
 }
 
+/// Whether a body that begins with these octets has rows of cards.
+fn is_of_rows(head: &[u8]) -> bool {
+    is_export(head) || is_quoted_export(head)
+}
+
 /// What a body has.
 pub(crate) fn content_of<'a>(
     alloc: Global,
@@ -280,7 +285,7 @@ pub(crate) fn content_of<'a>(
         return Ok(Content::None(NotContent::Foreign(words)));
     }
     let text = body.strip_prefix(b"\xEF\xBB\xBF").unwrap_or(body);
-    let is_of_rows = is_export(front(body, HEAD_OCTETS));
+    let is_of_rows = is_of_rows(front(body, HEAD_OCTETS));
     if !is_of_rows && !begins_with_word(text, b"BEGIN:VCARD") {
         return contacts_in(alloc, asked, body);
     }

@@ -1,47 +1,38 @@
--- Octets that are read one by one, to see whether lines were cut at a width.
-use Rattle.std.proofs.Common.{◌≡◌, ◌<◌, ◌≤◌, ◌+◌, ℕ, Bool, true, false, List, [], ◌∷◌, length, drop, get_or, Some, None, refl, sym, ap, subst, ◌∙◌, arith, if◌then◌else◌, ◌==◌}
-use Rattle.std.proofs.lemmas.List.{drop_more, drop_all}
-use Rattle.base_types.specs.Octets.{carriage_return, line_feed}
-use Rattle.vcard_import.specs.Folds.{are_cut_from, continues_short, holds_after, next_width}
-use Rattle.vcard_import.specs.declared.folds.Width.{Width}
+-- Physical lines that are read one by one, to see whether a logical line was cut at a width.
+use Rattle.std.proofs.Common.{◌≡◌, Bool, true, false, not, ◌&&◌, if◌then◌else◌, List, [], ◌∷◌, refl, ap, sym, ◌∙◌}
+use Rattle.vcard_import.specs.Folds.{go_on, is_cut}
+use Rattle.vcard_import.specs.declared.folds.PhysicalLine.{PhysicalLine}
 
--- one more octet
-one_read : (width : Width) (octet : ℕ) (octets : List ℕ) → are_cut_from width (octet ∷ octets) ≡ holds_after (next_width width octet) (λ next. are_cut_from next octets)
-unfolding are_cut_from
-one_read width octet octets = refl
+-- one more physical line
+one_read : (line : PhysicalLine) (lines : List PhysicalLine) → is_cut (line ∷ lines) ≡ (if go_on lines then line.is_full && is_cut lines else true)
+unfolding is_cut
+one_read line lines = refl
 
-none_left : (width : Width) → are_cut_from width [] ≡ true
-unfolding are_cut_from
-none_left width = refl
+none_left : is_cut [] ≡ true
+unfolding is_cut
+none_left = refl
 
-pub one_taken : (width : Width) (octets : List ℕ) (index octet : ℕ) → index < length octets → octet ≡ get_or octets index octet → are_cut_from width (drop index octets) ≡ holds_after (next_width width octet) (λ next. are_cut_from next (drop (index + 1) octets))
-one_taken width octets index octet small is =
-    ap (are_cut_from width) (drop_more octets index octet small ∙ ap (λ o. o ∷ drop (index + 1) octets) (sym is))
-    ∙ one_read width octet (drop (index + 1) octets)
+ended_by : (goes full rest : Bool) → not (goes && full) ≡ true → (if goes then full && rest else true) ≡ not goes
+ended_by true true rest e = absurd (cc e)
+ended_by true false rest e = refl
+ended_by false full rest e = refl
 
--- the octet goes on
-pub goes_on : (width next : Width) (octets : List ℕ) (index octet : ℕ) → index < length octets → octet ≡ get_or octets index octet → next_width width octet ≡ Some next → are_cut_from next (drop (index + 1) octets) ≡ are_cut_from width (drop index octets)
-goes_on width next octets index octet small is e =
-    sym (one_taken width octets index octet small is ∙ ap (λ w. holds_after w (λ more. are_cut_from more (drop (index + 1) octets))) e)
+rest_decides : (goes full rest : Bool) → not (goes && full) ≡ false → rest ≡ (if goes then full && rest else true)
+rest_decides true true rest e = refl
+rest_decides true false rest e = absurd (cc e)
+rest_decides false full rest e = absurd (cc e)
 
--- the octet continues a line that isn't full
-pub stops : (width : Width) (octets : List ℕ) (index octet : ℕ) → index < length octets → octet ≡ get_or octets index octet → next_width width octet ≡ None → are_cut_from width (drop index octets) ≡ false
-stops width octets index octet small is e =
-    one_taken width octets index octet small is ∙ ap (λ w. holds_after w (λ more. are_cut_from more (drop (index + 1) octets))) e
+-- the line isn't full, or is the last one of the logical line
+pub stops : (rest : List PhysicalLine) (line : PhysicalLine) (others : List PhysicalLine) → rest ≡ line ∷ others → not (go_on others && line.is_full) ≡ true → is_cut rest ≡ not (go_on others)
+stops rest line others is e =
+    ap is_cut is ∙ one_read line others ∙ ended_by (go_on others) line.is_full (is_cut others) e
 
--- no octet is left
-pub all_read : (width : Width) (octets : List ℕ) (index : ℕ) → length octets ≤ index → are_cut_from width (drop index octets) ≡ true
-all_read width octets index long = ap (are_cut_from width) (drop_all index octets long) ∙ none_left width
+-- a full line goes on
+pub goes_on : (rest : List PhysicalLine) (line : PhysicalLine) (others : List PhysicalLine) → rest ≡ line ∷ others → not (go_on others && line.is_full) ≡ false → is_cut others ≡ is_cut rest
+goes_on rest line others is e =
+    rest_decides (go_on others) line.is_full (is_cut others) e
+    ∙ sym (one_read line others) ∙ ap is_cut (sym is)
 
-by_cases : (ends returns short : Bool) (width next : Width) → (if ends then Some (record { before = width.count; count = 0 }) else (if returns then Some width else (if short then None else Some (record { before = width.before; count = width.count + 1 })))) ≡ Some next → next.count ≤ width.count + 1
-by_cases true returns short width next e =
-    let is : record { before = width.count; count = 0 } ≡ next = cc e in subst (λ (w : Width). w.count ≤ width.count + 1) is (omega arith)
-by_cases false true short width next e =
-    let is : width ≡ next = cc e in subst (λ (w : Width). w.count ≤ width.count + 1) is (omega arith)
-by_cases false false true width next e = absurd (cc e)
-by_cases false false false width next e =
-    let is : record { before = width.before; count = width.count + 1 } ≡ next = cc e in subst (λ (w : Width). w.count ≤ width.count + 1) is (omega arith)
-
--- an octet makes a line longer by one at most
-pub one_longer : (width next : Width) (octet : ℕ) → next_width width octet ≡ Some next → next.count ≤ width.count + 1
-one_longer width next octet e = by_cases (octet == line_feed) (octet == carriage_return) (continues_short width octet) width next e
+-- no line is left
+pub all_read : (rest : List PhysicalLine) → rest ≡ [] → is_cut rest ≡ true
+all_read rest is = ap is_cut is ∙ none_left

@@ -37,7 +37,8 @@ pub(crate) fn all_raw_lines(alloc: Global, octets: &[u8]) -> Result<Vec<RawLine>
     ensures { IfOk result (λ raws. raws.items ≡ card_raw_lines octets.now) }
 {
     let lines = without_end(without_bom(octets));
-    read_raw_lines(alloc, lines, folding_of(octets))
+    let folding = folding_of(alloc, octets)?;
+    read_raw_lines(alloc, lines, folding)
 }
 
 /// The logical lines of the octets, if the text of each is known.

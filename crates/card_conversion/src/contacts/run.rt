@@ -9,6 +9,7 @@ use crate::contacts::report::{RowPlace, report_broken, report_row};
 use crate::contacts::rows::{next_row, take_row};
 use crate::contacts::tally::count_row;
 use crate::course::Course;
+use crate::guesses::guessed_cells;
 use crate::reporting::Report;
 use crate::{CardSink, ConversionFault, Summary};
 use contact_csv::ContactReader;
@@ -38,6 +39,7 @@ pub fn convert_more_contacts<R: Read + Drop, O: CardSink, E: Write, T: Write>(
             report_broken(alloc, &mut broken, report)?;
             return Ok(());
         };
+        report.count_guessed_cells(guessed_cells(alloc, contacts.row())?);
         let number = course.ledger.next_number();
         let fate = take_row(
             alloc,

@@ -4,6 +4,7 @@ ghost use Rattle.card_conversion.specs.ContactFates.{counted};
 
 use crate::Summary;
 use crate::contacts::fate::RowFate;
+use crate::ledger::is_changed;
 use contact_csv::RowFault;
 
 /// Counts a row. One without a value, or with the cells of an earlier one, is no loss.
@@ -13,7 +14,7 @@ pub(crate) fn count_row(summary: &mut Summary, fate: &RowFate)
     match fate {
         RowFate::Written(conversion) => {
             summary.written = summary.written.saturating_add(1);
-            if !conversion.changes.is_empty() {
+            if is_changed(conversion) {
                 summary.changed = summary.changed.saturating_add(1);
             }
         }
