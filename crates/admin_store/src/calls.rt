@@ -3,6 +3,7 @@ ghost use Rattle.admin_store.specs.Resyncs.{Resyncs};
 ghost use Rattle.book_model.specs.BookQueries.{keep_step};
 ghost use Rattle.book_model.specs.CallOutcomes.{IfFault};
 ghost use Rattle.sync_core.specs.StoreModels.{AnswersExactly, KeepsTerms};
+ghost use Rattle.sync_core.specs.StoreCrashes.{LeavesNoMore};
 
 use sync_core::{BookStore, Denied};
 
@@ -13,7 +14,8 @@ pub trait AdminStore: BookStore {
         ensures terms { KeepsTerms Self.model self.old self.new }
         ensures fault { IfFault result Self.model.may_fault }
         ensures step { AnswersExactly Self.model self.old self.new result
-            (λ _ books. keep_step books book.now) };
+            (λ _ books. keep_step books book.now) }
+        ensures crash { LeavesNoMore Self.model self.old self.new result };
 
     /// Makes every device start again: each book takes the numbers of this many pairs of a creation
     /// and a removal, and forgets every removal. No pairs count as one. Returns the number of books.

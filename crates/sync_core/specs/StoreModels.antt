@@ -17,6 +17,9 @@ pub record StoreModel (S : Type 0) : Type 1 where
   pub premise : S → Type 0
   -- the faults that a call may return
   pub may_fault : Fault → Type 0
+  -- The rows of each book that an opening after a crash at this moment may find; none, if a crash
+  -- loses the store.
+  pub may_leave : S → Books → Type 0
 
 module _ {S : Type 0} (model : StoreModel S) where
   -- Every call does this, whatever it returns: if the premise holds now, it held before, and the

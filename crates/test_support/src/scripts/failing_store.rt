@@ -33,6 +33,7 @@ impl BookStore for FailingStore {
       limits = λ s. s.limits;
       premise = λ _. Unit {0};
       may_fault = λ _. Unit {0};
+      may_leave = λ _ _. ⊥;
     } };
 
     fn create_book(&mut self, _name: &str) -> Result<u64, Denied> {
