@@ -53,4 +53,5 @@ behind_guard model = record {
   limits = λ now. model.limits now.1;
   premise = λ now. model.premise now.1;
   may_fault = model.may_fault;
+  may_leave = λ now. model.may_leave now.1;
 }

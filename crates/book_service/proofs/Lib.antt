@@ -1,5 +1,6 @@
 pub mod PerformLemmas
 pub mod CallLemmas
+pub mod CrashLemmas
 pub mod WholeBookLemmas
 pub mod ImportLemmas
 pub mod TextLemmas
@@ -8,6 +9,7 @@ pub mod RunLemmas
 pub mod StepLemmas
 pub mod EventLemmas
 pub mod DriveLemmas
+pub mod RanLemmas
 pub mod PromiseLemmas
 pub mod TokenLemmas
 pub mod IdempotenceLemmas
@@ -15,3 +17,5 @@ pub mod PageCountLemmas
 pub mod MirrorLemmas
 pub mod PageTokenLemmas
 pub mod LifeLemmas
+pub mod LivedLemmas
+pub mod RestoreLemmas

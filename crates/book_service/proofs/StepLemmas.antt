@@ -1,7 +1,7 @@
 -- Steps and runs.
 use Rattle.std.proofs.Common.{◌≡◌, List, [], ◌∷◌, ◌++◌, refl, sym, ap, ◌∙◌, subst, ◌≢◌, ℕ, zero, suc, Some, None, slice_get, slice_set, ⊎_elim, inl, inr, ◌⊎◌, arith}
 use Rattle.std.proofs.lemmas.Option.{same_Some}
-use Rattle.book_model.specs.Bounds.{Bounds, IsInRange}
+use Rattle.book_model.specs.Bounds.{IsInRange}
 use Rattle.book_laws.specs.RunLaws.{CallsKeepHistoriesSound}
 use Rattle.book_laws.specs.StoreHistories.{BookHistories, AreSoundHistories, IsSoundStoreHistory}
 use Rattle.book_service.specs.declared.event.Event.{Event}
@@ -9,7 +9,7 @@ use Rattle.book_service.specs.declared.event.Event.TheVariants.{Do, Ask}
 use Rattle.book_commands.specs.declared.reply.Reply.{Reply}
 use Rattle.book_service.specs.Promise.{Always, RunsAppend}
 use Rattle.book_service.specs.Runs.{SystemState, Step, TraceStep, Run, end_of}
-use Rattle.book_service.proofs.RunLemmas.{Leads, EventLeads, leads_on, leads_nowhere, leads_nowhere_by, performs_leads}
+use Rattle.book_service.proofs.RunLemmas.{Leads, EventLeads, leads_nowhere_by, performs_leads}
 
 -- ---- list indices
 

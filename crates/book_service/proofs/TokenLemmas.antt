@@ -26,6 +26,7 @@ use Rattle.book_service.specs.declared.event.Event.TheVariants.{Do, Ask}
 use Rattle.book_commands.specs.declared.reply.Reply.{Reply}
 use Rattle.book_commands.specs.declared.reply.Reply.TheVariants as reply
 use Rattle.book_service.specs.DeviceReplies.{HandlesReply}
+use Rattle.book_service.specs.Faults.{IsFault}
 use Rattle.book_service.specs.Commands.{Outcome, outcome_with, DeliversOutcome, PerformsCommand}
 use Rattle.book_service.specs.Promise.{RequestsPageAfter, AtSomeStep, ForgetsAbove, TokensExpire}
 use Rattle.book_service.specs.Runs.{SystemState, Step, TraceStep, Run, end_of}
@@ -75,9 +76,32 @@ said_refusal command (Err other) refusal old new p =
     (λ yes. let same : reply.Refused refusal ≡ reply.Refused other = yes.0 in let found_history : other ≡ refusal = cc in ap (λ t. Err t) found_history)
     (λ fault. absurd (let no : reply.Refused refusal ≡ reply.Fault fault.0 = fault.1 in cc)) p
 
+said_refused : (command : Command) (refusal : Refusal) (r : Reply) (old new : BookHistories) → Said command (Err refusal) r old new → (r ≡ reply.Refused refusal) ⊎ IsFault r
+said_refused command refusal r old new p = ⊎_elim (λ yes. inl yes.0) (λ fault. inr (subst IsFault (sym fault.1) tt)) p
+
 said_nothing : (command : Command) (outcome : Result SyncPage Refusal) (r : Reply) (old new : BookHistories) → Said command outcome r old new → new ≡ old
 said_nothing command (Ok received) r old new p = ⊎_elim (λ yes. yes.1) (λ fault. fault.2) p
 said_nothing command (Err refusal) r old new p = ⊎_elim (λ yes. yes.1) (λ fault. fault.2) p
+
+-- the reply to a device whose report is refused is this refusal, or a fault
+handled_refusal : (r : Reply) (refusal : Refusal) (old new : DeviceState) → HandlesReply r (Err refusal) old new → (r ≡ reply.Refused refusal) ⊎ IsFault r
+handled_refusal (reply.Page page) refusal old new a = absurd (let no : ◌≡◌ {A = Result SyncPage Refusal} (Err refusal) (Ok page) = a.0 in cc)
+handled_refusal (reply.Refused other) refusal old new a =
+    let same : ◌≡◌ {A = Result SyncPage Refusal} (Err refusal) (Err other) = a.0 in
+    let is : other ≡ refusal = cc in
+    inl (ap (λ (t : Refusal). reply.Refused t) is)
+handled_refusal (reply.Fault fault) refusal old new a = inr tt
+handled_refusal (reply.Created id) refusal old new a = absurd a
+handled_refusal (reply.Books lines) refusal old new a = absurd a
+handled_refusal (reply.Card uid version card) refusal old new a = absurd a
+handled_refusal (reply.Put answer) refusal old new a = absurd a
+handled_refusal (reply.Gone number) refusal old new a = absurd a
+handled_refusal (reply.Moved numbers) refusal old new a = absurd a
+handled_refusal (reply.Imported tally) refusal old new a = absurd a
+handled_refusal (reply.Forgot dropped horizon) refusal old new a = absurd a
+handled_refusal (reply.Tally tally) refusal old new a = absurd a
+handled_refusal (reply.Csv text) refusal old new a = absurd a
+handled_refusal (reply.People expansion) refusal old new a = absurd a
 
 module _ (law : TokenTextsAreUnique) (now next : SystemState) where
   abbrev Says : List ℕ → List ℕ → Option ℕ → Reply → BookHistories → Outcome → Type 0
@@ -149,6 +173,33 @@ module _ (law : TokenTextsAreUnique) (now next : SystemState) where
   returned_refusal (Do (TallyOf book)) r name token refusal s asks found_history = absurd asks
   returned_refusal (Do (Export book form)) r name token refusal s asks found_history = absurd asks
   returned_refusal (Do (People book uid)) r name token refusal s asks found_history = absurd asks
+
+  -- a request whose report is refused whatever its limit is gets this refusal, or a fault
+  pub refused_reply : (event : Event) (r : Reply) (name : List ℕ) (token : Option Token) (refusal : Refusal) → Step now event r next → RequestsPageAfter now event name token
+      → ((limit : Option ℕ) → report_at now name token limit ≡ Err refusal) → (r ≡ reply.Refused refusal) ⊎ IsFault r
+  refused_reply (Do (Report book text limit)) r name token refusal s asks refuses =
+      let is : report_at now book token limit ≡ Err refusal = ap (λ (n : List ℕ). report_at now n token limit) asks.0 ∙ refuses limit in
+      said_refused (Report book text limit) refusal r now.model.books s.0
+      (subst (λ (o : Result SyncPage Refusal). Said (Report book text limit) o r now.model.books s.0) is (said_of book text limit r s.0 token s.1 asks.1))
+  refused_reply (Ask i limit) r name token refusal s asks refuses =
+      let same : s.old ≡ asks.0 = same_Some s.old asks.0 (sym s.found ∙ asks.1) in
+      let is : report_at now s.old.book s.old.token limit ≡ Err refusal =
+      ap (λ (d : DeviceState). report_at now d.book d.token limit) same
+      ∙ ap (λ (n : List ℕ). report_at now n asks.0.token limit) asks.2
+      ∙ ap (λ (t : Option Token). report_at now name t limit) asks.3
+      ∙ refuses limit in
+      handled_refusal r refusal s.old s.new (subst (λ (o : Result SyncPage Refusal). HandlesReply r o s.old s.new) is s.answers)
+  refused_reply (Do (CreateBook book)) r name token refusal s asks refuses = absurd asks
+  refused_reply (Do ListBooks) r name token refusal s asks refuses = absurd asks
+  refused_reply (Do (Get book uid)) r name token refusal s asks refuses = absurd asks
+  refused_reply (Do (Put book uid expect text)) r name token refusal s asks refuses = absurd asks
+  refused_reply (Do (Remove book uid expect)) r name token refusal s asks refuses = absurd asks
+  refused_reply (Do (MoveCard book uid to expect)) r name token refusal s asks refuses = absurd asks
+  refused_reply (Do (Import book key body)) r name token refusal s asks refuses = absurd asks
+  refused_reply (Do (Forget book upto)) r name token refusal s asks refuses = absurd asks
+  refused_reply (Do (TallyOf book)) r name token refusal s asks refuses = absurd asks
+  refused_reply (Do (Export book form)) r name token refusal s asks refuses = absurd asks
+  refused_reply (Do (People book uid)) r name token refusal s asks refuses = absurd asks
 
   pub asking_keeps : (event : Event) (r : Reply) (name : List ℕ) (token : Option Token) → Step now event r next → RequestsPageAfter now event name token → next.model.books ≡ now.model.books
   asking_keeps (Do (Report book text limit)) r name token s asks =

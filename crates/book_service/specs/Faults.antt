@@ -35,6 +35,11 @@ abbrev pub IfFaultReply : Reply → (FaultKind → Type 0) → Type 0
 IfFaultReply (reply.Fault fault) may = may fault
 IfFaultReply r may = Unit {0}
 
+-- the reply is a fault
+abbrev pub IsFault : Reply → Type 0
+IsFault (reply.Fault fault) = Unit {0}
+IsFault r = ⊥
+
 -- every reply that is a fault is one that its event may have
 abbrev pub AllowedFaults : (FaultKind → Type 0) → List Event → List Reply → Type 0
 AllowedFaults may events replies =

@@ -8,6 +8,8 @@ pub mod Runs
 pub mod PageCounts
 pub mod Promise
 pub mod Lives
+pub mod Crashes
+pub mod Restores
 pub mod Mirrors
 pub mod PageTokenLaws
 pub mod internal

@@ -12,8 +12,8 @@ use Rattle.book_service.specs.Runs.{SystemState, TraceStep, AtEachStep, Run, end
 -- ---- lives
 
 -- One run of the server: the steps that it answered, and the commands that its end interrupted, by
--- a crash or a failure of the disk. There is none of these if it ended between two calls or in a
--- call that only reads, one if it ended in a call that changes books, and more in a resync.
+-- a crash or a failure of the disk. There is one of these if it ended in a call that changes books,
+-- else none.
 pub record ServerRun : Type 0 where
   pub answered : List TraceStep
   pub interrupted : List Command

@@ -8,9 +8,11 @@ ghost use Rattle.book_model.specs.CallOutcomes.{IfFault};
 ghost use Rattle.book_commands.specs.declared.command.Command.{Command as TheCommand};
 ghost use Rattle.book_commands.specs.declared.reply.Reply.{Reply as TheReply};
 ghost use Rattle.book_service.specs.Faults.{IfFaultReply, CommandFault};
-ghost use Rattle.book_service.specs.internal.RowSteps.{CommandOnStore, IsFirstDenial};
+ghost use Rattle.book_service.specs.internal.RowSteps.{CommandLeaves, CommandOnStore};
+ghost use Rattle.book_service.specs.internal.RowSteps.{IsFirstDenial};
 ghost use Rattle.book_service.specs.Replies.{denied_reply, reply_to};
 ghost use Rattle.sync_core.specs.StoreModels.{KeepsBooks, KeepsTerms};
+ghost use Rattle.sync_core.specs.StoreCrashes.{LeavesNoMore};
 
 use crate::importing::import_body;
 use crate::texts::{parse_card, parse_token};
@@ -63,6 +65,7 @@ pub(crate) fn perform_call<S: BookStore>(
     ensures no_fault { IfOk result (λ r. IfFaultReply r (λ fault. ⊥)) }
     ensures step { CommandOnStore S.model store.old command.now
         (reply_to (λ r. r) result) store.new }
+    ensures crash { CommandLeaves S.model store.old store.new result command.now }
 {
     // A law, no code.
     calls_follow_histories();
@@ -148,6 +151,8 @@ fn put<S: BookStore>(
     ensures step { CommandOnStore S.model store.old
         (TheCommand.Put book.now uid.now expect text.now)
         (reply_to TheReply.Put result) store.new }
+    ensures crash { CommandLeaves S.model store.old store.new result
+        (TheCommand.Put book.now uid.now expect text.now) }
 {
     calls_follow_histories();
     match parse_card(alloc, uid.as_str(), text.as_slice()) {
@@ -167,6 +172,7 @@ fn report<S: BookStore>(
     ensures fault { IfFault result S.model.may_fault }
     ensures step { CommandOnStore S.model store.old (TheCommand.Report book.now token.now limit)
         (reply_to TheReply.Page result) store.new }
+    ensures crash { LeavesNoMore S.model store.old store.new result }
 {
     calls_follow_histories();
     match parse_token(token.as_str()) {
@@ -182,6 +188,7 @@ fn first_denial<S: BookStore>(store: &mut S, book: &str, error: Denied) -> Denie
     ensures fault { (result ≡ error) ⊎ IfFault {A = Unit {0}} (Err result) S.model.may_fault }
     ensures denies { S.model.premise store.new →
         IsFirstDenial (S.model.books store.old) book.now error (denied_reply result) }
+    ensures crash { LeavesNoMore S.model {A = Unit {0}} store.old store.new (Err result) }
 {
     match store.book(book) {
         Ok(_) => error,

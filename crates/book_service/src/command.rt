@@ -1,5 +1,6 @@
 //! Performing one command on a store.
 ghost use Rattle.book_service.specs.declared.event.Event.TheVariants.{Do};
+ghost use Rattle.book_service.specs.Crashes.{LeavesCommand};
 ghost use Rattle.book_service.specs.Faults.{IfFaultReply, CommandFault};
 ghost use Rattle.book_service.specs.Replies.{UnchangedIfReadOnly};
 ghost use Rattle.book_service.specs.Runs.{FromEachState, StepsTo};
@@ -41,6 +42,10 @@ pub fn perform<S: BookStore>(alloc: Global, store: &mut S, command: &Command) ->
     // that matches its rows now.
     ensures step { FromEachState S.model store.old store.new (λ now.
         StepsTo now (Do command.now) result (S.model.books store.new) now.devices) }
+
+    // A crash leaves what it could leave before, or the rows after the whole command. Once the
+    // premise fails, each reply is a fault.
+    ensures crash { LeavesCommand S.model store.old store.new command.now result }
 {
     match perform_call(alloc, store, command) {
         Ok(reply) => reply,

@@ -2,6 +2,7 @@
 ghost use Rattle.std.specs.Prelude.{◌≡◌};
 ghost use Rattle.book_commands.specs.declared.reply.Reply.{Reply};
 ghost use Rattle.book_model.specs.CallOutcomes.{IfFault};
+ghost use Rattle.book_service.specs.Crashes.{LeavesAsk};
 ghost use Rattle.book_service.specs.Faults.{IsOutOfMemoryOr};
 ghost use Rattle.book_service.specs.DeviceReplies.{HandlesReply, device_after_refusal};
 ghost use Rattle.book_service.specs.Replies.{reply_to};
@@ -33,6 +34,8 @@ pub(crate) fn next_page<S: BookStore>(
     ensures handled { FromEachState S.model store.old store.new (λ now.
         HandlesReply (reply_to Reply.Page result)
         (report_at now device.old.book device.old.token limit) device.old device.new) }
+    ensures crash { LeavesAsk S.model store.old store.new (reply_to Reply.Page result)
+        device.old device.new }
 {
     // A law, no code: the store's page is the report of its histories.
     reports_refine_histories();

@@ -1,5 +1,6 @@
 //! Runs of events: commands, and devices that request pages between them.
 ghost use Rattle.std.specs.Prelude.{◌≡◌, ◌↔◌, length, All, IfOk, IsTrue, OnErr};
+ghost use Rattle.book_service.specs.Crashes.{LeavesEvent, LeavesRun};
 ghost use Rattle.book_service.specs.Faults.{AllowedFaults, IfFaultReply, EventFault};
 ghost use Rattle.book_service.specs.PageCounts.{HasFewTruncatedPages};
 ghost use Rattle.book_service.specs.Runs.{NamesDeviceBelow, FromEachState, StepsTo};
@@ -55,6 +56,8 @@ fn do_event<S: BookStore>(
     ensures step { FromEachState S.model store.old store.new (λ now.
         now.devices ≡ devices.old.items →
         StepsTo now event.now result (S.model.books store.new) devices.new.items) }
+    ensures crash { LeavesEvent S.model store.old store.new event.now result
+        devices.old.items devices.new.items }
 {
     match event {
         Event::Do(command) => perform(alloc, store, command),
@@ -80,6 +83,10 @@ pub fn drive<S: BookStore>(
     requires { All (NamesDeviceBelow (length devices.old.items)) events.now }
     ensures premise { S.model.premise store.new → S.model.premise store.old }
     ensures limits { S.model.limits store.new ≡ S.model.limits store.old }
+    ensures count { length devices.new.items ≡ length devices.old.items }
+
+    // One reply to each event.
+    ensures one_each { IfOk result (λ replies. length replies.items ≡ length events.now) }
 
     // A fault is one that the store may return, or out of memory while a text is read or copied or
     // a page applied.
@@ -91,6 +98,11 @@ pub fn drive<S: BookStore>(
     ensures runs { IfOk result (λ replies. FromEachState S.model store.old store.new (λ now.
         now.devices ≡ devices.old.items →
         RanTo now events.now replies.items (S.model.books store.new) devices.new.items)) }
+
+    // After a crash the rows are those after the events that were answered, or after one more
+    // command. From there on each reply is a fault, and no device changed.
+    ensures crash { IfOk result (λ replies. LeavesRun S.model store.old store.new events.now
+        replies.items devices.old.items devices.new.items) }
 
     // The number of truncated pages that a device receives is bounded.
     ensures truncated { IfOk result (λ replies. FromEachState S.model store.old store.new (λ now.

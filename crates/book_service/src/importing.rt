@@ -5,7 +5,7 @@ ghost use Rattle.book_model.specs.CallOutcomes.{IfFault};
 ghost use Rattle.book_commands.specs.declared.command.Command.{Command as TheCommand};
 ghost use Rattle.book_commands.specs.declared.reply.Reply.{Reply as TheReply};
 ghost use Rattle.book_service.specs.Faults.{CommandFault};
-ghost use Rattle.book_service.specs.internal.RowSteps.{CommandOnStore};
+ghost use Rattle.book_service.specs.internal.RowSteps.{CommandLeaves, CommandOnStore};
 ghost use Rattle.book_service.specs.Replies.{reply_to};
 ghost use Rattle.book_service.specs.internal.TextParsers.{DeniesBody};
 ghost use Rattle.sync_core.specs.StoreModels.{KeepsTerms};
@@ -49,6 +49,8 @@ pub(crate) fn import_body<S: BookStore>(
         (CommandFault S.model.may_fault (TheCommand.Import book.now key.now body.now)) }
     ensures step { CommandOnStore S.model store.old (TheCommand.Import book.now key.now body.now)
         (reply_to TheReply.Imported result) store.new }
+    ensures crash { CommandLeaves S.model store.old store.new result
+        (TheCommand.Import book.now key.now body.now) }
 {
     // Laws, no code.
     import_refines_histories();

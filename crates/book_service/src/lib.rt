@@ -12,6 +12,8 @@ pub mod lives;
 mod mirrored;
 mod page_tokens;
 mod reply;
+mod restarts;
+pub mod restores;
 mod texts;
 mod whole_books;
 
@@ -20,3 +22,4 @@ pub use command::perform;
 pub use event::{Event, drive};
 pub use mirrored::{Mirrored, mirror};
 pub use page_tokens::page_tokens_have_texts;
+pub use restarts::{Restarts, live};

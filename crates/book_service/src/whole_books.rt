@@ -8,6 +8,7 @@ ghost use Rattle.book_service.specs.internal.RowSteps.{CommandOnStore};
 ghost use Rattle.book_service.specs.Replies.{reply_to};
 ghost use Rattle.book_service.specs.WholeBooks.{lines_by_uid};
 ghost use Rattle.sync_core.specs.StoreModels.{KeepsTerms};
+ghost use Rattle.sync_core.specs.StoreCrashes.{LeavesNoMore};
 
 use base_types::value_at;
 use book_laws::refinement::cards_refine_histories;
@@ -60,6 +61,7 @@ pub(crate) fn export<S: BookStore>(
         (CommandFault S.model.may_fault (TheCommand.Export book.now form)) }
     ensures step { CommandOnStore S.model store.old (TheCommand.Export book.now form)
         (reply_to TheReply.Csv result) store.new }
+    ensures crash { LeavesNoMore S.model store.old store.new result }
 {
     // A law, no code.
     cards_refine_histories();
@@ -83,6 +85,7 @@ pub(crate) fn people<S: BookStore>(
         (CommandFault S.model.may_fault (TheCommand.People book.now uid.now)) }
     ensures step { CommandOnStore S.model store.old (TheCommand.People book.now uid.now)
         (reply_to TheReply.People result) store.new }
+    ensures crash { LeavesNoMore S.model store.old store.new result }
 {
     // A law, no code.
     cards_refine_histories();

@@ -14,6 +14,7 @@ use Rattle.book_commands.specs.declared.command.Command.{Command}
 use Rattle.book_commands.specs.declared.reply.Reply.{Reply}
 use Rattle.book_commands.specs.declared.reply.Reply.TheVariants as reply
 use Rattle.sync_core.specs.StoreModels.{StoreModel}
+use Rattle.sync_core.specs.StoreCrashes.{LeavesOr}
 use Rattle.book_service.specs.Commands.{PerformsCommand}
 use Rattle.book_service.specs.Replies.{UnchangedIfReadOnly, denied_reply}
 
@@ -32,6 +33,17 @@ pub record CommandOnRows (limits : Bounds) (old : Books) (command : Command) (r 
   -- if the rows are those of a store history, the command is performed on that history
   pub performed : (model : StoreHistory) → model.limits ≡ limits → AreHistoriesOf old model.books →
       IsPerformed model command r new
+
+-- these are the rows after the whole command, with some reply
+abbrev pub IsAfterCommand : Bounds → Books → Command → Books → Type 0
+IsAfterCommand limits old command books = (r : Reply) × CommandOnRows limits old command r books
+
+-- What a crash leaves after a call for a command: what it could leave before, or the rows after the
+-- whole command.
+abbrev pub CommandLeaves : {S A : Type 0} → StoreModel S → S → S → Result A Denied → Command
+    → Type 0
+CommandLeaves model old new returned command = LeavesOr model old new returned (λ books.
+    model.premise old × IsAfterCommand (model.limits old) (model.books old) command books)
 
 -- if the premise holds, this is the effect of a command on the rows of the store
 abbrev pub CommandOnStore : {S : Type 0} → StoreModel S → S → Command → Reply → S → Type 0

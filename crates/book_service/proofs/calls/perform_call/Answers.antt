@@ -3,12 +3,19 @@
 -- histories, for an error and for an answer. `subst` puts the command's fields in place of the
 -- borrowed texts, `done` and `denied` the command of the match arm in place of the argument. Where
 -- a function of this crate has the clause `step` itself, as `put`, at most its answer is needed.
-use Rattle.std.proofs.Common.{◌≡◌, ℕ, List, Result, Ok, Err, sym, ap, ◌∙◌, subst}
+use Rattle.std.proofs.Common.{◌≡◌, ℕ, List, Result, Ok, Err, Vec, Global, sym, ap, ◌∙◌, subst}
 use Rattle.std.proofs.lemmas.Result.{err_from_is_err_and}
+use Rattle.card_core.specs.declared.expansion.Expansion.{Expansion}
+use Rattle.book_model.specs.declared.answers.BookLine.{BookLine}
+use Rattle.book_model.specs.declared.answers.ImportTally.{ImportTally}
+use Rattle.book_model.specs.declared.answers.Moved.{Moved}
+use Rattle.book_model.specs.declared.answers.PutAnswer.{PutAnswer}
 use Rattle.book_model.specs.declared.answers.Stored.{Stored}
+use Rattle.book_model.specs.declared.answers.Tally.{Tally}
 use Rattle.book_model.specs.declared.denied.Denied.{Denied}
 use Rattle.book_model.specs.declared.denied.Denied.TheVariants.{Fault}
 use Rattle.book_model.specs.declared.denied.Fault.TheVariants.{Memory}
+use Rattle.book_model.specs.declared.page.Page.{Page}
 use Rattle.book_model.specs.Bounds.{Bounds, IsInRange}
 use Rattle.book_model.specs.Books.{Books}
 use Rattle.book_model.specs.Creating.{create_step}
@@ -24,6 +31,7 @@ use Rattle.book_commands.specs.declared.reply.Reply.TheVariants as reply
 use Rattle.book_service.specs.internal.RowSteps.{CommandOnRows}
 use Rattle.book_service.specs.Replies.{denied_reply, reply_to}
 use Rattle.book_service.proofs.CallLemmas.{creates, removes, moves, forgets, gets, gets_not, tallies, lists, lists_not}
+use Rattle.book_service.proofs.CrashLemmas.{create_leaves, denial_answers, forget_leaves, move_leaves, passes_on, read_leaves, remove_leaves}
 use Rattle.book_service.proofs.PerformLemmas.{read_keeps}
 use Rattle.book_service.proofs.calls.perform_call.Goals as goal
 
@@ -227,3 +235,140 @@ returns-in_ok-expansion-in-People-clause-step g c = λ premise.
     let new = g.S.BookStore.model.books c.people.new.store in
     done limits old new c.args.command.now (People c.in-People.book c.in-People.uid) (reply.People c.in_ok-expansion-in-People.expansion) c.in-People.is
     (c.in_ok-expansion-in-People.ensures.step premise)
+
+pub returns-in_err-id-in-CreateBook-clause-crash : goal.returns-in_err-id-in-CreateBook-clause-crash
+returns-in_err-id-in-CreateBook-clause-crash g c =
+    let p = err_from_is_err_and c.from_residual.result c.from_residual.ensures.1 in
+    let answers = denial_answers ℕ c.from_residual.result c.in_err-id-in-CreateBook.field-0.0 (g.S.BookStore.model.premise c.create_book.new.self) (p.1 ∙ ap (λ (d : Denied). Err d) p.2) in
+    create_leaves g.S.BookStore.model c.args.store.now c.create_book.new.self c.from_residual.result c.args.command.now c.calls_follow_histories.ensures.creating (subst IsInRange c.create_book.ensures.terms.limits c.create_book.ensures.terms.range)
+    c.in-CreateBook.book c.as_str.result.now (Err c.in_err-id-in-CreateBook.field-0.0) c.in-CreateBook.is c.as_str.ensures answers c.in_err-id-in-CreateBook.ensures.crash
+
+pub returns-in_ok-id-in-CreateBook-clause-crash : goal.returns-in_ok-id-in-CreateBook-clause-crash
+returns-in_ok-id-in-CreateBook-clause-crash g c =
+    create_leaves g.S.BookStore.model c.args.store.now c.create_book.new.self (Ok (reply.Created c.in_ok-id-in-CreateBook.id)) c.args.command.now c.calls_follow_histories.ensures.creating (subst IsInRange c.create_book.ensures.terms.limits c.create_book.ensures.terms.range)
+    c.in-CreateBook.book c.as_str.result.now (Ok c.in_ok-id-in-CreateBook.id) c.in-CreateBook.is c.as_str.ensures (λ holds. holds) c.in_ok-id-in-CreateBook.ensures.crash
+
+pub returns-in_err-number-in-Remove-clause-crash : goal.returns-in_err-number-in-Remove-clause-crash
+returns-in_err-number-in-Remove-clause-crash g c =
+    let p = err_from_is_err_and c.from_residual-in_err-number-in-Remove.result c.from_residual-in_err-number-in-Remove.ensures.1 in
+    let answers = denial_answers ℕ c.from_residual-in_err-number-in-Remove.result c.in_err-number-in-Remove.field-0.0 (g.S.BookStore.model.premise c.remove.new.self) (p.1 ∙ ap (λ (d : Denied). Err d) p.2) in
+    remove_leaves g.S.BookStore.model c.args.store.now c.remove.new.self c.from_residual-in_err-number-in-Remove.result c.args.command.now c.calls_follow_histories.ensures.removing
+    c.in-Remove.book c.in-Remove.uid c.as_str-in-Remove.result.now c.as_str-in-Remove-2.result.now c.in-Remove.expect (Err c.in_err-number-in-Remove.field-0.0) c.in-Remove.is c.as_str-in-Remove.ensures c.as_str-in-Remove-2.ensures answers c.in_err-number-in-Remove.ensures.crash
+
+pub returns-in_ok-number-in-Remove-clause-crash : goal.returns-in_ok-number-in-Remove-clause-crash
+returns-in_ok-number-in-Remove-clause-crash g c =
+    remove_leaves g.S.BookStore.model c.args.store.now c.remove.new.self (Ok (reply.Gone c.in_ok-number-in-Remove.number)) c.args.command.now c.calls_follow_histories.ensures.removing
+    c.in-Remove.book c.in-Remove.uid c.as_str-in-Remove.result.now c.as_str-in-Remove-2.result.now c.in-Remove.expect (Ok c.in_ok-number-in-Remove.number) c.in-Remove.is c.as_str-in-Remove.ensures c.as_str-in-Remove-2.ensures (λ holds. holds) c.in_ok-number-in-Remove.ensures.crash
+
+pub returns-in_err-numbers-in-MoveCard-clause-crash : goal.returns-in_err-numbers-in-MoveCard-clause-crash
+returns-in_err-numbers-in-MoveCard-clause-crash g c =
+    let p = err_from_is_err_and c.from_residual-in_err-numbers-in-MoveCard.result c.from_residual-in_err-numbers-in-MoveCard.ensures.1 in
+    let answers = denial_answers Moved c.from_residual-in_err-numbers-in-MoveCard.result c.in_err-numbers-in-MoveCard.field-0.0 (g.S.BookStore.model.premise c.move_card.new.self) (p.1 ∙ ap (λ (d : Denied). Err d) p.2) in
+    move_leaves g.S.BookStore.model c.args.store.now c.move_card.new.self c.from_residual-in_err-numbers-in-MoveCard.result c.args.command.now c.calls_follow_histories.ensures.moving
+    c.in-MoveCard.book c.in-MoveCard.to c.in-MoveCard.uid c.as_str-in-MoveCard.result.now c.as_str-in-MoveCard-2.result.now c.as_str-in-MoveCard-3.result.now c.in-MoveCard.expect (Err c.in_err-numbers-in-MoveCard.field-0.0)
+    c.in-MoveCard.is c.as_str-in-MoveCard.ensures c.as_str-in-MoveCard-2.ensures c.as_str-in-MoveCard-3.ensures answers c.in_err-numbers-in-MoveCard.ensures.crash
+
+pub returns-in_ok-numbers-in-MoveCard-clause-crash : goal.returns-in_ok-numbers-in-MoveCard-clause-crash
+returns-in_ok-numbers-in-MoveCard-clause-crash g c =
+    move_leaves g.S.BookStore.model c.args.store.now c.move_card.new.self (Ok (reply.Moved c.in_ok-numbers-in-MoveCard.numbers)) c.args.command.now c.calls_follow_histories.ensures.moving
+    c.in-MoveCard.book c.in-MoveCard.to c.in-MoveCard.uid c.as_str-in-MoveCard.result.now c.as_str-in-MoveCard-2.result.now c.as_str-in-MoveCard-3.result.now c.in-MoveCard.expect (Ok c.in_ok-numbers-in-MoveCard.numbers)
+    c.in-MoveCard.is c.as_str-in-MoveCard.ensures c.as_str-in-MoveCard-2.ensures c.as_str-in-MoveCard-3.ensures (λ holds. holds) c.in_ok-numbers-in-MoveCard.ensures.crash
+
+pub returns-in_err-dropped-in-Forget-clause-crash : goal.returns-in_err-dropped-in-Forget-clause-crash
+returns-in_err-dropped-in-Forget-clause-crash g c =
+    let p = err_from_is_err_and c.from_residual-in_err-dropped-in-Forget.result c.from_residual-in_err-dropped-in-Forget.ensures.1 in
+    let answers = denial_answers ℕ c.from_residual-in_err-dropped-in-Forget.result c.in_err-dropped-in-Forget.field-0.0 (g.S.BookStore.model.premise c.forget.new.self) (p.1 ∙ ap (λ (d : Denied). Err d) p.2) in
+    forget_leaves g.S.BookStore.model c.args.store.now c.forget.new.self c.from_residual-in_err-dropped-in-Forget.result c.args.command.now c.calls_follow_histories.ensures.forgetting
+    c.in-Forget.book c.as_str-in-Forget.result.now c.in-Forget.upto (Err c.in_err-dropped-in-Forget.field-0.0) c.in-Forget.is c.as_str-in-Forget.ensures answers c.in_err-dropped-in-Forget.ensures.crash
+
+pub returns-in_ok-dropped-in-Forget-clause-crash : goal.returns-in_ok-dropped-in-Forget-clause-crash
+returns-in_ok-dropped-in-Forget-clause-crash g c =
+    forget_leaves g.S.BookStore.model c.args.store.now c.forget.new.self (Ok (reply.Forgot c.in_ok-dropped-in-Forget.dropped c.in-Forget.upto)) c.args.command.now c.calls_follow_histories.ensures.forgetting
+    c.in-Forget.book c.as_str-in-Forget.result.now c.in-Forget.upto (Ok c.in_ok-dropped-in-Forget.dropped) c.in-Forget.is c.as_str-in-Forget.ensures (λ holds. holds) c.in_ok-dropped-in-Forget.ensures.crash
+
+pub returns-in_err-lines-in-Books-clause-crash : goal.returns-in_err-lines-in-Books-clause-crash
+returns-in_err-lines-in-Books-clause-crash g c =
+    let p = err_from_is_err_and c.from_residual-in_err-lines-in-Books.result c.from_residual-in_err-lines-in-Books.ensures.1 in
+    let answers = denial_answers (Vec BookLine Global) c.from_residual-in_err-lines-in-Books.result c.in_err-lines-in-Books.field-0.0 (g.S.BookStore.model.premise c.books.new.self) (p.1 ∙ ap (λ (d : Denied). Err d) p.2) in
+    read_leaves g.S.BookStore.model c.args.store.now c.books.new.self (Err c.in_err-lines-in-Books.field-0.0) c.from_residual-in_err-lines-in-Books.result c.args.command.now answers c.in_err-lines-in-Books.ensures.crash
+
+pub returns-in_ok-lines-in-Books-clause-crash : goal.returns-in_ok-lines-in-Books-clause-crash
+returns-in_ok-lines-in-Books-clause-crash g c =
+    read_leaves g.S.BookStore.model c.args.store.now c.books.new.self (Ok c.in_ok-lines-in-Books.lines) (Ok (reply.Books c.from_vec.result)) c.args.command.now (λ holds. holds) c.in_ok-lines-in-Books.ensures.crash
+
+pub returns-in_err-version-in-Get-clause-crash : goal.returns-in_err-version-in-Get-clause-crash
+returns-in_err-version-in-Get-clause-crash g c =
+    let p = err_from_is_err_and c.from_residual-in_err-version-in-Get.result c.from_residual-in_err-version-in-Get.ensures.1 in
+    let answers = denial_answers Stored c.from_residual-in_err-version-in-Get.result c.in_err-version-in-Get.field-0.0 (g.S.BookStore.model.premise c.get.new.self) (p.1 ∙ ap (λ (d : Denied). Err d) p.2) in
+    read_leaves g.S.BookStore.model c.args.store.now c.get.new.self (Err c.in_err-version-in-Get.field-0.0) c.from_residual-in_err-version-in-Get.result c.args.command.now answers c.in_err-version-in-Get.ensures.crash
+
+pub returns-in_err-uid-in-Get-clause-crash : goal.returns-in_err-uid-in-Get-clause-crash
+returns-in_err-uid-in-Get-clause-crash g c =
+    let p = err_from_is_err_and c.from_residual-in_err-uid-in-Get.result c.from_residual-in_err-uid-in-Get.ensures.1 in
+    read_leaves g.S.BookStore.model c.args.store.now c.get.new.self (Ok c.in_ok-version-in-Get.field-0) c.from_residual-in_err-uid-in-Get.result c.args.command.now
+    (λ holds. denial_answers Stored c.from_residual-in_err-uid-in-Get.result (Fault Memory) (g.S.BookStore.model.premise c.get.new.self) (p.1 ∙ ap (λ (d : Denied). Err d) p.2) tt) c.in_ok-version-in-Get.ensures.crash
+
+pub returns-in_ok-uid-in-Get-clause-crash : goal.returns-in_ok-uid-in-Get-clause-crash
+returns-in_ok-uid-in-Get-clause-crash g c =
+    let stored : Stored = c.in_ok-version-in-Get.field-0 in
+    read_leaves g.S.BookStore.model c.args.store.now c.get.new.self (Ok stored) (Ok (reply.Card c.in_ok-uid-in-Get.uid stored.version stored.card)) c.args.command.now (λ holds. holds) c.in_ok-version-in-Get.ensures.crash
+
+pub returns-in_err-tally-in-TallyOf-clause-crash : goal.returns-in_err-tally-in-TallyOf-clause-crash
+returns-in_err-tally-in-TallyOf-clause-crash g c =
+    let p = err_from_is_err_and c.from_residual-in_err-tally-in-TallyOf.result c.from_residual-in_err-tally-in-TallyOf.ensures.1 in
+    let answers = denial_answers Tally c.from_residual-in_err-tally-in-TallyOf.result c.in_err-tally-in-TallyOf.field-0.0 (g.S.BookStore.model.premise c.tally.new.self) (p.1 ∙ ap (λ (d : Denied). Err d) p.2) in
+    read_leaves g.S.BookStore.model c.args.store.now c.tally.new.self (Err c.in_err-tally-in-TallyOf.field-0.0) c.from_residual-in_err-tally-in-TallyOf.result c.args.command.now answers c.in_err-tally-in-TallyOf.ensures.crash
+
+pub returns-in_ok-tally-in-TallyOf-clause-crash : goal.returns-in_ok-tally-in-TallyOf-clause-crash
+returns-in_ok-tally-in-TallyOf-clause-crash g c =
+    read_leaves g.S.BookStore.model c.args.store.now c.tally.new.self (Ok c.in_ok-tally-in-TallyOf.tally) (Ok (reply.Tally c.in_ok-tally-in-TallyOf.tally)) c.args.command.now (λ holds. holds) c.in_ok-tally-in-TallyOf.ensures.crash
+
+pub returns-in_ok-text-in-Export-clause-crash : goal.returns-in_ok-text-in-Export-clause-crash
+returns-in_ok-text-in-Export-clause-crash g c =
+    read_leaves g.S.BookStore.model c.args.store.now c.export.new.store (Ok c.in_ok-text-in-Export.text) (Ok (reply.Csv c.in_ok-text-in-Export.text)) c.args.command.now (λ holds. holds) c.in_ok-text-in-Export.ensures.crash
+
+pub returns-in_ok-expansion-in-People-clause-crash : goal.returns-in_ok-expansion-in-People-clause-crash
+returns-in_ok-expansion-in-People-clause-crash g c =
+    read_leaves g.S.BookStore.model c.args.store.now c.people.new.store (Ok c.in_ok-expansion-in-People.expansion) (Ok (reply.People c.in_ok-expansion-in-People.expansion)) c.args.command.now (λ holds. holds) c.in_ok-expansion-in-People.ensures.crash
+
+pub returns-in_ok-answer-in-Put-clause-crash : goal.returns-in_ok-answer-in-Put-clause-crash
+returns-in_ok-answer-in-Put-clause-crash g c =
+    passes_on g.S.BookStore.model c.args.store.now c.put.new.store (Ok c.in_ok-answer-in-Put.answer) (Ok (reply.Put c.in_ok-answer-in-Put.answer)) c.args.command.now (Put c.in-Put.book c.in-Put.uid c.in-Put.expect c.in-Put.text) c.in-Put.is (λ holds. holds) c.in_ok-answer-in-Put.ensures.crash
+
+pub returns-in_ok-tally-in-Import-clause-crash : goal.returns-in_ok-tally-in-Import-clause-crash
+returns-in_ok-tally-in-Import-clause-crash g c =
+    passes_on g.S.BookStore.model c.args.store.now c.import_body.new.store (Ok c.in_ok-tally-in-Import.tally) (Ok (reply.Imported c.in_ok-tally-in-Import.tally)) c.args.command.now (Import c.in-Import.book c.in-Import.key c.in-Import.body) c.in-Import.is (λ holds. holds) c.in_ok-tally-in-Import.ensures.crash
+
+pub returns-in_err-answer-in-Put-clause-crash : goal.returns-in_err-answer-in-Put-clause-crash
+returns-in_err-answer-in-Put-clause-crash g c =
+    let p = err_from_is_err_and c.from_residual-in_err-answer-in-Put.result c.from_residual-in_err-answer-in-Put.ensures.1 in
+    let answers = denial_answers PutAnswer c.from_residual-in_err-answer-in-Put.result c.in_err-answer-in-Put.field-0.0 (g.S.BookStore.model.premise c.put.new.store) (p.1 ∙ ap (λ (d : Denied). Err d) p.2) in
+    passes_on g.S.BookStore.model c.args.store.now c.put.new.store (Err c.in_err-answer-in-Put.field-0.0) c.from_residual-in_err-answer-in-Put.result c.args.command.now (Put c.in-Put.book c.in-Put.uid c.in-Put.expect c.in-Put.text) c.in-Put.is answers c.in_err-answer-in-Put.ensures.crash
+
+pub returns-in_err-tally-in-Import-clause-crash : goal.returns-in_err-tally-in-Import-clause-crash
+returns-in_err-tally-in-Import-clause-crash g c =
+    let p = err_from_is_err_and c.from_residual-in_err-tally-in-Import.result c.from_residual-in_err-tally-in-Import.ensures.1 in
+    let answers = denial_answers ImportTally c.from_residual-in_err-tally-in-Import.result c.in_err-tally-in-Import.field-0.0 (g.S.BookStore.model.premise c.import_body.new.store) (p.1 ∙ ap (λ (d : Denied). Err d) p.2) in
+    passes_on g.S.BookStore.model c.args.store.now c.import_body.new.store (Err c.in_err-tally-in-Import.field-0.0) c.from_residual-in_err-tally-in-Import.result c.args.command.now (Import c.in-Import.book c.in-Import.key c.in-Import.body) c.in-Import.is answers c.in_err-tally-in-Import.ensures.crash
+
+pub returns-in_ok-page-in-Report-clause-crash : goal.returns-in_ok-page-in-Report-clause-crash
+returns-in_ok-page-in-Report-clause-crash g c =
+    read_leaves g.S.BookStore.model c.args.store.now c.report.new.store (Ok c.in_ok-page-in-Report.page) (Ok (reply.Page c.in_ok-page-in-Report.page)) c.args.command.now (λ holds. holds) c.in_ok-page-in-Report.ensures.crash
+
+pub returns-in_err-page-in-Report-clause-crash : goal.returns-in_err-page-in-Report-clause-crash
+returns-in_err-page-in-Report-clause-crash g c =
+    let p = err_from_is_err_and c.from_residual-in_err-page-in-Report.result c.from_residual-in_err-page-in-Report.ensures.1 in
+    let answers = denial_answers Page c.from_residual-in_err-page-in-Report.result c.in_err-page-in-Report.field-0.0 (g.S.BookStore.model.premise c.report.new.store) (p.1 ∙ ap (λ (d : Denied). Err d) p.2) in
+    read_leaves g.S.BookStore.model c.args.store.now c.report.new.store (Err c.in_err-page-in-Report.field-0.0) c.from_residual-in_err-page-in-Report.result c.args.command.now answers c.in_err-page-in-Report.ensures.crash
+
+pub returns-in_err-text-in-Export-clause-crash : goal.returns-in_err-text-in-Export-clause-crash
+returns-in_err-text-in-Export-clause-crash g c =
+    let p = err_from_is_err_and c.from_residual-in_err-text-in-Export.result c.from_residual-in_err-text-in-Export.ensures.1 in
+    let answers = denial_answers (List ℕ) c.from_residual-in_err-text-in-Export.result c.in_err-text-in-Export.field-0.0 (g.S.BookStore.model.premise c.export.new.store) (p.1 ∙ ap (λ (d : Denied). Err d) p.2) in
+    read_leaves g.S.BookStore.model c.args.store.now c.export.new.store (Err c.in_err-text-in-Export.field-0.0) c.from_residual-in_err-text-in-Export.result c.args.command.now answers c.in_err-text-in-Export.ensures.crash
+
+pub returns-in_err-expansion-in-People-clause-crash : goal.returns-in_err-expansion-in-People-clause-crash
+returns-in_err-expansion-in-People-clause-crash g c =
+    let p = err_from_is_err_and c.from_residual-in_err-expansion-in-People.result c.from_residual-in_err-expansion-in-People.ensures.1 in
+    let answers = denial_answers Expansion c.from_residual-in_err-expansion-in-People.result c.in_err-expansion-in-People.field-0.0 (g.S.BookStore.model.premise c.people.new.store) (p.1 ∙ ap (λ (d : Denied). Err d) p.2) in
+    read_leaves g.S.BookStore.model c.args.store.now c.people.new.store (Err c.in_err-expansion-in-People.field-0.0) c.from_residual-in_err-expansion-in-People.result c.args.command.now answers c.in_err-expansion-in-People.ensures.crash

@@ -1,4 +1,4 @@
-use Rattle.std.proofs.Common.{sym, subst}
+use Rattle.std.proofs.Common.{Ok, Err, refl, sym, subst}
 use Rattle.book_service.specs.declared.event.Event.TheVariants.{Do}
 use Rattle.book_commands.specs.declared.reply.Reply.{Reply}
 use Rattle.book_commands.specs.declared.reply.Reply.TheVariants as reply
@@ -6,6 +6,7 @@ use Rattle.book_service.specs.Faults.{IfFaultReply, CommandFault}
 use Rattle.book_service.specs.Replies.{denied_reply}
 use Rattle.book_service.specs.Runs.{StepsTo}
 use Rattle.book_model.specs.declared.denied.Fault.{Fault as FaultKind}
+use Rattle.book_service.proofs.CrashLemmas.{command_leaves}
 use Rattle.book_service.proofs.EventLemmas.{command_happens}
 use Rattle.book_service.proofs.command.perform.Goals as goal
 
@@ -38,3 +39,9 @@ returns-in-Err-clause-step g c = λ premise now at.
     let new = g.S.BookStore.model.books c.perform_call.new.store in
     subst (λ (r : Reply). StepsTo now (Do c.args.command.now) r new now.devices) (sym c.denied_reply.ensures)
     (command_happens (g.S.BookStore.model.limits c.args.store.now) (g.S.BookStore.model.books c.args.store.now) new (denied_reply c.in-Err.error) now at c.args.command.now (c.in-Err.ensures.step premise))
+
+pub returns-in-Ok-clause-crash : goal.returns-in-Ok-clause-crash
+returns-in-Ok-clause-crash g c = command_leaves g.S.BookStore.model c.args.store.now c.perform_call.new.store c.args.command.now (Ok c.in-Ok.reply) c.in-Ok.reply refl c.in-Ok.ensures.crash
+
+pub returns-in-Err-clause-crash : goal.returns-in-Err-clause-crash
+returns-in-Err-clause-crash g c = command_leaves g.S.BookStore.model c.args.store.now c.perform_call.new.store c.args.command.now (Err c.in-Err.error) c.denied_reply.result c.denied_reply.ensures c.in-Err.ensures.crash

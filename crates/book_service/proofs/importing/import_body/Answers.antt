@@ -19,6 +19,7 @@ use Rattle.book_commands.specs.declared.reply.Reply.TheVariants as reply
 use Rattle.book_service.specs.internal.RowSteps.{CommandOnRows}
 use Rattle.book_service.specs.Replies.{reply_to}
 use Rattle.book_service.specs.internal.TextParsers.{DeniesBody}
+use Rattle.book_service.proofs.CrashLemmas.{denial_answers, holds_anyway, leaves_after_read, matched, read_leaves}
 use Rattle.book_service.proofs.ImportLemmas.{are_distinct, kept_not, returns_stored, body_not, imports_cards}
 use Rattle.book_service.proofs.importing.import_body.Goals as goal
 
@@ -83,3 +84,41 @@ returns-clause-step g c = λ premise.
     (subst (λ (book : List ℕ). MatchesStep c.import.result (import_step (g.S.BookStore.model.limits c.kept_import.new.self) mid book c.args.key.now c.in_ok-cards.cards.items) mid new) c.as_str-3.ensures
     (subst (λ (key : List ℕ). MatchesStep c.import.result (import_step (g.S.BookStore.model.limits c.kept_import.new.self) mid c.as_str-3.result.now key c.in_ok-cards.cards.items) mid new) c.as_str-4.ensures
     (subst (λ (cards : List (List Line)). MatchesStep c.import.result (import_step (g.S.BookStore.model.limits c.kept_import.new.self) mid c.as_str-3.result.now c.as_str-4.result.now cards) mid new) c.as_slice-2.ensures.value (c.import.ensures.step premise)))))
+
+pub returns-in_err-kept-clause-crash : goal.returns-in_err-kept-clause-crash
+returns-in_err-kept-clause-crash g c =
+    let p = err_from_is_err_and c.from_residual.result c.from_residual.ensures.1 in
+    read_leaves g.S.BookStore.model c.args.store.now c.kept_import.new.self (Err c.in_err-kept.field-0.0) c.from_residual.result (Import c.args.book.now c.args.key.now c.args.body.now)
+    (denial_answers (Option ImportTally) c.from_residual.result c.in_err-kept.field-0.0 (g.S.BookStore.model.premise c.kept_import.new.self) (p.1 ∙ ap (λ (d : Denied). Err d) p.2)) c.in_err-kept.ensures.crash
+
+pub returns-in-Some-clause-crash : goal.returns-in-Some-clause-crash
+returns-in-Some-clause-crash g c =
+    read_leaves g.S.BookStore.model c.args.store.now c.kept_import.new.self (Ok c.in_ok-kept.field-0) (Ok c.in-Some.kept) (Import c.args.book.now c.args.key.now c.args.body.now) (λ holds. holds) c.in_ok-kept.ensures.crash
+
+pub returns-in_err-cards-clause-crash : goal.returns-in_err-cards-clause-crash
+returns-in_err-cards-clause-crash g c =
+    read_leaves g.S.BookStore.model c.args.store.now c.kept_import.new.self (Ok c.in_ok-kept.field-0) c.from_residual-in_err-cards.result (Import c.args.book.now c.args.key.now c.args.body.now)
+    (holds_anyway c.from_residual-in_err-cards.result (g.S.BookStore.model.premise c.kept_import.new.self)) c.in_ok-kept.ensures.crash
+
+pub returns-clause-crash : goal.returns-clause-crash
+returns-clause-crash g c =
+    let limits = g.S.BookStore.model.limits c.args.store.now in
+    let old = g.S.BookStore.model.books c.args.store.now in
+    let mid = g.S.BookStore.model.books c.kept_import.new.self in
+    let their = g.S.BookStore.model.limits c.kept_import.new.self in
+    let cards = c.in_ok-cards.cards.items in
+    leaves_after_read g.S.BookStore.model c.args.store.now c.import.new.self c.kept_import.new.self (λ l b. import_step l b c.as_str-3.result.now c.as_str-4.result.now c.as_slice-2.result.now) (Ok c.in_ok-kept.field-0) c.import.result (Import c.args.book.now c.args.key.now c.args.body.now)
+    c.kept_import.ensures.terms.premise
+    (λ premise done e. (
+      reply.Imported done.0,
+      imports_cards limits old mid done.1 c.args.book.now c.args.key.now c.args.body.now c.kept_imports_refine_histories.ensures c.import_refines_histories.ensures cards
+          (subst (λ (body : List ℕ). TextHasCards body cards) c.as_slice.ensures c.in_ok-cards.ensures.cards)
+          (subst (λ (k : Option ImportTally). ReturnsExactly (Ok k) (kept_import_step old c.args.book.now c.args.key.now) old mid) (none_is c.in_ok-kept.field-0 (λ tally is. c.in_default.not-Some tally is))
+          (received_as old mid (Ok c.in_ok-kept.field-0) c.as_str.result.now c.args.book.now c.as_str-2.result.now c.args.key.now c.as_str.ensures c.as_str-2.ensures (c.in_ok-kept.ensures.step premise)))
+          (Ok done.0)
+          (subst (λ (l : Bounds). MatchesStep (Ok done.0) (import_step l mid c.args.book.now c.args.key.now cards) mid done.1) c.kept_import.ensures.terms.limits
+          (subst (λ (book : List ℕ). MatchesStep (Ok done.0) (import_step their mid book c.args.key.now cards) mid done.1) c.as_str-3.ensures
+          (subst (λ (key : List ℕ). MatchesStep (Ok done.0) (import_step their mid c.as_str-3.result.now key cards) mid done.1) c.as_str-4.ensures
+          (subst (λ (cards : List (List Line)). MatchesStep (Ok done.0) (import_step their mid c.as_str-3.result.now c.as_str-4.result.now cards) mid done.1) c.as_slice-2.ensures.value (matched _ mid done e))))),
+    ))
+    c.in_ok-kept.ensures.crash c.import.ensures.crash

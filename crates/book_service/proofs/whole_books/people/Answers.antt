@@ -11,6 +11,7 @@ use Rattle.card_core.specs.declared.fault.GroupFault.{GroupFault}
 use Rattle.card_core.specs.declared.fault.GroupFault.TheVariants as group_fault
 use Rattle.book_model.specs.declared.answers.Stored.{Stored}
 use Rattle.book_model.specs.declared.denied.Denied.{Denied}
+use Rattle.book_model.specs.declared.denied.Denied.TheVariants.{Refused, Fault}
 use Rattle.book_model.specs.declared.denied.Fault.TheVariants.{Memory}
 use Rattle.book_model.specs.declared.refusal.Refusal.TheVariants.{NoSuchCard, NotGroup}
 use Rattle.book_model.specs.Bounds.{Bounds}
@@ -21,6 +22,7 @@ use Rattle.book_commands.specs.declared.reply.Reply.{Reply}
 use Rattle.book_commands.specs.declared.reply.Reply.TheVariants as reply
 use Rattle.book_service.specs.internal.RowSteps.{CommandOnRows}
 use Rattle.book_service.specs.Replies.{denied_reply, reply_to}
+use Rattle.book_service.proofs.CrashLemmas.{denial_answers, no_more}
 use Rattle.book_service.proofs.WholeBookLemmas.{other_answer, fails, cards_keep, people_not, reply_has_no_people, reply_is_not_group, reply_has_people}
 use Rattle.book_service.proofs.whole_books.people.Goals as goal
 
@@ -75,3 +77,23 @@ returns-clause-step g c = λ premise.
     let new = g.S.BookStore.model.books c.cards.new.self in
     fails limits old new (People c.args.book.now c.args.uid.now) Memory
     (cards_keep limits old new (λ received cards. octet_map cards ≡ received) (Ok c.in_ok-stored.stored) c.as_str.result.now (c.in_ok-stored.ensures.step premise))
+
+pub returns-in_err-stored-clause-crash : goal.returns-in_err-stored-clause-crash
+returns-in_err-stored-clause-crash g c =
+    let p = err_from_is_err_and c.from_residual.result c.from_residual.ensures.1 in
+    no_more g.S.BookStore.model c.args.store.now c.cards.new.self (Err c.in_err-stored.field-0.0) c.from_residual.result
+    (denial_answers (BTreeMap (String Global) Stored) c.from_residual.result c.in_err-stored.field-0.0 (g.S.BookStore.model.premise c.cards.new.self) (p.1 ∙ ap (λ (d : Denied). Err d) p.2)) c.in_err-stored.ensures.crash
+
+pub returns-in-Ok-clause-crash : goal.returns-in-Ok-clause-crash
+returns-in-Ok-clause-crash g c = no_more g.S.BookStore.model c.args.store.now c.cards.new.self (Ok c.in_ok-stored.stored) (Ok c.in-Ok.expansion) (λ holds. holds) c.in_ok-stored.ensures.crash
+
+pub returns-in-Err-NoSuchCard-clause-crash : goal.returns-in-Err-NoSuchCard-clause-crash
+returns-in-Err-NoSuchCard-clause-crash g c =
+    no_more g.S.BookStore.model c.args.store.now c.cards.new.self (Ok c.in_ok-stored.stored) (Err (Refused NoSuchCard)) (λ holds. holds) c.in_ok-stored.ensures.crash
+
+pub returns-in-Err-NotGroup-clause-crash : goal.returns-in-Err-NotGroup-clause-crash
+returns-in-Err-NotGroup-clause-crash g c =
+    no_more g.S.BookStore.model c.args.store.now c.cards.new.self (Ok c.in_ok-stored.stored) (Err (Refused NotGroup)) (λ holds. holds) c.in_ok-stored.ensures.crash
+
+pub returns-clause-crash : goal.returns-clause-crash
+returns-clause-crash g c = no_more g.S.BookStore.model c.args.store.now c.cards.new.self (Ok c.in_ok-stored.stored) (Err (Fault Memory)) (λ holds. tt) c.in_ok-stored.ensures.crash
