@@ -64,3 +64,8 @@ fails_with_cause files (Err e) fails db holds = λ clean. elim (fails clean) [
   | inr (inr (inl fault)) ↦ inr (inl fault.1)
   | inr (inr (inr full)) ↦ inr (inr full)
 ]
+
+-- files that were opened over an honest disk are clean
+pub found_honest : {D : Type 0} {g : Ghosts D} (files : Files D) (r : Result (Held (FileStore D g)) (Error × Leftover D g)) → IfOk r (λ c. HasCleanDisk (file_state c) → Finds files c) → IfOk r (λ c. HasCleanDisk (file_state c) → AreClean g files.log files.db)
+found_honest files (Ok c) found = λ clean. (found clean).honest
+found_honest files (Err e) found = tt

@@ -1,8 +1,10 @@
 //! The end of a run, a crash, and the opening of the next run.
 ghost use Rattle.database_files.specs.Restarts.{HasOpenCause, HoldsListed, LeaveOneOf, ShowsOpened};
 ghost use Rattle.sqlite.specs.Effect.{Database};
-ghost use Rattle.sqlite.specs.Files.{HoldsDatabase, IsCleanLeft, file_state, image_of};
+ghost use Rattle.sqlite.specs.Files.{Finds, HoldsDatabase, IsCleanLeft, LeavesFiles, file_state};
+ghost use Rattle.sqlite.specs.Files.{image_of};
 ghost use Rattle.sqlite.specs.Held.{IsNew};
+ghost use Rattle.sqlite.specs.Recovery.{Image};
 ghost use Rattle.sqlite.specs.State.{HasCleanDisk};
 ghost use Rattle.sqlite.specs.Tree.{Trees};
 ghost use Rattle.sqlite.specs.WalFiles.{outcomes};
@@ -28,6 +30,8 @@ pub fn into_files<D: Disk + Drop>(connection: Connection<FileStore<D>>) -> Files
 /// The files after a crash.
 pub fn crash_files<D: Crash>(files: Files<D>) -> Files<D>
     ensures crash { outcomes D.Disk files.log files.db (image_of D.Disk result) }
+    ensures again { (image : Image) → outcomes D.Disk result.log result.db image
+        → outcomes D.Disk files.log files.db image }
     ensures clean { AreClean D.Disk result.log result.db → AreClean D.Disk files.log files.db }
     ensures log { IsTrue (D.Disk.is_usable result.log) }
     ensures db { IsTrue (D.Disk.is_usable result.db) }
@@ -48,11 +52,18 @@ pub fn open_again<D: Disk + Drop>(
     requires log { IsTrue (D.Disk.is_usable files.log) }
     requires db { IsTrue (D.Disk.is_usable files.db) }
     ensures fresh { IfOk result IsNew }
+    ensures honest { IfOk result (λ c. HasCleanDisk (file_state c)
+        → AreClean D.Disk files.log files.db) }
+    ensures found { IfOk result (λ c. HasCleanDisk (file_state c) → Finds files c) }
     ensures opens { (db : Database) → HoldsListed (image_of D.Disk files) db
         → IfOk result (λ c. HasCleanDisk (file_state c) → ShowsOpened (file_state c) db) }
     ensures cause { (db : Trees) → HoldsDatabase (image_of D.Disk files) db
         → IfErr result (λ refused. IsCleanLeft refused.1
         → HasOpenCause files refused.1 refused.0) }
+
+    // An error harms nothing: what is left of the files stands for what they stood for.
+    ensures unharmed { IfErr result (λ refused. IsCleanLeft refused.1
+        → LeavesFiles files refused.1) }
 {
     Connection::open_files(alloc, files, options)
 }
