@@ -1,7 +1,7 @@
 -- The rows of well-formed books can be changed.
 use Rattle.std.proofs.Common.{◌≡◌, ◌<◌, ◌≤◌, ◌^◌, ℕ, ℤ, Bool, true, false, ◌&&◌, ◌*◌, nat_le, List, [], ◌∷◌, length, refl, sym, subst, true≢false, arith}
 use Rattle.std.specs.FinMap as finite
-use Rattle.std.specs.List.{AllByRecursion, list_all, list_any}
+use Rattle.std.specs.List.{list_all, list_any}
 use Rattle.std.proofs.lemmas.Bool.{leb-true}
 use Rattle.book_model.specs.BookNames.{is_legal_name, is_octet_of_name}
 use Rattle.book_model.specs.Bounds.{Bounds}

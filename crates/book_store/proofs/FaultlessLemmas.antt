@@ -1,12 +1,10 @@
 -- The rows of well-formed books cause no fault.
-use Rattle.std.proofs.Common.{◌≡◌, ◌<◌, ◌≤◌, ◌*◌, ◌^◌, ℕ, Bool, true, false, List, length, IsUtf8, refl, sym, ◌∙◌, true≢false, arith}
+use Rattle.std.proofs.Common.{◌≡◌, ◌<◌, ◌≤◌, ◌*◌, ◌^◌, ℕ, Bool, true, false, List, IsUtf8, refl, sym, ◌∙◌, true≢false, arith}
 use Rattle.std.specs.FinMap as finite
-use Rattle.std.specs.List.{AllByRecursion}
 use Rattle.std.specs.Str.{is_utf8}
 use Rattle.std.proofs.lemmas.Str.{IsUtf8-from_is_utf8, is_utf8-from_IsUtf8}
 use Rattle.book_model.specs.BookNames.{is_legal_name}
 use Rattle.book_model.specs.Bounds.{Bounds}
-use Rattle.store_tables.specs.Members.{MemberRow}
 use Rattle.store_tables.proofs.KeyedRows.{all_has}
 use Rattle.store_rows.specs.SoundTables.{AreWellFormed, IsReadableBook, IsReadableMember}
 use Rattle.store_rows.specs.TableBooks.{books_of, row_book}

@@ -5,7 +5,7 @@ use Rattle.std.proofs.lemmas.List.Filters.{length-filter_both}
 use Rattle.std.proofs.lemmas.Nat.{mul-le}
 use Rattle.std.proofs.Math.Nat.{suc-mul}
 use Rattle.sqlite_trees.specs.Tree.{IsAscending}
-use Rattle.sqlite_trees.proofs.ListLemmas.{all-filter, all_weaker, ascending-filter, ascending_weaker}
+use Rattle.sqlite_trees.proofs.ListLemmas.{all-filter, all_weaker, ascending-filter}
 use Rattle.book_model.specs.Bounds.{Bounds}
 use Rattle.store_check.specs.BookChecks.{HaveDistinctChanges, IfBook, IsCheckedBook, IsCheckedMember, PassRowChecks, is_written_by}
 use Rattle.store_check.proofs.CheckedLemmas.{rows_checked}
@@ -66,13 +66,13 @@ few_numbers (suc k) ms all apart =
 -- ---- the members of one book, and of the others
 
 both_false : (a b : Bool) → a ≡ true → b ≡ true → (a && b) ≡ false → ⊥
-both_false true true is also no = true≢false no
-both_false true false is also no = true≢false (sym also)
-both_false false b is also no = true≢false (sym is)
+both_false true true is also apart = true≢false apart
+both_false true false is also apart = true≢false (sym also)
+both_false false b is also apart = true≢false (sym is)
 
 or_other : (a b : Bool) → (a || b) ≡ true → a ≡ false → b ≡ true
-or_other true b e no = absurd (true≢false no)
-or_other false b e no = e
+or_other true b e apart = absurd (true≢false apart)
+or_other false b e apart = e
 
 -- a listed member with a number from 1 to k
 abbrev Fits : List BookRow → ℕ → MemberRow → Type 0

@@ -1,5 +1,7 @@
 pub mod SchemaLemmas
 pub mod StoreLemmas
+pub mod AnswerLemmas
+pub mod AdoptLemmas
 pub mod FileLemmas
 pub mod FewLemmas
 pub mod FaultlessLemmas

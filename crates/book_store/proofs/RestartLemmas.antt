@@ -2,12 +2,13 @@
 use Rattle.std.proofs.Common.{◌≡◌, inl, inr, IsTrue, None, sym, ap, subst, ◌∙◌, true≢false, arith}
 use Rattle.std.proofs.Math.Logic.{∥∥₁_map}
 use Rattle.sqlite.specs.Effect.{Database}
-use Rattle.sqlite.specs.Files.{HoldsDatabase, file_state, over_files}
+use Rattle.sqlite.specs.Files.{HoldsDatabase, file_state, image_of, over_files}
 use Rattle.sqlite.specs.Held.{Held}
 use Rattle.sqlite.specs.Recovery.{Image}
 use Rattle.sqlite.specs.Start.{FindsIn}
 use Rattle.sqlite.specs.State.{State, HasCleanDisk}
 use Rattle.sqlite.specs.Tree.{Trees}
+use Rattle.sqlite.specs.WalFiles.{outcomes}
 use Rattle.sqlite.specs.WalReads.{AreClean}
 use Rattle.sqlite.specs.declared.error.Error.{Error}
 use Rattle.sqlite.specs.declared.file.Leftover.{Leftover}
@@ -30,8 +31,9 @@ use Rattle.sqlite_trees.specs.View.{IsQuiet}
 use Rattle.sqlite_trees.proofs.Doubt.{no_doubt}
 use Rattle.store_writes.specs.TableChanges.{TreesHold}
 use Rattle.book_store.specs.Crashes.{StoresSurviveCrashes}
-use Rattle.book_store.specs.Restarts.{HasRestartCause, HoldsStore, declared_over}
-use Rattle.book_store.specs.StoreViews.{IsStore, StoredTrees}
+use Rattle.book_store.specs.Restarts.{HasRestartCause, HoldsStore, LeftStore, declared_over}
+use Rattle.book_store.specs.StoreViews.{IsStore, LeftTrees, MayLeaveBooks, StoreView, StoredTrees, table_model}
+use Rattle.sync_core.specs.StoreCrashes.{IsSettled, RestartsFrom}
 
 module _ (image : Image) (books : Books) (holds : HoldsStore image books) (s : State) (shows : HasCleanDisk s → ShowsOpened s (declared_over holds.trees)) where
   -- a connection that shows them has these books
@@ -50,9 +52,33 @@ left_books c limits files law is left order clean image may =
     ∥∥₁_map (left clean image may) (λ db. (db.0, (law (record { conn = c; limits = limits }) is order).only_these db.0 db.1, db.2))
 
 -- what a crash leaves of them is a store's, also if the connection was closed
-pub left_stores : {D : Type 0} {g : Ghosts D} (c : Held (FileStore D g)) (limits : Bounds) (files : Files D) → IsStore (file_state c) limits → (AreClean g files.log files.db → HasCleanDisk (file_state c)) → LeaveOneOf g files (file_state c).may_leave → LeaveOneOf g files StoredTrees
+pub left_stores : {D : Type 0} {g : Ghosts D} (c : Held (FileStore D g)) (limits : Bounds) (files : Files D) → IsStore (file_state c) limits → (AreClean g files.log files.db → HasCleanDisk (file_state c)) → LeaveOneOf g files (file_state c).may_leave → LeaveOneOf g files (LeftTrees (file_state c))
 left_stores c limits files is was left clean image may =
-    ∥∥₁_map (left clean image may) (λ db. (db.0, is.leaves_stores (was clean) db.0 db.1, db.2))
+    ∥∥₁_map (left clean image may) (λ db. (db.0, record { may_be_left = db.1; stored = is.leaves_stores (was clean) db.0 db.1 }, db.2))
+
+-- the files after a crash hold one of these stores
+pub crashed_store : {D : Type 0} {g : Ghosts D} (c : Held (FileStore D g)) (left files : Files D) → LeaveOneOf g left (LeftTrees (file_state c)) → (AreClean g left.log left.db → HasCleanDisk (file_state c))
+    → ((image : Image) (trees : Trees) → HoldsDatabase image trees → (stored : StoredTrees trees) → HoldsStore image stored.books)
+    → outcomes g left.log left.db (image_of g files) → (AreClean g files.log files.db → AreClean g left.log left.db) → AreClean g files.log files.db → ∥ LeftStore (file_state c) (image_of g files) ∥₁
+crashed_store {g = g} c left files leaves was law crash before clean =
+    let honest = before clean in
+    ∥∥₁_map (leaves honest (image_of g files) crash) (λ db. record {
+      books = db.1.stored.books;
+      may_be_left = record { clean = was honest; trees = db.0; may_be_left = db.1.may_be_left; holds = db.1.stored.holds };
+      holds = law (image_of g files) db.0 db.2 db.1.stored;
+    })
+
+-- the store that was opened over them has books that the crash may leave
+pub restarted : {D : Type 0} {g : Ghosts D} (old new : StoreView (FileStore D g)) (files : Files D) → new.limits ≡ old.limits → (AreClean g files.log files.db → ∥ LeftStore (file_state old.conn) (image_of g files) ∥₁)
+    → (HasCleanDisk (file_state new.conn) → AreClean g files.log files.db × IsTrue (file_state new.conn).is_open)
+    → ((books : Books) → HoldsStore (image_of g files) books → IsOpenOnHonestDisk (file_state new.conn) → stored_books (file_state new.conn) ≡ books)
+    → IsSettled (table_model over_files) new → RestartsFrom (table_model over_files) old new
+restarted old new files limits left honest opens settled = record {
+  limits = limits;
+  finds = λ order. ∥∥₁_map (left (honest order.0).0) (λ it. subst (MayLeaveBooks (file_state old.conn)) (sym (opens it.books it.holds order)) it.may_be_left);
+  settled = settled;
+  opened = λ books may. (may.clean, (honest may.clean).1);
+}
 
 -- the tables of a store's trees are listed, and their rows are those of well-formed books
 pub trees_hold_store : (image : Image) (trees : Trees) → HoldsDatabase image trees → (stored : StoredTrees trees) → HoldsStore image stored.books

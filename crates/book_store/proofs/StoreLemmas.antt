@@ -1,12 +1,12 @@
 -- The state of a store after calls that only read.
 use Rattle.std.proofs.Common.{◌≡◌, inl, inr, false, IsTrue, Result, Ok, Err, refl, sym, ap, subst, ◌∙◌, arith}
 use Rattle.std.proofs.lemmas.Bool.{cases_Bool}
-use Rattle.std.specs.FinMap as finite
 use Rattle.sqlite.specs.Effect.{Database}
 use Rattle.sqlite.specs.Held.{state}
 use Rattle.sqlite.specs.State.{State, HasCleanDisk, Survives}
 use Rattle.sqlite.specs.Tree.{Trees}
 use Rattle.sqlite_trees.specs.declared.store.Store.{Ghosts}
+use Rattle.sync_core.specs.StoreCrashes.{IsAfterStep, LeavesNoMore, LeavesStep, UnlessFault}
 use Rattle.book_model.specs.declared.denied.Denied.{Denied}
 use Rattle.book_model.specs.declared.denied.Denied.TheVariants.{Refused, Fault}
 use Rattle.book_model.specs.declared.refusal.Refusal.{Refusal}
@@ -29,8 +29,9 @@ use Rattle.store_lookups.specs.CallResults.{FollowsStep, GivenCounts, GivenSound
 use Rattle.store_lookups.specs.ChangeFaults.{ChangeFaultsFromOutside, HaveFreeIds}
 use Rattle.store_lookups.specs.StoreFaults.{FaultsFromOutside, HasOutsideCauseOfFault}
 use Rattle.book_store.specs.OpenOutcomes.{IsNewStoreCommitted}
-use Rattle.book_store.specs.StoreViews.{ChangesStore, IsStore, ReadsStore, StoreView, StoredTrees}
-use Rattle.store_writes.specs.TableChanges.{AppliesStep, CommitsOnce, HoldBooksAfter, TreesHold}
+use Rattle.book_store.specs.Answering.{IsOpenUnlessFault}
+use Rattle.book_store.specs.StoreViews.{ChangesStore, IsStore, MayLeaveBooks, ReadsStore, StoreView, StoredTrees, table_model}
+use Rattle.store_writes.specs.TableChanges.{AppliesStep, CommitsOnce, CommitsStep, HoldBooksAfter, TreesHold}
 use Rattle.store_lookups.specs.StoredBooks.{HoldCounts, IsOpenOnHonestDisk, IsCommittedAndSound, stored_books}
 use Rattle.store_writes.proofs.CallLemmas.{read_before}
 use Rattle.store_writes.proofs.HeldLemmas.{trees_held}
@@ -65,6 +66,54 @@ still_store old new limits store left = record {
   ];
   range = store.range;
 }
+
+-- ---- what a crash may leave of the books
+
+-- all that a crash may leave of an open connection is what is committed
+abbrev pub LeavesCommitted : State → Type 0
+LeavesCommitted s = (trees : Trees) → IsTrue s.is_open → s.may_leave trees → trees ≡ s.committed.trees
+
+pub settled_books : (s : State) → LeavesCommitted s → (IsOpenOnHonestDisk s → IsCommittedAndSound s) → IsOpenOnHonestDisk s → (books : Books) → MayLeaveBooks s books → books ≡ stored_books s
+settled_books s alone sound order books left =
+    sym left.holds.books_are ∙ ap books_in (alone left.trees order.1 left.may_be_left) ∙ ap (λ (d : Database). books_in d.trees) (sym (sound order).committed)
+
+left_before : (old new : State) (P : Trees → Type 0) (books : Books) → Survives old new P → (left : MayLeaveBooks new books) → old.may_leave left.trees → MayLeaveBooks old books
+left_before old new P books survives left may = record { clean = clean_before P old new survives left.clean; trees = left.trees; may_be_left = may; holds = left.holds }
+
+unless_fault : {A : Type 0} (r : Result A Denied) (P Q : Type 0) → (P → Q) → UnlessFault r P → UnlessFault r Q
+unless_fault (Ok x) P Q f h = f h
+unless_fault (Err (Refused refusal)) P Q f h = f h
+unless_fault (Err (Fault fault)) P Q f h = tt
+
+-- the books of the trees that the one commit left
+made_books : {A : Type 0} (due : Result (A × Books) Refusal) (trees : Trees) (books : Books) → HoldBooksAfter due trees → TreesHold books trees → IsAfterStep due books
+made_books (Ok done) trees books made holds = sym holds.books_are ∙ made.books_are
+made_books (Err refusal) trees books made holds = absurd made
+
+module _ {S A : Type 0} (g : Ghosts S) (old new : StoreView S) (r : Result A Denied) (alone : LeavesCommitted (state g new.conn)) (sound : IsOpenOnHonestDisk (state g new.conn) → IsCommittedAndSound (state g new.conn))
+    (opened : IsOpenUnlessFault (state g new.conn) r) where
+  answered_open : (books : Books) → MayLeaveBooks (state g new.conn) books → UnlessFault r (IsOpenOnHonestDisk (state g new.conn))
+  answered_open books left = unless_fault r _ _ (λ up. (left.clean, up)) (opened left.clean)
+
+  pub leaves_no_more : OnlyReads (state g old.conn) (state g new.conn) → LeavesNoMore (table_model g) old new r
+  leaves_no_more reads = record {
+    only = λ books left. elim (reads.survives.crash left.clean left.trees left.may_be_left) [
+      | inl before ↦ inl (left_before (state g old.conn) (state g new.conn) _ books reads.survives left before)
+      | inr none ↦ absurd none
+    ];
+    settled = settled_books (state g new.conn) alone sound;
+    answered = answered_open;
+  }
+
+  pub leaves_step : (step : Bounds → Books → Result (A × Books) Refusal) → Survives (state g old.conn) (state g new.conn) (CommitsStep (state g old.conn) (step old.limits)) → LeavesStep (table_model g) old new r step
+  leaves_step step survives = record {
+    only = λ books left. elim (survives.crash left.clean left.trees left.may_be_left) [
+      | inl before ↦ inl (left_before (state g old.conn) (state g new.conn) _ books survives left before)
+      | inr done ↦ inr (done.0, made_books (step old.limits (stored_books (state g old.conn))) left.trees books done.1 left.holds)
+    ];
+    settled = settled_books (state g new.conn) alone sound;
+    answered = answered_open;
+  }
 
 -- ---- the cause of a fault
 
@@ -110,23 +159,24 @@ reads_store allows r step old new limits store left returned order =
     (subst (λ (b : Books). FollowsStep allows r (step b)) (sym books) (returned was.sound.rows order.0 was.sound.holds was.sound.sound))
     (ap (λ (d : Database). books_in d.trees) here.now_is)
 
-pub only_reads_store : {S T A : Type 0} (g : Ghosts S) (allows : T → A → Type 0) (old new : StoreView S) (r : Result A Denied) (query : Bounds → Books → Result T Refusal) → IsStore (state g old.conn) old.limits → new.limits ≡ old.limits
-    → OnlyReads (state g old.conn) (state g new.conn) → GivenSoundRows (state g old.conn) (state g new.conn) (λ rows. FollowsStep allows r (query old.limits (books_of rows))) → FaultsFromOutside (state g old.conn) (state g new.conn) r → ReadsStore g allows old new r query
-only_reads_store g allows old new r query store same left returned causes = record {
+pub only_reads_store : {S T A : Type 0} (g : Ghosts S) (allows : T → A → Type 0) (old new : StoreView S) (r : Result A Denied) (query : Bounds → Books → Result T Refusal) → IsStore (state g old.conn) old.limits → LeavesCommitted (state g new.conn) → new.limits ≡ old.limits
+    → OnlyReads (state g old.conn) (state g new.conn) → GivenSoundRows (state g old.conn) (state g new.conn) (λ rows. FollowsStep allows r (query old.limits (books_of rows))) → IsOpenUnlessFault (state g new.conn) r → (HasCleanDisk (state g new.conn) → HasOutsideCauseOfFault (state g old.conn) (state g new.conn) r) → ReadsStore g allows old new r query
+only_reads_store g allows old new r query store alone same left returned opened causes = record {
   keeps_terms = record {
     premise = read_before (state g old.conn) (state g new.conn) left;
     limits = same;
     range = subst IsInRange (sym same) store.range;
   };
   matches_query = reads_store allows r (query old.limits) (state g old.conn) (state g new.conn) old.limits store left returned;
+  leaves_no_more = leaves_no_more g old new r alone (still_store (state g old.conn) (state g new.conn) old.limits store left).stays_sound opened left;
   only_reads = left;
-  store_fault = reads_outside (state g old.conn) (state g new.conn) old.limits r _ store left.survives causes;
+  store_fault = causes;
 }
 
 -- the same for a call whose answer depends on the numbers that the store keeps
-pub counted_reads_store : {S T A : Type 0} (g : Ghosts S) (allows : T → A → Type 0) (old new : StoreView S) (counts : CountsByName) (r : Result A Denied) (query : Bounds → Books → Result T Refusal) → IsStore (state g old.conn) old.limits → HoldCounts (state g old.conn) counts → new.limits ≡ old.limits
-    → OnlyReads (state g old.conn) (state g new.conn) → GivenCounts (state g old.conn) (state g new.conn) counts (λ rows. FollowsStep allows r (query old.limits (books_of rows))) → FaultsFromOutside (state g old.conn) (state g new.conn) r → ReadsStore g allows old new r query
-counted_reads_store g allows old new counts r query store right same left returned causes =
+pub counted_reads_store : {S T A : Type 0} (g : Ghosts S) (allows : T → A → Type 0) (old new : StoreView S) (counts : CountsByName) (r : Result A Denied) (query : Bounds → Books → Result T Refusal) → IsStore (state g old.conn) old.limits → HoldCounts (state g old.conn) counts → LeavesCommitted (state g new.conn) → new.limits ≡ old.limits
+    → OnlyReads (state g old.conn) (state g new.conn) → GivenCounts (state g old.conn) (state g new.conn) counts (λ rows. FollowsStep allows r (query old.limits (books_of rows))) → IsOpenUnlessFault (state g new.conn) r → (HasCleanDisk (state g new.conn) → HasOutsideCauseOfFault (state g old.conn) (state g new.conn) r) → ReadsStore g allows old new r query
+counted_reads_store g allows old new counts r query store right alone same left returned opened causes =
     let before = state g old.conn in
     let after = state g new.conn in
     record {
@@ -143,8 +193,9 @@ counted_reads_store g allows old new counts r query store right same left return
           (subst (λ (b : Books). FollowsStep allows r (query old.limits b)) (sym held)
           (returned was.sound.rows order.0 was.sound.holds was.sound.sound (subst (AreCountsOf counts) held (right (read_before before after left order) was))))
           (ap (λ (d : Database). books_in d.trees) here.now_is);
+      leaves_no_more = leaves_no_more g old new r alone (still_store before after old.limits store left).stays_sound opened left;
       only_reads = left;
-      store_fault = reads_outside before after old.limits r _ store left.survives causes;
+      store_fault = causes;
     }
 
 -- ---- created tables
@@ -155,8 +206,7 @@ new_store_is_sound s h = record { committed = h.committed; sound = record { rows
 pub new_store_is_formed : (s : State) → IsNewStoreCommitted s → IsWellFormed max_limits (stored_books s)
 new_store_is_formed s h = subst (IsWellFormed max_limits) (sym (nothing_held s.now (new_tables_empty s.now h.created)).books) (well_none max_limits)
 
--- all that a crash may leave of an open connection is what is committed
-pub new_store_leaves : (s : State) → ((trees : Trees) → IsTrue s.is_open → s.may_leave trees → trees ≡ s.committed.trees) → IsNewStoreCommitted s → (trees : Trees) → s.may_leave trees → StoredTrees trees
+pub new_store_leaves : (s : State) → LeavesCommitted s → IsNewStoreCommitted s → (trees : Trees) → s.may_leave trees → StoredTrees trees
 new_store_leaves s alone h trees may = record {
   books = stored_books s;
   holds = subst (TreesHold (stored_books s)) (ap (λ (d : Database). d.trees) h.committed ∙ sym (alone trees h.is_open may)) (trees_held s.now (stored_books s) (record { sound = (new_store_is_sound s h).sound; books_are = refl }));
@@ -164,17 +214,18 @@ new_store_leaves s alone h trees may = record {
 }
 
 -- a call that changed the tables of a store
-pub changes_store : {S A : Type 0} (g : Ghosts S) (old new : StoreView S) (r : Result A Denied) (step : Bounds → Books → Result (A × Books) Refusal) → IsStore (state g old.conn) old.limits → new.limits ≡ old.limits
-    → AppliesStep (state g old.conn) (state g new.conn) r (step old.limits) → CommitsOnce (state g old.conn) (state g new.conn) (step old.limits) → ChangeFaultsFromOutside (state g old.conn) (state g new.conn) r → ChangesStore g old new r step
-changes_store g old new r step store same changed commits causes = record {
+pub changes_store : {S A : Type 0} (g : Ghosts S) (old new : StoreView S) (r : Result A Denied) (step : Bounds → Books → Result (A × Books) Refusal) → IsStore (state g old.conn) old.limits → LeavesCommitted (state g new.conn) → new.limits ≡ old.limits
+    → AppliesStep (state g old.conn) (state g new.conn) r (step old.limits) → CommitsOnce (state g old.conn) (state g new.conn) (step old.limits) → IsOpenUnlessFault (state g new.conn) r → (HasCleanDisk (state g new.conn) → HaveFreeIds (state g old.conn).now.trees → HasOutsideCauseOfFault (state g old.conn) (state g new.conn) r) → ChangesStore g old new r step
+changes_store g old new r step store alone same changed commits opened causes = record {
   keeps_terms = record {
     premise = changed.was_open_on_honest_disk;
     limits = same;
     range = subst IsInRange (sym same) store.range;
   };
   matches_step = λ order. changed.matches_step order (store.stays_sound (changed.was_open_on_honest_disk order));
+  leaves_step = leaves_step g old new r alone (λ order. changed.stays_sound order (store.stays_sound (changed.was_open_on_honest_disk order))) opened step (commits store.stays_sound);
   crash = commits store.stays_sound;
-  store_fault = changes_outside (state g old.conn) (state g new.conn) old.limits r _ store (commits store.stays_sound) causes;
+  store_fault = causes;
 }
 
 pub max_in_range : IsInRange max_limits

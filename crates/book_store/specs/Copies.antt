@@ -1,5 +1,5 @@
 -- Copies of a store, also without some of its books.
-use Rattle.std.specs.Prelude.{ℕ, ℤ, ◌≡◌, ◌*◌, List}
+use Rattle.std.specs.Prelude.{ℕ, ℤ, ◌*◌, List}
 use Rattle.sqlite.specs.State.{State}
 use Rattle.sqlite_disk.specs.declared.Disk.{Ghosts}
 use Rattle.sqlite_disk.specs.declared.Files.{Files}

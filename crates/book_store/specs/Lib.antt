@@ -1,5 +1,6 @@
 pub mod OpenOutcomes
 pub mod StoreViews
+pub mod Answering
 pub mod StoreResyncs
 pub mod Crashes
 pub mod FileRefusals

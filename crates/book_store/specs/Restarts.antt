@@ -2,15 +2,19 @@
 use Rattle.std.specs.Prelude.{◌≡◌, ◌⊎◌}
 use Rattle.sqlite.specs.Disk.{MoreFaults}
 use Rattle.sqlite.specs.Effect.{Database}
-use Rattle.sqlite.specs.Files.{IsFullLeft, faults_left, faults_of, file_state}
+use Rattle.sqlite.specs.Files.{IsCleanLeft, IsFullLeft, faults_left, faults_of, file_state}
+use Rattle.sqlite.specs.Files.{image_of}
 use Rattle.sqlite.specs.Held.{Held}
 use Rattle.sqlite.specs.Recovery.{Image}
+use Rattle.sqlite.specs.State.{State}
 use Rattle.sqlite.specs.Tree.{Trees}
+use Rattle.sqlite.specs.WalReads.{AreClean}
 use Rattle.sqlite.specs.declared.file.Leftover.{Leftover}
 use Rattle.sqlite_disk.specs.declared.Disk.{Ghosts}
 use Rattle.sqlite_disk.specs.declared.Files.{Files}
 use Rattle.sqlite_store.specs.declared.store.FileStore.{FileStore}
 use Rattle.book_model.specs.Books.{Books}
+use Rattle.book_store.specs.StoreViews.{MayLeaveBooks}
 use Rattle.database_files.specs.Restarts.{HoldsListed, ShowsOpened}
 use Rattle.store_check.specs.OpenResults.{max_limits}
 use Rattle.store_schema.specs.declared.open_fault.OpenFault.{OpenFault}
@@ -31,6 +35,12 @@ pub record HoldsStore (image : Image) (books : Books) : Type 0 where
   pub well_formed : HoldsWellFormed max_limits (declared_over trees)
   pub books_are : books_in trees ≡ books
 
+-- the bytes hold a store, with books that a crash of the connection may leave
+pub record LeftStore (s : State) (image : Image) : Type 0 where
+  pub books : Books
+  pub may_be_left : MayLeaveBooks s books
+  pub holds : HoldsStore image books
+
 -- ---- an opening that fails
 
 module _ {D : Type 0} {g : Ghosts D} where
@@ -47,3 +57,11 @@ module _ {D : Type 0} {g : Ghosts D} where
   HasRestartCause db files left fault = (fault ≡ Memory) ⊎ ((fault ≡ Store)
       × (MoreFaults (faults_of g files) (faults_left left)
       ⊎ (FailsOnceOpened db left ⊎ IsFullLeft left)))
+
+  -- Why a restart failed: the crash left these files, which hold a store, and they don't open for
+  -- this cause.
+  pub record HasCrashCause (s : State) (left : Leftover D g) (fault : OpenFault) : Type 0 where
+    pub files : Files D
+    pub holds : AreClean g files.log files.db → ∥ LeftStore s (image_of g files) ∥₁
+    pub cause : (books : Books) → (stored : HoldsStore (image_of g files) books)
+        → IsCleanLeft left → HasRestartCause (declared_over stored.trees) files left fault

@@ -6,6 +6,7 @@ use Rattle.sqlite.specs.State.{HasCleanDisk, State, Survives}
 use Rattle.sqlite.specs.Tree.{Trees}
 use Rattle.sqlite_trees.specs.declared.store.Store.{Ghosts}
 use Rattle.sync_core.specs.StoreModels.{StoreModel, KeepsTerms, AnswersQuery, PerformsStep}
+use Rattle.sync_core.specs.StoreCrashes.{LeavesNoMore, LeavesStep}
 use Rattle.sync_core.specs.StoreStates.{coded_bounds}
 use Rattle.book_model.specs.declared.denied.Denied.{Denied}
 use Rattle.book_model.specs.declared.refusal.Refusal.{Refusal}
@@ -44,6 +45,19 @@ pub record IsStore (s : State) (limits : Bounds) : Type 0 where
   pub leaves_stores : HasCleanDisk s → (trees : Trees) → s.may_leave trees → StoredTrees trees
   pub range : IsInRange limits
 
+-- These books may be left by a crash now, as long as the disk has returned what was written: sound
+-- tables that are listed in the file, with these books.
+pub record MayLeaveBooks (s : State) (books : Books) : Type 0 where
+  pub clean : HasCleanDisk s
+  pub trees : Trees
+  pub may_be_left : s.may_leave trees
+  pub holds : TreesHold books trees
+
+-- a crash now may leave these trees, and they are a store's
+pub record LeftTrees (s : State) (trees : Trees) : Type 0 where
+  pub may_be_left : s.may_leave trees
+  pub stored : StoredTrees trees
+
 -- the books of a store
 abbrev pub books_of_store : {S : Type 0} → Ghosts S → StoreView S → Books
 books_of_store g s = stored_books (state g s.conn)
@@ -56,15 +70,18 @@ table_model g = record {
   limits = λ s. s.limits;
   premise = λ s. IsOpenOnHonestDisk (state g s.conn);
   may_fault = λ _. ⊤;
+  may_leave = λ s. MayLeaveBooks (state g s.conn);
 }
 
 -- A call that reads: the contract of every store, and that it only reads. So a crash leaves what it
--- could leave before the call. A fault of the store comes only from an outside cause.
+-- could leave before the call, of the trees and so of the books. A fault of the store comes only
+-- from an outside cause.
 pub record ReadsStore {S : Type 0} {T A : Type 0} (g : Ghosts S) (allows : T → A → Type 0)
     (old new : StoreView S) (r : Result A Denied) (query : Bounds → Books → Result T Refusal)
     : Type 0 where
   pub keeps_terms : KeepsTerms (table_model g) old new
   pub matches_query : AnswersQuery (table_model g) allows old new r query
+  pub leaves_no_more : LeavesNoMore (table_model g) old new r
   pub only_reads : OnlyReads (state g old.conn) (state g new.conn)
   pub store_fault : HasCleanDisk (state g new.conn)
       → HasOutsideCauseOfFault (state g old.conn) (state g new.conn) r
@@ -77,6 +94,7 @@ pub record ChangesStore {S : Type 0} {A : Type 0} (g : Ghosts S) (old new : Stor
     (r : Result A Denied) (step : Bounds → Books → Result (A × Books) Refusal) : Type 0 where
   pub keeps_terms : KeepsTerms (table_model g) old new
   pub matches_step : PerformsStep (table_model g) old new r step
+  pub leaves_step : LeavesStep (table_model g) old new r step
   pub crash : Survives (state g old.conn) (state g new.conn)
       (CommitsStep (state g old.conn) (step old.limits))
   pub store_fault : HasCleanDisk (state g new.conn) → HaveFreeIds (state g old.conn).now.trees

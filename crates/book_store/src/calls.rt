@@ -1,7 +1,8 @@
 //! The calls of `BookStore` over tables. The clause of each states what the trait requires, and
 //! also what a crash can leave: after a call that changes books, what it could leave before or the
 //! whole change; after a call that reads, what it could leave before. Both hold of any connection:
-//! the change is made only if it was open on an honest disk before the call.
+//! the change is made only if it was open on an honest disk before the call. A call that leaves a
+//! closed connection returns a fault.
 ghost use Rattle.base_types.specs.TextMaps.{octet_map};
 ghost use Rattle.book_model.specs.BookQueries.{book_line_step, book_lines, cards_step, get_step};
 ghost use Rattle.book_model.specs.BookQueries.{tally_step};
@@ -17,6 +18,7 @@ ghost use Rattle.book_store.specs.StoreViews.{ChangesStore, ReadsStore, table_mo
 ghost use Rattle.store_lookups.specs.CallResults.{IsExactly};
 ghost use Rattle.std.specs.Prelude.{◌≡◌, Ok};
 
+use crate::answering::{answer_if_open, outcome_if_open};
 use crate::sql_store::SqlStore;
 use book_model::{BookLine, Denied, ImportTally, Moved, Page, PutAnswer, Stored, Tally, Token};
 use sqlite::Alter;
@@ -40,14 +42,15 @@ impl<S: Alter> BookStore for SqlStore<S> {
         ensures changes { ChangesStore S.Store self.old self.new result
             (λ limits books. create_step limits books name.now) }
     {
-        create_in_tables(&mut self.conn, self.limits, name)
+        let outcome = create_in_tables(&mut self.conn, self.limits, name);
+        outcome_if_open(&mut self.conn, outcome)
     }
 
     fn put(&mut self, book: &str, card: &Card, expect: Option<u64>) -> Result<PutAnswer, Denied>
         ensures changes { ChangesStore S.Store self.old self.new result
             (λ limits books. put_step limits books book.now card.now expect) }
     {
-        put_in_book(
+        let outcome = put_in_book(
             self.alloc,
             &mut self.conn,
             &mut self.counts,
@@ -55,14 +58,15 @@ impl<S: Alter> BookStore for SqlStore<S> {
             book,
             card,
             expect,
-        )
+        );
+        outcome_if_open(&mut self.conn, outcome)
     }
 
     fn remove(&mut self, book: &str, uid: &str, expect: Option<u64>) -> Result<u64, Denied>
         ensures changes { ChangesStore S.Store self.old self.new result
             (λ limits books. remove_step limits books book.now uid.now expect) }
     {
-        remove_in_book(
+        let outcome = remove_in_book(
             self.alloc,
             &mut self.conn,
             &mut self.counts,
@@ -70,7 +74,8 @@ impl<S: Alter> BookStore for SqlStore<S> {
             book,
             uid,
             expect,
-        )
+        );
+        outcome_if_open(&mut self.conn, outcome)
     }
 
     fn move_card(
@@ -83,7 +88,7 @@ impl<S: Alter> BookStore for SqlStore<S> {
         ensures changes { ChangesStore S.Store self.old self.new result
             (λ limits books. move_step limits books from.now to.now uid.now expect) }
     {
-        move_in_tables(
+        let outcome = move_in_tables(
             self.alloc,
             &mut self.conn,
             &mut self.counts,
@@ -92,21 +97,24 @@ impl<S: Alter> BookStore for SqlStore<S> {
             to,
             uid,
             expect,
-        )
+        );
+        outcome_if_open(&mut self.conn, outcome)
     }
 
     fn forget(&mut self, book: &str, upto: u64) -> Result<u64, Denied>
         ensures changes { ChangesStore S.Store self.old self.new result
             (λ _ books. forget_step books book.now upto) }
     {
-        forget_in_book(&mut self.conn, &mut self.counts, book, upto)
+        let outcome = forget_in_book(&mut self.conn, &mut self.counts, book, upto);
+        outcome_if_open(&mut self.conn, outcome)
     }
 
     fn kept_import(&mut self, book: &str, key: &str) -> Result<Option<ImportTally>, Denied>
         ensures reads { ReadsStore S.Store IsExactly self.old self.new result
             (λ _ books. kept_import_step books book.now key.now) }
     {
-        import_of_book(&mut self.conn, book, key)
+        let answer = import_of_book(&mut self.conn, book, key);
+        answer_if_open(&mut self.conn, answer)
     }
 
     fn import(&mut self, book: &str, key: &str, cards: &[Card]) -> Result<ImportTally, Denied>
@@ -114,7 +122,7 @@ impl<S: Alter> BookStore for SqlStore<S> {
         ensures changes { ChangesStore S.Store self.old self.new result
             (λ limits books. import_step limits books book.now key.now cards.now) }
     {
-        import_in_book(
+        let outcome = import_in_book(
             self.alloc,
             &mut self.conn,
             &mut self.counts,
@@ -122,42 +130,48 @@ impl<S: Alter> BookStore for SqlStore<S> {
             book,
             key,
             cards,
-        )
+        );
+        outcome_if_open(&mut self.conn, outcome)
     }
 
     fn get(&mut self, book: &str, uid: &str) -> Result<Stored, Denied>
         ensures reads { ReadsStore S.Store IsExactly self.old self.new result
             (λ _ books. get_step books book.now uid.now) }
     {
-        stored_of_book(self.alloc, &mut self.conn, book, uid)
+        let answer = stored_of_book(self.alloc, &mut self.conn, book, uid);
+        answer_if_open(&mut self.conn, answer)
     }
 
     fn books(&mut self) -> Result<Vec<BookLine>, Denied>
         ensures reads { ReadsStore S.Store (λ expected lines. lines.items ≡ expected)
             self.old self.new result (λ _ books. Ok (book_lines books)) }
     {
-        lines_of_books(self.alloc, &mut self.conn)
+        let answer = lines_of_books(self.alloc, &mut self.conn);
+        answer_if_open(&mut self.conn, answer)
     }
 
     fn book(&mut self, name: &str) -> Result<BookLine, Denied>
         ensures reads { ReadsStore S.Store IsExactly self.old self.new result
             (λ _ books. book_line_step books name.now) }
     {
-        line_of_book(self.alloc, &mut self.conn, name)
+        let answer = line_of_book(self.alloc, &mut self.conn, name);
+        answer_if_open(&mut self.conn, answer)
     }
 
     fn cards(&mut self, book: &str) -> Result<BTreeMap<String, Stored>, Denied>
         ensures reads { ReadsStore S.Store (λ expected cards. octet_map cards ≡ expected)
             self.old self.new result (λ _ books. cards_step books book.now) }
     {
-        cards_of_book(self.alloc, &mut self.conn, book)
+        let answer = cards_of_book(self.alloc, &mut self.conn, book);
+        answer_if_open(&mut self.conn, answer)
     }
 
     fn tally(&mut self, book: &str) -> Result<Tally, Denied>
         ensures reads { ReadsStore S.Store IsExactly self.old self.new result
             (λ _ books. tally_step books book.now) }
     {
-        tally_of_book(&mut self.conn, &mut self.counts, book)
+        let answer = tally_of_book(&mut self.conn, &mut self.counts, book);
+        answer_if_open(&mut self.conn, answer)
     }
 
     fn report(
@@ -169,6 +183,7 @@ impl<S: Alter> BookStore for SqlStore<S> {
         ensures reads { ReadsStore S.Store IsReport self.old self.new result
             (λ limits books. report_step limits books book.now token limit) }
     {
-        page_of_book(self.alloc, &mut self.conn, self.limits, book, token, limit)
+        let answer = page_of_book(self.alloc, &mut self.conn, self.limits, book, token, limit);
+        answer_if_open(&mut self.conn, answer)
     }
 }

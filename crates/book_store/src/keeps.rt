@@ -6,7 +6,9 @@ ghost use Rattle.store_lookups.specs.OnConnections.{HasOutsideCauseOfFault};
 ghost use Rattle.store_lookups.specs.ChangeFaults.{HaveFreeIds};
 ghost use Rattle.store_tables.specs.OnConnections.{HasCleanDisk, OnlyReads, table_rows};
 ghost use Rattle.sync_core.specs.StoreModels.{AnswersQuery, KeepsTerms};
+ghost use Rattle.sync_core.specs.StoreCrashes.{LeavesNoMore};
 
+use crate::answering::answer_if_open;
 use crate::sql_store::SqlStore;
 use book_model::Denied;
 use sqlite::Alter;
@@ -20,11 +22,13 @@ impl<S: Alter> SqlStore<S> {
         ensures terms { KeepsTerms (table_model S.Store) self.old self.new }
         ensures answers { AnswersQuery (table_model S.Store) IsExactly self.old self.new result
             (λ _ books. keep_step books book.now) }
+        ensures leaves_no_more { LeavesNoMore (table_model S.Store) self.old self.new result }
         ensures reads_only { OnlyReads S.Store self.old.conn self.new.conn }
         ensures store_fault { HasCleanDisk S.Store self.new.conn
             → HaveFreeIds (table_rows S.Store self.old.conn)
             → HasOutsideCauseOfFault S.Store self.old.conn self.new.conn result }
     {
-        keep_of_book(&mut self.conn, book)
+        let answer = keep_of_book(&mut self.conn, book);
+        answer_if_open(&mut self.conn, answer)
     }
 }

@@ -3,6 +3,7 @@
 #![tactic(auto)]
 
 mod administration;
+mod answering;
 mod calls;
 mod closing;
 mod copy_fault;

@@ -6,10 +6,13 @@ ghost use Rattle.store_check.specs.TombstoneCounts.{IsCountOf};
 ghost use Rattle.store_check.specs.OpenResults.{max_limits};
 ghost use Rattle.book_store.specs.OpenOutcomes.{DropsRefused, IsOpenRefusal};
 ghost use Rattle.store_schema.specs.OnConnections.{ChangesNothing};
-ghost use Rattle.store_tables.specs.OnConnections.{HoldsNow};
+ghost use Rattle.store_schema.specs.OnConnections.{ComesFromOutside};
+ghost use Rattle.store_schema.specs.OpenFaults.{IsErrorFault};
+ghost use Rattle.store_tables.specs.OnConnections.{GivenTables, HasCleanDisk, HoldsNow};
+ghost use Rattle.store_tables.specs.OnConnections.{IsConnectionOpen, OnlyReads};
 ghost use Rattle.store_lookups.specs.OnConnections.{IsOpenOnHonestDisk, stored_books};
 ghost use Rattle.std.specs.List.{AllByRecursion};
-ghost use Rattle.std.specs.Prelude.{◌≡◌, IfErr, IfOk, false};
+ghost use Rattle.std.specs.Prelude.{◌≡◌, IfErr, IfOk, OnOk, false};
 
 use crate::sql_store::SqlStore;
 use book_model::{Limits, TombstoneCounts};
@@ -17,7 +20,7 @@ use sqlite::{Alter, Connection};
 use std::alloc::Global;
 use store_check::counts::TombstoneCount;
 use store_check::opening::count_tombstones;
-use store_schema::OpenFault;
+use store_schema::{OpenFault, open_fault_of};
 use store_tables::settled::assert_no_pending_writes;
 
 /// The counts that the opening found. Where memory runs out, entries are missing.
@@ -30,6 +33,23 @@ fn counts_of(alloc: Global, found: &[TombstoneCount]) -> TombstoneCounts
         counts.set(count.book.as_str(), count.tombstones);
     }
     counts
+}
+
+/// Checks that the connection is still open, since only an open one prepares a statement. Fails with
+/// `Memory` if memory runs out, and with `Store` if the connection is closed.
+fn check_still_open<S: Alter>(conn: &mut Connection<S>) -> Result<(), OpenFault>
+    ensures opened { HasCleanDisk S.Store conn.new
+        → OnOk result (IsConnectionOpen S.Store conn.new) }
+    ensures kind { IfErr result IsErrorFault }
+    ensures from_outside { GivenTables S.Store conn.old conn.new
+        (IfErr result (ComesFromOutside S.Store conn.old conn.new)) }
+    ensures reads_only { OnlyReads S.Store conn.old conn.new }
+{
+    match conn.prepare("COMMIT") {
+        Ok(_) => {}
+        Err(error) => return Err(open_fault_of(error)),
+    }
+    Ok(())
 }
 
 impl<S: Alter> SqlStore<S> {
@@ -55,6 +75,8 @@ impl<S: Alter> SqlStore<S> {
         ensures limits { IfOk result (λ store. store.limits ≡ limits) }
         ensures premise { IfOk result (λ store. IsOpenOnHonestDisk S.Store store.conn
             → IsOpenOnHonestDisk S.Store connection) }
+        ensures opened { IfOk result (λ store. HasCleanDisk S.Store store.conn
+            → IsConnectionOpen S.Store store.conn) }
         ensures changes_nothing { IfOk result
             (λ store. ChangesNothing S.Store connection store.conn) }
         ensures refused { IfErr result (λ refused.
@@ -62,15 +84,20 @@ impl<S: Alter> SqlStore<S> {
     {
         let mut conn = connection;
         assert_no_pending_writes(&conn);
-        match count_tombstones(alloc, &mut conn, Limits::standard()) {
-            Ok(found) => Ok(SqlStore {
-                conn,
-                limits,
-                counts: counts_of(alloc, found.as_slice()),
-                alloc,
-            }),
-            Err(fault) => Err((fault, conn)),
+        let found = match count_tombstones(alloc, &mut conn, Limits::standard()) {
+            Ok(found) => found,
+            Err(fault) => return Err((fault, conn)),
+        };
+        match check_still_open(&mut conn) {
+            Ok(()) => {}
+            Err(fault) => return Err((fault, conn)),
         }
+        Ok(SqlStore {
+            conn,
+            limits,
+            counts: counts_of(alloc, found.as_slice()),
+            alloc,
+        })
     }
 }
 
@@ -89,6 +116,8 @@ impl<S: Alter + Drop> SqlStore<S> {
         ensures limits { IfOk result (λ store. store.limits ≡ limits) }
         ensures premise { IfOk result (λ store. IsOpenOnHonestDisk S.Store store.conn
             → IsOpenOnHonestDisk S.Store connection) }
+        ensures opened { IfOk result (λ store. HasCleanDisk S.Store store.conn
+            → IsConnectionOpen S.Store store.conn) }
         ensures changes_nothing { IfOk result
             (λ store. ChangesNothing S.Store connection store.conn) }
         ensures refused { IfErr result (DropsRefused S.Store connection) }

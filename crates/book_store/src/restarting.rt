@@ -1,22 +1,24 @@
 //! The end of a run of a store in files, and the opening by the next run.
 ghost use Rattle.book_model.specs.Books.{Books};
-ghost use Rattle.book_store.specs.Restarts.{HasRestartCause, HoldsStore, declared_over};
-ghost use Rattle.book_store.specs.StoreViews.{StoredTrees};
+ghost use Rattle.book_store.specs.Restarts.{HasCrashCause, HasRestartCause, HoldsStore, LeftStore};
+ghost use Rattle.book_store.specs.Restarts.{declared_over};
+ghost use Rattle.book_store.specs.StoreViews.{LeftTrees, table_model};
 ghost use Rattle.database_files.specs.Restarts.{LeaveOneOf};
-ghost use Rattle.sqlite.specs.Files.{IsCleanLeft, file_state, image_of};
+ghost use Rattle.sqlite.specs.Files.{IsCleanLeft, file_state, image_of, over_files};
 ghost use Rattle.sqlite.specs.State.{HasCleanDisk};
 ghost use Rattle.sqlite.specs.WalReads.{AreClean};
 ghost use Rattle.store_lookups.specs.StoredBooks.{IsOpenOnHonestDisk, stored_books};
 ghost use Rattle.store_schema.specs.OpenFaults.{IsErrorFault};
 ghost use Rattle.store_writes.specs.TableChanges.{TreesHold};
+ghost use Rattle.sync_core.specs.StoreCrashes.{IsSettled, RestartsFrom};
 ghost use Rattle.std.specs.Prelude.{◌≡◌, IfErr, IfOk, IsTrue};
 
-use crate::laws::stores_survive_crashes;
+use crate::laws::{left_stores_open, stores_survive_crashes};
 use crate::sql_store::SqlStore;
 use book_model::Limits;
 use database_files as runs;
-use sqlite::{FileStore, Files, Leftover, Options};
-use sqlite_disk::Disk;
+use sqlite::{Alter, FileStore, Files, Leftover, Options};
+use sqlite_disk::{Crash, Disk};
 use std::alloc::Global;
 use store_schema::{OpenFault, open_fault_of};
 
@@ -26,7 +28,7 @@ impl<D: Disk + Drop> SqlStore<FileStore<D>> {
     /// what was written. That is so also if the connection was closed. If it was open, the books are
     /// those of the store.
     pub fn into_files(self) -> Files<D>
-        ensures leaves { LeaveOneOf D.Disk result StoredTrees }
+        ensures leaves { LeaveOneOf D.Disk result (LeftTrees (file_state self.conn)) }
         ensures books { IsOpenOnHonestDisk (file_state self.conn) → LeaveOneOf D.Disk result
             (TreesHold (stored_books (file_state self.conn))) }
         ensures clean { AreClean D.Disk result.log result.db → HasCleanDisk (file_state self.conn) }
@@ -48,6 +50,8 @@ impl<D: Disk + Drop> SqlStore<FileStore<D>> {
         requires log { IsTrue (D.Disk.is_usable files.log) }
         requires db { IsTrue (D.Disk.is_usable files.db) }
         ensures limits { IfOk result (λ store. store.limits ≡ limits) }
+        ensures honest { IfOk result (λ store. HasCleanDisk (file_state store.conn)
+            → AreClean D.Disk files.log files.db × IsTrue (file_state store.conn).is_open) }
         ensures opens { (books : Books) → HoldsStore (image_of D.Disk files) books
             → IfOk result (λ store. IsOpenOnHonestDisk (file_state store.conn)
             → stored_books (file_state store.conn) ≡ books) }
@@ -66,5 +70,50 @@ impl<D: Disk + Drop> SqlStore<FileStore<D>> {
             },
             Err((error, left)) => Err((open_fault_of(error), left)),
         }
+    }
+}
+
+impl<D: Crash + Drop> SqlStore<FileStore<D>> {
+    /// The files after a crash at this moment. They hold a store, with books that the crash may
+    /// leave, as long as the disk has returned what was written.
+    pub fn crash(self) -> Files<D>
+        ensures leaves { AreClean D.Disk result.log result.db
+            → ∥ LeftStore (file_state self.conn) (image_of D.Disk result) ∥₁ }
+        ensures log { IsTrue (D.Disk.is_usable result.log) }
+        ensures db { IsTrue (D.Disk.is_usable result.db) }
+    {
+        left_stores_open();
+        runs::crash_files(self.into_files())
+    }
+
+    /// Crashes at this moment, and opens the store again, with the same limits. That fails only for
+    /// a cause that `open_again` gives, over the files that `crash` leaves.
+    pub fn restart(
+        self,
+        alloc: Global,
+        options: Options,
+    ) -> Result<SqlStore<FileStore<D>>, (OpenFault, Leftover<D>)>
+        ensures restarts { IfOk result (RestartsFrom (table_model over_files) self) }
+        ensures cause { IfErr result (λ refused.
+            HasCrashCause (file_state self.conn) refused.1 refused.0) }
+    {
+        let limits = self.limits;
+        let store = match SqlStore::open_again(alloc, self.crash(), options, limits) {
+            Ok(store) => store,
+            Err(refused) => return Err(refused),
+        };
+        store.assert_settled();
+        Ok(store)
+    }
+}
+
+impl<S: Alter> SqlStore<S> {
+    /// Proves for its caller that a crash of an open store leaves its books, as `live` asks of the
+    /// store that it begins with. It has no other effect.
+    pub fn assert_settled(&self)
+        ensures { IsSettled (table_model S.Store) self.now }
+    {
+        // A field that is read gives the proof the store's invariant.
+        let _connection = &self.conn;
     }
 }

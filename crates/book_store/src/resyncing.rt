@@ -2,6 +2,7 @@
 ghost use Rattle.book_store.specs.StoreResyncs.{ResyncsStore};
 ghost use Rattle.std.specs.Prelude.{◌≤◌};
 
+use crate::answering::outcome_if_open;
 use crate::sql_store::SqlStore;
 use book_model::Denied;
 use sqlite::Alter;
@@ -20,12 +21,13 @@ impl<S: Alter> SqlStore<S> {
         requires some { 1 ≤ pairs }
         ensures changes { ResyncsStore S.Store self.old self.new pairs result }
     {
-        resync_in_tables(
+        let outcome = resync_in_tables(
             self.alloc,
             &mut self.conn,
             &mut self.counts,
             self.limits,
             pairs,
-        )
+        );
+        outcome_if_open(&mut self.conn, outcome)
     }
 }

@@ -1,29 +1,64 @@
-use Rattle.std.proofs.Common.{refl, subst}
+use Rattle.std.proofs.Common.{Result, refl, subst}
+use Rattle.book_model.specs.declared.answers.PutAnswer.{PutAnswer}
 use Rattle.book_model.specs.Books.{Books}
 use Rattle.book_model.specs.Bounds.{Bounds}
 use Rattle.book_model.specs.Putting.{put_step}
-use Rattle.book_store.specs.StoreViews.{ChangesStore, StoreView}
-use Rattle.sqlite.specs.Held.{state}
-use Rattle.book_store.proofs.CountLemmas.{kept_counts}
 use Rattle.book_laws.proofs.WellFormedSteps.{putting_keeps_form}
 use Rattle.store_check.specs.OpenResults.{max_limits}
-use Rattle.book_store.proofs.StoreLemmas.{changed_store, changes_store}
+use Rattle.book_model.specs.WellFormed.{IsWellFormed}
+use Rattle.book_laws.specs.WellFormedLaws.{AreWithin, LeavesWellFormed}
+use Rattle.book_model.specs.declared.refusal.Refusal.{Refusal}
+use Rattle.sqlite.specs.Held.{state}
+use Rattle.store_lookups.specs.StoredBooks.{HoldCounts, KeepsCounts}
+use Rattle.book_store.specs.StoreViews.{ChangesStore, IsStore, StoreView}
+use Rattle.book_store.proofs.AnswerLemmas.{still_stored, tested_changes_store}
+use Rattle.book_store.proofs.StoreLemmas.{LeavesCommitted}
+use Rattle.book_store.proofs.calls.SqlStoreBookStore.put.Given as given
 use Rattle.book_store.proofs.calls.SqlStoreBookStore.put.Goals as goal
+use Rattle.book_store.proofs.calls.SqlStoreBookStore.put.Goals.{After-outcome_if_open}
+
+-- ---- the call and the test of its connection
+
+module _ (g : given.Over) (c : After-outcome_if_open g) where
+  abbrev old : StoreView g.row.S.Denot
+  old = record { conn = c.self.inside.conn; limits = c.self.inside.limits }
+
+  abbrev mid : StoreView g.row.S.Denot
+  mid = record { conn = c.put_in_book-outcome.new.conn; limits = c.self.inside.limits }
+
+  abbrev new : StoreView g.row.S.Denot
+  new = record { conn = c.outcome_if_open.new.conn; limits = c.self.inside.limits }
+
+  abbrev step : Bounds → Books → Result (PutAnswer × Books) Refusal
+  step = λ (limits : Bounds) (books : Books). put_step limits books c.args.book.now c.args.card.now c.args.expect
+
+  keeps : AreWithin c.self.inside.limits max_limits → (books : Books) → IsWellFormed max_limits books → LeavesWellFormed max_limits (step c.self.inside.limits books)
+  keeps = (λ fits books well. putting_keeps_form c.self.inside.limits max_limits books c.args.book.now c.args.card.now c.args.expect fits well)
+
+  alone : LeavesCommitted (state g.S.Store c.outcome_if_open.new.conn)
+  alone trees up may = g.met.S.Store.settled c.outcome_if_open.new.conn.store trees up may
+
+  counts : KeepsCounts (state g.S.Store c.self.inside.conn) (state g.S.Store c.put_in_book-outcome.new.conn) c.self.inside.counts c.put_in_book-outcome.new.counts
+  counts = c.put_in_book-outcome.ensures.counts
+
+  changes : ChangesStore g.S.Store old new c.outcome_if_open.result step
+  changes =
+      tested_changes_store g.S.Store old mid new c.self.inside.counts c.put_in_book-outcome.new.counts c.put_in_book-outcome.result c.outcome_if_open.result step c.self.invariant.0 c.self.invariant.1 alone refl keeps c.put_in_book-outcome.ensures.changes c.put_in_book-outcome.ensures.crash counts
+      c.outcome_if_open.ensures.reads_only c.outcome_if_open.ensures.stands c.outcome_if_open.ensures.done c.outcome_if_open.ensures.opened c.put_in_book-outcome.ensures.store_fault
+
+  stored : IsStore (state g.S.Store c.outcome_if_open.new.conn) c.self.inside.limits × HoldCounts (state g.S.Store c.outcome_if_open.new.conn) c.put_in_book-outcome.new.counts
+  stored =
+      still_stored g.S.Store old mid new c.self.inside.counts c.put_in_book-outcome.new.counts c.put_in_book-outcome.result c.outcome_if_open.result step c.self.invariant.0 c.self.invariant.1 alone refl keeps c.put_in_book-outcome.ensures.changes c.put_in_book-outcome.ensures.crash counts
+      c.outcome_if_open.ensures.reads_only c.outcome_if_open.ensures.stands c.outcome_if_open.ensures.done c.outcome_if_open.ensures.opened
+
+-- ---- the clauses
 
 pub returns : goal.returns
 returns g c =
-    let new : StoreView _ = record { conn = c.put_in_book.new.conn; limits = c.self.inside.limits } in
-    let old : StoreView _ = record { conn = c.self.inside.conn; limits = c.self.inside.limits } in
-    let step = λ (limits : Bounds) (books : Books). put_step limits books c.args.book.now c.args.card.now c.args.expect in
+    let p = (goal.at.returns g c).After-outcome_if_open in
     record {
-      changes = subst (λ (v : StoreView _). ChangesStore g.S.Store v new c.put_in_book.result step) c.self.view_is
-          (changes_store g.S.Store old new c.put_in_book.result step c.self.invariant.0 refl c.put_in_book.ensures.changes c.put_in_book.ensures.crash c.put_in_book.ensures.store_fault);
+      changes = subst (λ (v : StoreView _). ChangesStore g.S.Store v (new g p) c.outcome_if_open.result (step g p)) c.self.view_is (changes g p);
     }
 
 pub invariant_of-self : goal.invariant_of-self
-invariant_of-self g c =
-    let old = state g.S.Store c.self.inside.conn in
-    let new = state g.S.Store c.put_in_book.new.conn in (
-      changed_store old new c.self.inside.limits c.put_in_book.result _ c.self.invariant.0 (λ fits books well. putting_keeps_form c.self.inside.limits max_limits books c.args.book.now c.args.card.now c.args.expect fits well) c.put_in_book.ensures.changes c.put_in_book.ensures.crash,
-      kept_counts old new c.self.inside.limits c.self.inside.counts c.put_in_book.new.counts c.put_in_book.result _ c.self.invariant.0 c.put_in_book.ensures.changes c.self.invariant.1 c.put_in_book.ensures.counts,
-    )
+invariant_of-self g c = stored g (goal.at.invariant_of-self g c).After-outcome_if_open

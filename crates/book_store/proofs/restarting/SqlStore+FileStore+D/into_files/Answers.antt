@@ -2,7 +2,7 @@ use Rattle.std.proofs.Common.{subst}
 use Rattle.sqlite.specs.Files.{file_state}
 use Rattle.database_files.specs.Restarts.{LeaveOneOf}
 use Rattle.store_lookups.specs.StoredBooks.{IsOpenOnHonestDisk, stored_books}
-use Rattle.book_store.specs.StoreViews.{StoredTrees}
+use Rattle.book_store.specs.StoreViews.{LeftTrees}
 use Rattle.store_writes.specs.TableChanges.{TreesHold}
 use Rattle.book_store.proofs.RestartLemmas.{left_books, left_stores}
 use Rattle.book_store.proofs.restarting.SqlStore+FileStore+D.into_files.Goals as goal
@@ -13,4 +13,6 @@ returns-clause-books g c =
     (left_books c.into_connection.result c.args.self.limits c.into_files.result c.stores_survive_crashes.ensures c.into_connection.ensures.is_store c.into_files.ensures.leaves)
 
 pub returns-clause-leaves : goal.returns-clause-leaves
-returns-clause-leaves g c = left_stores c.into_connection.result c.args.self.limits c.into_files.result c.into_connection.ensures.is_store c.into_files.ensures.clean c.into_files.ensures.leaves
+returns-clause-leaves g c =
+    subst (λ k. LeaveOneOf g.D.Disk c.into_files.result (LeftTrees (file_state k))) c.into_connection.ensures.same_connection
+    (left_stores c.into_connection.result c.args.self.limits c.into_files.result c.into_connection.ensures.is_store c.into_files.ensures.clean c.into_files.ensures.leaves)

@@ -15,6 +15,12 @@ returns-in-Ok-try_adopt-clause-opens g c books holds order =
     c.in-Ok-try_adopt.ensures.books order
     ∙ shown_books (image_of g.D.Disk c.args.files) books holds (file_state c.in-Ok.connection) (c.in-Ok.ensures.opens (declared_over holds.trees) holds.listed) before.0
 
+pub returns-in-Ok-try_adopt-clause-honest : goal.returns-in-Ok-try_adopt-clause-honest
+returns-in-Ok-try_adopt-clause-honest g c clean =
+    let adopted = c.in-Ok-try_adopt.ensures in
+    let early = clean_before _ (file_state c.in-Ok.connection) (file_state c.in-Ok-try_adopt.store.conn) adopted.changes_nothing.survives clean in
+    (c.in-Ok.ensures.honest early, adopted.opened clean)
+
 pub returns-in-Err-clause-cause : goal.returns-in-Err-clause-cause
 returns-in-Err-clause-cause g c books holds clean =
     unopened_cause (declared_over holds.trees) c.args.files c.in-Err.left c.in-Err.error c.open_fault_of.result c.open_fault_of.ensures.kind c.open_fault_of.ensures.value
