@@ -2,8 +2,10 @@
 #![tactic(auto)]
 
 mod first_schema;
+mod lives;
 mod memory;
 mod stops;
 
+pub use lives::DiskCrashes;
 pub use memory::{Stop, run_all_cases, run_chosen};
 pub use stops::run_sweeps;
