@@ -97,10 +97,20 @@ def check_book(book, members, keeps):
         check_member(book, *member)
 
 
+def is_uid(octets):
+    """UTF-8 of 1 to 255 octets, without a tab."""
+    try:
+        octets.decode()
+    except UnicodeDecodeError:
+        return False
+    return 1 <= len(octets) <= 255 and b"\t" not in octets
+
+
 def check_member(book, uid, changed, text):
-    """One of the book's changes wrote it. A live member has its own card, in the canonical text,
-    and a removed one is still remembered. Nothing is asked of a removed member's UID."""
+    """One of the book's changes wrote it, and its UID is one that a card can have. A live member has
+    its own card, in the canonical text, and a removed one is still remembered."""
     need(1 <= changed <= book["number"])
+    need(is_uid(uid))
     if text is None:
         need(changed > book["horizon"])
     else:
