@@ -14,7 +14,7 @@ def procs():
 def rank(p):
     try: c=os.readlink(f"/proc/{p}/cwd")
     except OSError: return 9
-    return 0 if c.startswith("/work/conv/") else 1 if c.startswith("/work/conv2") else 2
+    return 0 if c.startswith("/work/conv") else 1
 while True:
     ps=procs()
     tries=sorted([x for x in ps if x[1]=="rattle-try"],key=lambda x:(rank(x[0]),x[4]))
