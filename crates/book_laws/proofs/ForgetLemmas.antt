@@ -19,5 +19,7 @@ forgetting_follows histories name upto all =
     let rises : history.horizon ≤ upto = leb-true _ _ parts.0 in
     let within_log : upto ≤ length history.log = leb-true _ _ parts.1 in (
       dropped_is history upto,
-      wrote_history histories name (with_horizon history upto) (book_after_forget (book_of_history history) upto) all (sound_forgotten history upto sound rises within_log) (book_forgotten history upto rises),
+      wrote_history histories name (with_horizon history upto)
+          (book_after_forget (book_of_history history) upto) all (sound_forgotten history upto sound
+          rises within_log) (book_forgotten history upto rises),
     )))

@@ -21,18 +21,22 @@ edited number = number >>= λ version. Ok (Edited version)
 abbrev pub Live : Type 0
 Live = Option (ℕ × Bor (List Line))
 
-module _ (card : List Line) (version : ℕ) (stored : Bor (List Line)) (live : Live) (is : live ≡ Some (version, stored)) where
+module _ (card : List Line) (version : ℕ) (stored : Bor (List Line)) (live : Live) (is :
+    live ≡ Some (version, stored)) where
   module _ (limits : Bounds) (found : FoundMember) where
     at_live : Live → Result PutAnswer Refusal
     at_live o = answer_over_live limits found card (as_stored o)
 
-    pub over_same : stored.now ≡ card → Ok (Unchanged version) ≡ answer_over_live limits found card (as_stored live)
+    pub over_same : stored.now ≡ card → Ok (Unchanged version) ≡ answer_over_live limits found card
+        (as_stored live)
     unfolding at_live
     over_same e = sym (ap at_live is ∙ cond-true _ _ _ ((card-Decides stored.now card).1 e))
 
-    pub over_other : stored.now ≢ card → edited (next_number limits found.number) ≡ answer_over_live limits found card (as_stored live)
+    pub over_other : stored.now ≢ card → edited (next_number limits found.number)
+        ≡ answer_over_live limits found card (as_stored live)
     unfolding at_live
-    over_other ne = sym (ap at_live is ∙ cond-false _ _ _ (false_from_ne_true _ (λ e. ne ((card-Decides stored.now card).0 e))))
+    over_other ne = sym (ap at_live is
+        ∙ cond-false _ _ _ (false_from_ne_true _ (λ e. ne ((card-Decides stored.now card).0 e))))
 
   reason_at : Live → Option StoreReason
   reason_at o = import_reason card (as_stored o)
@@ -43,4 +47,5 @@ module _ (card : List Line) (version : ℕ) (stored : Bor (List Line)) (live : L
 
   pub reason_other : stored.now ≢ card → Some ImportEdit ≡ import_reason card (as_stored live)
   unfolding reason_at
-  reason_other ne = sym (ap reason_at is ∙ cond-false _ _ _ (false_from_ne_true _ (λ e. ne ((card-Decides stored.now card).0 e))))
+  reason_other ne = sym (ap reason_at is
+      ∙ cond-false _ _ _ (false_from_ne_true _ (λ e. ne ((card-Decides stored.now card).0 e))))

@@ -1,5 +1,6 @@
 -- The test of two cards, line by line, decides whether they are equal.
-use Rattle.std.proofs.Common.{◌≡◌, Bool, List, Option, Some, None, bytes_eq, refl, ap, ◌∙◌, Decides, ℕ}
+use Rattle.std.proofs.Common.{◌≡◌, Bool, List, Option, Some, None, bytes_eq, refl, ap, ◌∙◌, Decides}
+use Rattle.std.proofs.Common.{ℕ}
 use Rattle.std.specs.Cmp.{booleans_Decides}
 use Rattle.std.specs.Option.{option_eq}
 use Rattle.std.specs.Cmp.Lexicographic.{pointwise}
@@ -16,8 +17,11 @@ value-Decides a b = (
   λ e. let parts = and_parts _ _ e in
       let quoted : a.quoted ≡ b.quoted = (booleans_Decides a.quoted b.quoted).0 parts.0 in
       let text : a.text ≡ b.text = (bytes_eq-Decides a.text b.text).0 parts.1 in
-      ap (λ (q : Bool). let v : ParamValue = record { quoted = q; text = a.text } in v) quoted ∙ ap (λ (t : List ℕ). let v : ParamValue = record { quoted = b.quoted; text = t } in v) text,
-  λ e. both _ _ ((booleans_Decides a.quoted b.quoted).1 (ap (λ (v : ParamValue). v.quoted) e)) ((bytes_eq-Decides a.text b.text).1 (ap (λ (v : ParamValue). v.text) e)),
+      ap (λ (q : Bool). let v : ParamValue = record { quoted = q; text = a.text } in v) quoted
+      ∙ ap (λ (t : List ℕ). let v : ParamValue = record { quoted = b.quoted; text = t } in
+      v) text,
+  λ e. both _ _ ((booleans_Decides a.quoted b.quoted).1 (ap (λ (v : ParamValue). v.quoted) e))
+      ((bytes_eq-Decides a.text b.text).1 (ap (λ (v : ParamValue). v.text) e)),
 )
 
 values-Decides : (xs ys : List ParamValue) → Decides (pointwise same_value xs ys) (xs ≡ ys)
@@ -28,8 +32,11 @@ param-Decides a b = (
   λ e. let parts = and_parts _ _ e in
       let name : a.name ≡ b.name = (bytes_eq-Decides a.name b.name).0 parts.0 in
       let values : a.values ≡ b.values = (values-Decides a.values b.values).0 parts.1 in
-      ap (λ (n : List ℕ). let p : Param = record { name = n; values = a.values } in p) name ∙ ap (λ (vs : List ParamValue). let p : Param = record { name = b.name; values = vs } in p) values,
-  λ e. both _ _ ((bytes_eq-Decides a.name b.name).1 (ap (λ (p : Param). p.name) e)) ((values-Decides a.values b.values).1 (ap (λ (p : Param). p.values) e)),
+      ap (λ (n : List ℕ). let p : Param = record { name = n; values = a.values } in p) name
+      ∙ ap (λ (vs : List ParamValue). let p : Param = record { name = b.name; values = vs } in
+      p) values,
+  λ e. both _ _ ((bytes_eq-Decides a.name b.name).1 (ap (λ (p : Param). p.name) e))
+      ((values-Decides a.values b.values).1 (ap (λ (p : Param). p.values) e)),
 )
 
 params-Decides : (xs ys : List Param) → Decides (pointwise same_param xs ys) (xs ≡ ys)
@@ -39,7 +46,11 @@ group-Decides : (a b : Option (List ℕ)) → Decides (option_eq bytes_eq a b) (
 group-Decides None None = (λ e. refl, λ e. refl)
 group-Decides None (Some y) = (λ e. cc, λ e. cc)
 group-Decides (Some x) None = (λ e. cc, λ e. cc)
-group-Decides (Some x) (Some y) = (λ e. ap Some ((bytes_eq-Decides x y).0 e), λ e. let is : x ≡ y = cc in (bytes_eq-Decides x y).1 is)
+group-Decides (Some x) (Some y) = (
+  λ e. ap Some ((bytes_eq-Decides x y).0 e),
+  λ e. let is :
+      x ≡ y = cc in (bytes_eq-Decides x y).1 is,
+)
 
 line-Decides : (a b : Line) → Decides (same_line a b) (a ≡ b)
 line-Decides a b = (
@@ -57,7 +68,8 @@ line-Decides a b = (
       ∙ ap (λ (v : List ℕ). line b.group b.name b.params v) value,
   λ e. both _ _
       (both _ _
-      (both _ _ ((group-Decides a.group b.group).1 (ap (λ (l : Line). l.group) e)) ((bytes_eq-Decides a.name b.name).1 (ap (λ (l : Line). l.name) e)))
+      (both _ _ ((group-Decides a.group b.group).1 (ap (λ (l : Line). l.group) e))
+      ((bytes_eq-Decides a.name b.name).1 (ap (λ (l : Line). l.name) e)))
       ((params-Decides a.params b.params).1 (ap (λ (l : Line). l.params) e)))
       ((bytes_eq-Decides a.value b.value).1 (ap (λ (l : Line). l.value) e)),
 )

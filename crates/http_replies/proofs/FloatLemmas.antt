@@ -7,7 +7,8 @@ use Rattle.book_model.specs.declared.answers.BookLine.{BookLine}
 use Rattle.card_core.specs.declared.expansion.Expansion.{Expansion}
 use Rattle.http_replies.specs.ReplyValues.{book_value, books_value, people_value}
 
-book_values_have_none : (books : List BookLine) → items_have_float (items_of (map book_value books)) ≡ false
+book_values_have_none : (books : List BookLine) → items_have_float (items_of (map book_value books))
+    ≡ false
 book_values_have_none [] = refl
 book_values_have_none (book ∷ books) = book_values_have_none books
 

@@ -6,11 +6,13 @@ use Rattle.page_json.specs.declared.fault.ReportFault.{ReportFault}
 use Rattle.page_json.specs.declared.fault.ReportFault.TheVariants.{BadCard, Memory}
 use Rattle.page_json.specs.FaultNumbers.{fault_of_card}
 
-pub err_map : {T E : Type 0} {P Q : E → Type 0} (r : Result T E) → ((e : E) → P e → Q e) → IfErr r P → IfErr r Q
+pub err_map : {T E : Type 0} {P Q : E → Type 0} (r : Result T E) → ((e : E) → P e → Q e) → IfErr r P
+    → IfErr r Q
 err_map (Ok x) f p = tt
 err_map (Err e) f p = f e p
 
-pub bad_card_fault : (fault : CardFault) (why : ReportFault) → why ≡ fault_of_card fault → why ≢ Memory → (why ≡ BadCard) × (fault ≢ card.Memory)
+pub bad_card_fault : (fault : CardFault) (why : ReportFault) → why ≡ fault_of_card fault
+    → why ≢ Memory → (why ≡ BadCard) × (fault ≢ card.Memory)
 bad_card_fault card.TooLong why e n = (e, λ m. cc m)
 bad_card_fault card.NotUtf8 why e n = (e, λ m. cc m)
 bad_card_fault card.BadChar why e n = (e, λ m. cc m)

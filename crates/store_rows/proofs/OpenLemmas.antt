@@ -27,7 +27,8 @@ without_null (id ∷ []) = id ∷ []
 without_null (id ∷ null ∷ rest) = id ∷ rest
 
 -- the table holds the items of its result rows, with the null column
-module _ {X : Type 0} (row shown : X → Row) (cells listed : Row → Row) (of_item : (x : X) → with_null (shown x) ≡ row x) (of_row : (r : Row) → with_null (listed r) ≡ cells r) where
+module _ {X : Type 0} (row shown : X → Row) (cells listed : Row → Row) (of_item : (x : X)
+    → with_null (shown x) ≡ row x) (of_row : (r : Row) → with_null (listed r) ≡ cells r) where
   all_items : (xs : List X) → map (λ x. with_null (shown x)) xs ≡ map row xs
   all_items [] = refl
   all_items (x ∷ xs) = ap₂ (λ a l. a ∷ l) (of_item x) (all_items xs)
@@ -36,13 +37,16 @@ module _ {X : Type 0} (row shown : X → Row) (cells listed : Row → Row) (of_i
   all_rows [] = refl
   all_rows (r ∷ rs) = ap₂ (λ a l. a ∷ l) (of_row r) (all_rows rs)
 
-  pub shown_held : (xs : List X) (rows : List Row) → IsPermutation (map listed rows) (map shown xs) → IsPermutation (map row xs) (map cells rows)
+  pub shown_held : (xs : List X) (rows : List Row) → IsPermutation (map listed rows) (map shown xs)
+      → IsPermutation (map row xs) (map cells rows)
   shown_held xs rows h =
       subst (λ l. IsPermutation l (map cells rows)) (map-map with_null shown xs ∙ all_items xs)
-      (subst (IsPermutation (map with_null (map shown xs))) (map-map with_null listed rows ∙ all_rows rows) (IsPermutation-sym _ _ (IsPermutation-map with_null _ _ h)))
+      (subst (IsPermutation (map with_null (map shown xs))) (map-map with_null listed rows
+      ∙ all_rows rows) (IsPermutation-sym _ _ (IsPermutation-map with_null _ _ h)))
 
 -- and its result rows are those of the items that it holds
-module _ {X : Type 0} (row shown : X → Row) (cells listed : Row → Row) (of_item : (x : X) → without_null (row x) ≡ shown x) (of_row : (r : Row) → without_null (cells r) ≡ listed r) where
+module _ {X : Type 0} (row shown : X → Row) (cells listed : Row → Row) (of_item : (x : X)
+    → without_null (row x) ≡ shown x) (of_row : (r : Row) → without_null (cells r) ≡ listed r) where
   shown_items : (xs : List X) → map (λ x. without_null (row x)) xs ≡ map shown xs
   shown_items [] = refl
   shown_items (x ∷ xs) = ap₂ (λ a l. a ∷ l) (of_item x) (shown_items xs)
@@ -51,33 +55,45 @@ module _ {X : Type 0} (row shown : X → Row) (cells listed : Row → Row) (of_i
   shown_rows [] = refl
   shown_rows (r ∷ rs) = ap₂ (λ a l. a ∷ l) (of_row r) (shown_rows rs)
 
-  pub held_shown : (xs : List X) (rows : List Row) → IsPermutation (map row xs) (map cells rows) → IsPermutation (map listed rows) (map shown xs)
+  pub held_shown : (xs : List X) (rows : List Row) → IsPermutation (map row xs) (map cells rows)
+      → IsPermutation (map listed rows) (map shown xs)
   held_shown xs rows h =
-      subst (λ l. IsPermutation l (map shown xs)) (map-map without_null cells rows ∙ shown_rows rows)
-      (subst (IsPermutation (map without_null (map cells rows))) (map-map without_null row xs ∙ shown_items xs) (IsPermutation-sym _ _ (IsPermutation-map without_null _ _ h)))
+      subst (λ l. IsPermutation l (map shown xs)) (map-map without_null cells rows
+      ∙ shown_rows rows)
+      (subst (IsPermutation (map without_null (map cells rows))) (map-map without_null row xs
+      ∙ shown_items xs) (IsPermutation-sym _ _ (IsPermutation-map without_null _ _ h)))
 
-pub listed_held : (db : Database) (rows : TableRows) → db.schema ≡ book_schema → ObeyTables db.trees → ListsRows db rows → HoldsRows db rows
+pub listed_held : (db : Database) (rows : TableRows) → db.schema ≡ book_schema → ObeyTables db.trees
+    → ListsRows db rows → HoldsRows db rows
 listed_held db rows schema obeys h = record {
   schema = schema;
   obeys = obeys;
-  meta = one_permutation (schema_row schema_number) (map meta_listed (db.trees 0)) (IsPermutation-sym _ _ h.meta);
-  books = shown_held book_row book_shown book_cells book_listed (λ _. refl) (λ _. refl) rows.books (db.trees 2) h.books;
+  meta = one_permutation (schema_row schema_number) (map meta_listed (db.trees 0))
+      (IsPermutation-sym _ _ h.meta);
+  books = shown_held book_row book_shown book_cells book_listed (λ _. refl) (λ _. refl) rows.books
+      (db.trees 2) h.books;
   members = IsPermutation-sym _ _ h.members;
   imports = IsPermutation-sym _ _ h.imports;
-  keeps = shown_held keep_row keep_pair keep_cells keep_listed (λ _. refl) (λ _. refl) rows.keeps (db.trees 9) h.keeps;
+  keeps = shown_held keep_row keep_pair keep_cells keep_listed (λ _. refl) (λ _. refl) rows.keeps
+      (db.trees 9) h.keeps;
 }
 
 held_listed : (db : Database) (rows : TableRows) → HoldsRows db rows → ListsRows db rows
 held_listed db rows h = record {
   meta = IsPermutation-same (map meta_listed (db.trees 0)) (schema_row schema_number ∷ []) h.meta;
-  books = held_shown book_row book_shown book_cells book_listed (λ _. refl) (λ _. refl) rows.books (db.trees 2) h.books;
+  books = held_shown book_row book_shown book_cells book_listed (λ _. refl) (λ _. refl) rows.books
+      (db.trees 2) h.books;
   members = IsPermutation-sym _ _ h.members;
   imports = IsPermutation-sym _ _ h.imports;
-  keeps = held_shown keep_row keep_pair keep_cells keep_listed (λ _. refl) (λ _. refl) rows.keeps (db.trees 9) h.keeps;
+  keeps = held_shown keep_row keep_pair keep_cells keep_listed (λ _. refl) (λ _. refl) rows.keeps
+      (db.trees 9) h.keeps;
 }
 
 pub listed_rows_held : ListedRowsAreHeld
-listed_rows_held db rows schema = (λ both. listed_held db rows schema both.0 both.1, λ held. (held.obeys, held_listed db rows held))
+listed_rows_held db rows schema = (
+  λ both. listed_held db rows schema both.0 both.1,
+  λ held. (held.obeys, held_listed db rows held),
+)
 
 pub new_tables_empty : NewTablesAreEmpty
 new_tables_empty db h = record {

@@ -1,5 +1,7 @@
 -- The cause of an error of the INSERT of a member, where no constraint is broken.
-use Rattle.std.proofs.Common.{◌≡◌, ◌≢◌, ◌⊎◌, inl, inr, ℕ, ℤ, ◌≤◌, ◌^◌, true, List, [], ◌∷◌, length, option_map, Option, Some, None, Ok, Err, Result, IfErr, IsSome, refl, sym, ap, subst, ◌∙◌, true≢false}
+use Rattle.std.proofs.Common.{◌≡◌, ◌≢◌, ◌⊎◌, inl, inr, ℕ, ℤ, ◌≤◌, ◌^◌, true, List, [], ◌∷◌, length}
+use Rattle.std.proofs.Common.{option_map, Option, Some, None, Ok, Err, Result, IfErr, IsSome, refl}
+use Rattle.std.proofs.Common.{sym, ap, subst, ◌∙◌, true≢false}
 use Rattle.std.specs.Prelude.{IfSome}
 use Rattle.sqlite.specs.Does.{Concludes, OnRows}
 use Rattle.sqlite.specs.Edit.{Edit, edit_of}
@@ -19,7 +21,8 @@ use Rattle.sqlite.specs.declared.types.Value.TheVariants.{Null, Int, Text}
 use Rattle.sqlite_rules.specs.Action.{Writes}
 use Rattle.sqlite_rules.specs.Edit.{IsRefused, is_referred, next_rowid}
 use Rattle.sqlite_rules.specs.declared.error.Refusal.{Refusal}
-use Rattle.sqlite_rules.specs.declared.error.Refusal.TheVariants.{Violates, Mismatch, NoRowid, BadReference, TooDeep}
+use Rattle.sqlite_rules.specs.declared.error.Refusal.TheVariants.{Violates, Mismatch, NoRowid}
+use Rattle.sqlite_rules.specs.declared.error.Refusal.TheVariants.{BadReference, TooDeep}
 use Rattle.sqlite_schema.specs.declared.schema.Constraint.TheVariants.{ForeignKey}
 use Rattle.sqlite_schema.specs.declared.schema.Keys.TheVariants.{Enforced}
 use Rattle.sqlite_sql.specs.Ops.{fits_i64}
@@ -41,11 +44,15 @@ same_error : {B E : Type 0} {a b : E} → ◌≡◌ {A = Result B E} (Err a) (Er
 same_error e = cc
 
 -- a statement that stops at some part stops as that part does
-stops_at : {B E : Type 0} {stop : E} {Stops : E → Type 0} {R : Type 0} (Q : E → Type 0) → ((s : E) × Stops s × (◌≡◌ {A = Result B E} (Err stop) (Err s))) ⊎ R → ((s : E) → Stops s → Q s) → (R → Q stop) → Q stop
+stops_at : {B E : Type 0} {stop : E} {Stops : E → Type 0} {R : Type 0} (Q : E → Type 0)
+    → ((s : E) × Stops s × (◌≡◌ {A = Result B E} (Err stop) (Err s))) ⊎ R
+    → ((s : E) → Stops s → Q s) → (R → Q stop) → Q stop
 stops_at Q (inl h) first next = subst Q (sym (same_error h.2)) (first h.0 h.1)
 stops_at Q (inr h) first next = next h
 
-module _ (limit : Option ℕ) (book : ℤ) (uid : List ℕ) (changed : ℤ) (card : Option (List ℕ)) (db : Trees) (short : length uid ≤ 2 ^ 20) (slim : IfSome card (λ text. length text ≤ 2 ^ 20)) (fits : fits_i64 (next_rowid (db 4)) ≡ true) where
+module _ (limit : Option ℕ) (book : ℤ) (uid : List ℕ) (changed : ℤ) (card : Option (List ℕ)) (db :
+    Trees) (short : length uid ≤ 2 ^ 20) (slim : IfSome card (λ text. length text ≤ 2 ^ 20)) (fits :
+    fits_i64 (next_rowid (db 4)) ≡ true) where
   abbrev params : Row
   params = Int book ∷ Text uid ∷ Int changed ∷ or_null Text card ∷ []
 
@@ -62,44 +69,60 @@ module _ (limit : Option ℕ) (book : ℤ) (uid : List ℕ) (changed : ℤ) (car
   unfolding everything
   referred = refl
 
-  by_rule : (why : Refusal) → IsRefused book_schema Enforced db (placing (member_row new)) why → Ends (Some (edit_error why))
+  by_rule : (why : Refusal) → IsRefused book_schema Enforced db (placing (member_row new)) why
+      → Ends (Some (edit_error why))
   by_rule (Violates rule) h = inr (rule, refl)
   by_rule Mismatch h = absurd (true≢false h)
   by_rule NoRowid h = absurd (true≢false (sym (last_term fits) ∙ h))
   by_rule BadReference h = absurd (true≢false (sym referred ∙ h))
   by_rule TooDeep h = absurd h
 
-  refused : (stop : Option Error) (why : Option Refusal) → stop ≡ option_map edit_error why → Writes book_schema Enforced db (placing (member_row new)) (Err why) → Ends stop
-  refused stop why is (inl h) = subst Ends (sym (is ∙ ap (option_map edit_error) (same_error h.2))) (by_rule h.0 h.1)
+  refused : (stop : Option Error) (why : Option Refusal) → stop ≡ option_map edit_error why
+      → Writes book_schema Enforced db (placing (member_row new)) (Err why) → Ends stop
+  refused stop why is (inl h) = subst Ends (sym (is ∙ ap (option_map edit_error) (same_error h.2)))
+      (by_rule h.0 h.1)
   refused stop why is (inr (inl big)) = absurd (member_fits new short slim big.0 big.1 big.2)
   refused stop why is (inr (inr went)) = absurd (unsettled went.2.0 went.0 why went.2.1)
 
   edit_is : edit_of db member [] Chosen 0 ((Null ∷ params) ∷ []) ≡ placing (member_row new)
-  edit_is = ap (λ (row : Row). placing (Rattle.sqlite_rules.specs.Edit.with_rowid Chosen (db 4) row)) (cast_new book uid changed card)
+  edit_is = ap (λ (row : Row). placing (Rattle.sqlite_rules.specs.Edit.with_rowid Chosen (db 4)
+      row)) (cast_new book uid changed card)
 
-  inserts : (stop : Option Error) → Inserts (task limit member params) (Values put_terms 5) db (Err stop) → Ends stop
+  inserts : (stop : Option Error) → Inserts (task limit member params) (Values put_terms 5) db
+      (Err stop) → Ends stop
   inserts stop h =
-      stops_at Ends h (λ s k. inl (values_stop limit (record { schema = book_schema; trees = db }) params put_terms 5 (values_typed book uid changed card) s k))
+      stops_at Ends h (λ s k. inl (values_stop limit (record { schema = book_schema; trees = db })
+      params put_terms 5 (values_typed book uid changed card) s k))
       (λ given. stops_at Ends given.2 (λ s k. never_stops _ s k)
       (λ counter. stops_at Ends counter.2
       (λ s k.
-      let did = subst (λ e. Edited book_schema Enforced db e (Err s)) edit_is (subst (λ rows. Edited book_schema Enforced db (edit_of db member [] Chosen 0 rows) (Err s)) given.1.1 k) in
+      let did = subst (λ e. Edited book_schema Enforced db e (Err s)) edit_is
+      (subst (λ rows. Edited book_schema Enforced db (edit_of db member [] Chosen 0 rows)
+      (Err s)) given.1.1 k) in
       refused s did.0 did.2 did.1)
       (λ mid. stops_at Ends mid.2 (λ s k. never_stops _ s k) (λ next. never_stops _ stop next.2))))
 
-  concludes : (w : Written) (stop : Option Error) → Concludes (task limit member params) outside None w (Err stop) → Ends stop
+  concludes : (w : Written) (stop : Option Error)
+      → Concludes (task limit member params) outside None w (Err stop) → Ends stop
   concludes w stop h =
-      stops_at Ends h (λ s k. subst Ends (sym k.1) (inr (ForeignKey, refl))) (λ it. stops_at Ends it.2 (λ s k. never_stops _ s k) (λ on. never_stops _ stop on.2))
+      stops_at Ends h (λ s k. subst Ends (sym k.1) (inr (ForeignKey, refl)))
+      (λ it. stops_at Ends it.2 (λ s k. never_stops _ s k) (λ on. never_stops _ stop on.2))
 
-  pub add_stops : (stop : Option Error) → OnRows (task limit member params) outside None add_member_command db (Err stop) → Ends stop
+  pub add_stops : (stop : Option Error) → OnRows (task limit member params) outside None
+      add_member_command db (Err stop) → Ends stop
   add_stops stop h = stops_at Ends h (λ s k. inserts s k) (λ it. concludes it.0 stop it.2)
 
-pub add_fails : (old new : State) (book : ℤ) (uid : List ℕ) (changed : ℤ) (card : Option (List ℕ)) (r : Result ℕ Error) → old.now.schema ≡ book_schema
-    → length uid ≤ 2 ^ 20 → IfSome card (λ text. length text ≤ 2 ^ 20) → fits_i64 (next_rowid (old.now.trees 4)) ≡ true
-    → ExecutesInside 0 add_member_text (Int book ∷ Text uid ∷ Int changed ∷ or_null Text card ∷ []) old new r
+pub add_fails : (old new : State) (book : ℤ) (uid : List ℕ) (changed : ℤ) (card : Option (List ℕ))
+    (r : Result ℕ Error) → old.now.schema ≡ book_schema
+    → length uid ≤ 2 ^ 20 → IfSome card (λ text. length text ≤ 2 ^ 20)
+    → fits_i64 (next_rowid (old.now.trees 4)) ≡ true
+    → ExecutesInside 0 add_member_text (Int book ∷ Text uid ∷ Int changed ∷ or_null Text card ∷ [])
+    old new r
     → IfErr r (λ e. (IsViolation e → ⊥) → e ≢ SqliteFailure OutOfMemory → HasOutsideCause old new)
 unfolding understood everything
 add_fails old new book uid changed card (Ok count) schema short slim fits h = tt
 add_fails old new book uid changed card (Err e) schema short slim fits h =
-    execute_fails_unless add_member_text (Int book ∷ Text uid ∷ Int changed ∷ or_null Text card ∷ []) old new schema add_member_command None add_member_is.0 tt refl refl (refl, refl)
-    IsViolation (λ stop did. add_stops old.step_limit book uid changed card old.now.trees short slim fits stop did) refl e h
+    execute_fails_unless add_member_text (Int book ∷ Text uid ∷ Int changed ∷ or_null Text card ∷
+    []) old new schema add_member_command None add_member_is.0 tt refl refl (refl, refl)
+    IsViolation (λ stop did. add_stops old.step_limit book uid changed card old.now.trees short slim
+    fits stop did) refl e h

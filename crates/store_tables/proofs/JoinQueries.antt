@@ -22,10 +22,13 @@ picks_pairs first second filter project = record {
 }
 
 abbrev pub named_text : List ℕ
-named_text = codes "SELECT changed, card FROM book JOIN member ON member.book = book.id WHERE book.name = ?1 AND member.uid = ?2"
+named_text =
+    codes
+    "SELECT changed, card FROM book JOIN member ON member.book = book.id WHERE book.name = ?1 AND member.uid = ?2"
 
 abbrev pub named_tests : List Term
-named_tests = op2 (Compare Eq Binary) (col 2 1) (col 1 0) ∷ op2 (Compare Eq Binary) (col 1 2) (col 0 0) ∷ op2 (Compare Eq Binary) (col 2 2) (col 0 1) ∷ []
+named_tests = op2 (Compare Eq Binary) (col 2 1) (col 1 0) ∷ op2 (Compare Eq Binary) (col 1 2)
+    (col 0 0) ∷ op2 (Compare Eq Binary) (col 2 2) (col 0 1) ∷ []
 
 abbrev pub named_terms : List Term
 named_terms = col 2 3 ∷ col 2 4 ∷ []

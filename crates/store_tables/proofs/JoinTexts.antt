@@ -9,7 +9,11 @@ use Rattle.store_tables.specs.Tables.{book_schema}
 use Rattle.store_tables.proofs.SelectLemmas.{IsSelectText}
 use Rattle.store_tables.proofs.JoinQueries.{named_text, named_query}
 
-pub named_is : (command_of (understood book_schema named_text) ≡ Select (record { lets = []; body = named_query }) (codes "changed" ∷ codes "card" ∷ [])) × (reads_listing book_schema named_text ≡ false) × IsPlain (understood book_schema named_text)
+pub named_is : (command_of (understood book_schema named_text) ≡ Select (record {
+  lets = [];
+  body = named_query;
+}) (codes "changed" ∷ codes "card" ∷ []))
+    × (reads_listing book_schema named_text ≡ false) × IsPlain (understood book_schema named_text)
 unfolding understood everything
 named_is = (refl, refl, (refl, refl))
 

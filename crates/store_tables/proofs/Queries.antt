@@ -16,7 +16,9 @@ use Rattle.sqlite.specs.Query.{Query, inner, end}
 use Rattle.sqlite_sql.specs.declared.aggregate.AggregateOp.TheVariants.{CountRows}
 
 abbrev pub put_text : List ℕ
-put_text = codes "INSERT INTO member (book, uid, changed, card) VALUES (?1, ?2, ?3, ?4) ON CONFLICT (book, uid) DO UPDATE SET changed = excluded.changed, card = excluded.card"
+put_text =
+    codes
+    "INSERT INTO member (book, uid, changed, card) VALUES (?1, ?2, ?3, ?4) ON CONFLICT (book, uid) DO UPDATE SET changed = excluded.changed, card = excluded.card"
 
 abbrev pub put_terms : List Term
 put_terms = lit Null ∷ col 0 0 ∷ col 0 1 ∷ col 0 2 ∷ col 0 3 ∷ []
@@ -36,10 +38,14 @@ picks tree filter project = record {
 }
 
 abbrev pub put_query : Query
-put_query = picks 4 (op2 (Compare Eq Binary) (col 1 0) (col 0 4) ∷ []) (col 1 0 ∷ col 1 0 ∷ col 1 1 ∷ col 1 2 ∷ col 0 8 ∷ col 0 9 ∷ [])
+put_query = picks 4 (op2 (Compare Eq Binary) (col 1 0) (col 0 4) ∷ [])
+    (col 1 0 ∷ col 1 0 ∷ col 1 1 ∷ col 1 2 ∷ col 0 8 ∷ col 0 9 ∷ [])
 
 abbrev pub put_clause : Upsert
-put_clause = record { target = Some (1 ∷ 2 ∷ []); update = Some (record { lets = []; body = put_query }) }
+put_clause = record {
+  target = Some (1 ∷ 2 ∷ []);
+  update = Some (record { lets = []; body = put_query });
+}
 
 abbrev pub put_command : Command
 put_command = InsertOr 2 Abort (Values put_terms 5) (put_clause ∷ [])
@@ -54,24 +60,35 @@ abbrev pub change_text : List ℕ
 change_text = codes "UPDATE member SET changed = ?3, card = ?4 WHERE book = ?1 AND uid = ?2"
 
 abbrev pub change_query : Query
-change_query = picks 4 (op2 (Compare Eq Binary) (col 1 1) (col 0 0) ∷ op2 (Compare Eq Binary) (col 1 2) (col 0 1) ∷ []) (col 1 0 ∷ col 1 0 ∷ col 1 1 ∷ col 1 2 ∷ col 0 2 ∷ col 0 3 ∷ [])
+change_query = picks 4 (op2 (Compare Eq Binary) (col 1 1) (col 0 0) ∷ op2 (Compare Eq Binary)
+    (col 1 2) (col 0 1) ∷ []) (col 1 0 ∷ col 1 0 ∷ col 1 1 ∷ col 1 2 ∷ col 0 2 ∷ col 0 3 ∷ [])
 
 abbrev pub find_text : List ℕ
 find_text = codes "SELECT changed, card FROM member WHERE book = ?1 AND uid = ?2"
 
 abbrev pub find_query : Query
-find_query = picks 4 (op2 (Compare Eq Binary) (col 1 1) (col 0 0) ∷ op2 (Compare Eq Binary) (col 1 2) (col 0 1) ∷ []) (col 1 3 ∷ col 1 4 ∷ [])
+find_query = picks 4 (op2 (Compare Eq Binary) (col 1 1) (col 0 0) ∷ op2 (Compare Eq Binary)
+    (col 1 2) (col 0 1) ∷ []) (col 1 3 ∷ col 1 4 ∷ [])
 
 abbrev pub due_text : List ℕ
-due_text = codes "SELECT uid, changed, card FROM member WHERE book = ?1 AND changed > ?2 AND (card IS NOT NULL OR changed > ?3) ORDER BY changed LIMIT ?4"
+due_text =
+    codes
+    "SELECT uid, changed, card FROM member WHERE book = ?1 AND changed > ?2 AND (card IS NOT NULL OR changed > ?3) ORDER BY changed LIMIT ?4"
 
 abbrev pub due_tests : List Term
 due_tests =
     op2 (Compare Eq Binary) (col 1 1) (col 0 0) ∷ op2 (Compare Gt Binary) (col 1 3) (col 0 1)
-    ∷ op2 Or (op1 Not (op2 (Is Binary) (col 1 4) (lit Null))) (op2 (Compare Gt Binary) (col 1 3) (col 0 2)) ∷ []
+    ∷ op2 Or (op1 Not (op2 (Is Binary) (col 1 4) (lit Null))) (op2 (Compare Gt Binary) (col 1 3)
+    (col 0 2)) ∷ []
 
 abbrev pub due_query : Query
-due_query = record (picks 4 due_tests (col 1 2 ∷ col 1 3 ∷ col 1 4 ∷ [])) { order = (col 1 3, record { collation = Binary; descending = false }) ∷ []; limit = col 0 3 }
+due_query = record (picks 4 due_tests (col 1 2 ∷ col 1 3 ∷ col 1 4 ∷ [])) {
+  order = (
+    col 1 3,
+    record { collation = Binary; descending = false },
+  ) ∷ [];
+  limit = col 0 3;
+}
 
 -- one table, sorted
 abbrev pub ordering : ℕ → List Term → List Term → List (Term × Key) → Query
@@ -82,10 +99,13 @@ rising by = (by, record { collation = Binary; descending = false }) ∷ []
 
 -- removed above a number
 abbrev pub count_tests : List Term
-count_tests = op2 (Compare Eq Binary) (col 1 1) (col 0 0) ∷ op2 (Is Binary) (col 1 4) (lit Null) ∷ op2 (Compare Gt Binary) (col 1 3) (col 0 1) ∷ []
+count_tests = op2 (Compare Eq Binary) (col 1 1) (col 0 0) ∷ op2 (Is Binary) (col 1 4) (lit Null) ∷
+    op2 (Compare Gt Binary) (col 1 3) (col 0 1) ∷ []
 
 abbrev pub removed_text : List ℕ
-removed_text = codes "SELECT changed FROM member WHERE book = ?1 AND card IS NULL AND changed > ?2 ORDER BY changed"
+removed_text =
+    codes
+    "SELECT changed FROM member WHERE book = ?1 AND card IS NULL AND changed > ?2 ORDER BY changed"
 
 abbrev pub removed_query : Query
 removed_query = ordering 4 count_tests (col 1 3 ∷ []) (rising (col 1 3))
@@ -94,14 +114,19 @@ abbrev pub members_text : List ℕ
 members_text = codes "SELECT uid, changed, card FROM member WHERE book = ?1 ORDER BY changed"
 
 abbrev pub members_query : Query
-members_query = ordering 4 (op2 (Compare Eq Binary) (col 1 1) (col 0 0) ∷ []) (col 1 2 ∷ col 1 3 ∷ col 1 4 ∷ []) (rising (col 1 3))
+members_query = ordering 4 (op2 (Compare Eq Binary) (col 1 1) (col 0 0) ∷ [])
+    (col 1 2 ∷ col 1 3 ∷ col 1 4 ∷ []) (rising (col 1 3))
 
 -- the book with a name
 abbrev pub book_text : List ℕ
-book_text = codes "SELECT id, number, horizon, created, edited, imported, import_edited, moved_in, deleted, moved_out FROM book WHERE name = ?1"
+book_text =
+    codes
+    "SELECT id, number, horizon, created, edited, imported, import_edited, moved_in, deleted, moved_out FROM book WHERE name = ?1"
 
 abbrev pub book_query : Query
-book_query = picks 2 (op2 (Compare Eq Binary) (col 1 2) (col 0 0) ∷ []) (col 1 0 ∷ col 1 3 ∷ col 1 4 ∷ col 1 5 ∷ col 1 6 ∷ col 1 7 ∷ col 1 8 ∷ col 1 9 ∷ col 1 10 ∷ col 1 11 ∷ [])
+book_query = picks 2 (op2 (Compare Eq Binary) (col 1 2) (col 0 0) ∷ [])
+    (col 1 0 ∷ col 1 3 ∷ col 1 4 ∷ col 1 5 ∷ col 1 6 ∷ col 1 7 ∷ col 1 8 ∷ col 1 9 ∷ col 1 10 ∷ col
+    1 11 ∷ [])
 
 abbrev pub forget_text : List ℕ
 forget_text = codes "DELETE FROM member WHERE book = ?1 AND card IS NULL AND changed <= ?2"
@@ -110,10 +135,13 @@ abbrev pub count_text : List ℕ
 count_text = codes "SELECT COUNT(*) FROM member WHERE book = ?1 AND card IS NULL AND changed > ?2"
 
 abbrev pub update_text : List ℕ
-update_text = codes "UPDATE book SET number = ?2, horizon = ?3, created = ?4, edited = ?5, imported = ?6, import_edited = ?7, moved_in = ?8, deleted = ?9, moved_out = ?10 WHERE id = ?1"
+update_text =
+    codes
+    "UPDATE book SET number = ?2, horizon = ?3, created = ?4, edited = ?5, imported = ?6, import_edited = ?7, moved_in = ?8, deleted = ?9, moved_out = ?10 WHERE id = ?1"
 
 abbrev pub forget_tests : List Term
-forget_tests = op2 (Compare Eq Binary) (col 1 1) (col 0 0) ∷ op2 (Is Binary) (col 1 4) (lit Null) ∷ op2 (Compare Le Binary) (col 1 3) (col 0 1) ∷ []
+forget_tests = op2 (Compare Eq Binary) (col 1 1) (col 0 0) ∷ op2 (Is Binary) (col 1 4) (lit Null) ∷
+    op2 (Compare Le Binary) (col 1 3) (col 0 1) ∷ []
 
 abbrev pub forget_query : Query
 forget_query = picks 4 forget_tests (col 1 0 ∷ [])
@@ -121,12 +149,23 @@ forget_query = picks 4 forget_tests (col 1 0 ∷ [])
 -- the row id, and the new row
 abbrev pub update_query : Query
 update_query = picks 2 (op2 (Compare Eq Binary) (col 1 0) (col 0 0) ∷ [])
-    (col 1 0 ∷ col 1 0 ∷ lit Null ∷ col 1 2 ∷ col 0 1 ∷ col 0 2 ∷ col 0 3 ∷ col 0 4 ∷ col 0 5 ∷ col 0 6 ∷ col 0 7 ∷ col 0 8 ∷ col 0 9 ∷ [])
+    (col 1 0 ∷ col 1 0 ∷ lit Null ∷ col 1 2 ∷ col 0 1 ∷ col 0 2 ∷ col 0 3 ∷ col 0 4 ∷ col 0 5 ∷ col
+    0 6 ∷ col 0 7 ∷ col 0 8 ∷ col 0 9 ∷ [])
 
 -- the count of the rows that pass
 abbrev pub counting : ℕ → List Term → Query
 counting tree tests = record (picks tree tests (col 1 0 ∷ [])) {
-  group = Some (record { keys = []; collations = []; aggregates = record { op = CountRows; distinct = false; collation = Binary; argument = lit Null } ∷ []; having = [] });
+  group = Some (record {
+    keys = [];
+    collations = [];
+    aggregates = record {
+      op = CountRows;
+      distinct = false;
+      collation = Binary;
+      argument = lit Null;
+    } ∷ [];
+    having = [];
+  });
 }
 
 abbrev pub count_query : Query
@@ -140,10 +179,12 @@ books_count_query = counting 2 []
 
 -- the import with a key
 abbrev pub import_text : List ℕ
-import_text = codes "SELECT added, edited, same, number FROM import_key WHERE book = ?1 AND ikey = ?2"
+import_text =
+    codes "SELECT added, edited, same, number FROM import_key WHERE book = ?1 AND ikey = ?2"
 
 abbrev pub import_query : Query
-import_query = picks 7 (op2 (Compare Eq Binary) (col 1 1) (col 0 0) ∷ op2 (Compare Eq Binary) (col 1 2) (col 0 1) ∷ []) (col 1 3 ∷ col 1 4 ∷ col 1 5 ∷ col 1 6 ∷ [])
+import_query = picks 7 (op2 (Compare Eq Binary) (col 1 1) (col 0 0) ∷ op2 (Compare Eq Binary)
+    (col 1 2) (col 0 1) ∷ []) (col 1 3 ∷ col 1 4 ∷ col 1 5 ∷ col 1 6 ∷ [])
 
 -- the keep of a book
 abbrev pub keep_text : List ℕ
@@ -153,11 +194,14 @@ abbrev pub keep_query : Query
 keep_query = picks 9 (op2 (Compare Eq Binary) (col 1 0) (col 0 0) ∷ []) (col 1 2 ∷ [])
 
 abbrev pub number_names : List (List ℕ)
-number_names = codes "number" ∷ codes "horizon" ∷ codes "created" ∷ codes "edited" ∷ codes "imported" ∷ codes "import_edited" ∷ codes "moved_in" ∷ codes "deleted" ∷ codes "moved_out" ∷ []
+number_names = codes "number" ∷ codes "horizon" ∷ codes "created" ∷ codes "edited" ∷ codes
+    "imported" ∷ codes "import_edited" ∷ codes "moved_in" ∷ codes "deleted" ∷ codes "moved_out" ∷ []
 
 -- the import with a key
 abbrev pub add_import_text : List ℕ
-add_import_text = codes "INSERT INTO import_key (book, ikey, added, edited, same, number) VALUES (?1, ?2, ?3, ?4, ?5, ?6)"
+add_import_text =
+    codes
+    "INSERT INTO import_key (book, ikey, added, edited, same, number) VALUES (?1, ?2, ?3, ?4, ?5, ?6)"
 
 abbrev pub add_import_terms : List Term
 add_import_terms = lit Null ∷ col 0 0 ∷ col 0 1 ∷ col 0 2 ∷ col 0 3 ∷ col 0 4 ∷ col 0 5 ∷ []
@@ -167,13 +211,16 @@ add_import_command = Insert 3 (Values add_import_terms 7)
 
 -- an empty book
 abbrev pub add_book_text : List ℕ
-add_book_text = codes "INSERT INTO book (id, name, number, horizon, created, edited, imported, import_edited, moved_in, deleted, moved_out) VALUES (?1, ?2, 0, 0, 0, 0, 0, 0, 0, 0, 0)"
+add_book_text =
+    codes
+    "INSERT INTO book (id, name, number, horizon, created, edited, imported, import_edited, moved_in, deleted, moved_out) VALUES (?1, ?2, 0, 0, 0, 0, 0, 0, 0, 0, 0)"
 
 abbrev pub zero : Term
 zero = lit (Int (pos 0))
 
 abbrev pub add_book_terms : List Term
-add_book_terms = col 0 0 ∷ lit Null ∷ col 0 1 ∷ zero ∷ zero ∷ zero ∷ zero ∷ zero ∷ zero ∷ zero ∷ zero ∷ zero ∷ []
+add_book_terms = col 0 0 ∷ lit Null ∷ col 0 1 ∷ zero ∷ zero ∷ zero ∷ zero ∷ zero ∷ zero ∷ zero ∷
+    zero ∷ zero ∷ []
 
 abbrev pub add_book_command : Command
 add_book_command = Insert 1 (Values add_book_terms 12)
@@ -201,10 +248,13 @@ add_schema_command = Insert 0 (Values add_schema_terms 3)
 -- ---- whole tables
 
 abbrev pub books_text : List ℕ
-books_text = codes "SELECT id, name, number, horizon, created, edited, imported, import_edited, moved_in, deleted, moved_out FROM book ORDER BY name"
+books_text =
+    codes
+    "SELECT id, name, number, horizon, created, edited, imported, import_edited, moved_in, deleted, moved_out FROM book ORDER BY name"
 
 abbrev pub books_terms : List Term
-books_terms = col 1 0 ∷ col 1 2 ∷ col 1 3 ∷ col 1 4 ∷ col 1 5 ∷ col 1 6 ∷ col 1 7 ∷ col 1 8 ∷ col 1 9 ∷ col 1 10 ∷ col 1 11 ∷ []
+books_terms = col 1 0 ∷ col 1 2 ∷ col 1 3 ∷ col 1 4 ∷ col 1 5 ∷ col 1 6 ∷ col 1 7 ∷ col 1 8 ∷ col 1
+    9 ∷ col 1 10 ∷ col 1 11 ∷ []
 
 abbrev pub books_query : Query
 books_query = ordering 2 [] books_terms (rising (col 1 2))

@@ -1,5 +1,6 @@
 -- Rows and index entries that fit into a record.
-use Rattle.std.proofs.Common.{◌≡◌, inl, inr, ℕ, ℤ, pos, negsuc, ◌+◌, ◌^◌, ◌<◌, ◌≤◌, true, List, [], ◌∷◌, length, refl, sym, ap, subst, ◌∙◌, arith}
+use Rattle.std.proofs.Common.{◌≡◌, inl, inr, ℕ, ℤ, pos, negsuc, ◌+◌, ◌^◌, ◌<◌, ◌≤◌, true, List, []}
+use Rattle.std.proofs.Common.{◌∷◌, length, refl, sym, ap, subst, ◌∙◌, arith}
 use Rattle.std.proofs.lemmas.Bool.{lt-ltb}
 use Rattle.std.proofs.lemmas.List.Elements.{All-from_recursion}
 use Rattle.std.proofs.lemmas.Nat.Bits.{bit_at-zero}
@@ -39,7 +40,9 @@ pub text_is_number : (t : List ℕ) → NotNan (number (Text t))
 unfolding is_nan
 text_is_number t = tt
 
-pub is_storable : (row : Row) → 0 < length row → length row ≤ 2001 → AllByRecursion (λ v. NotNan (number v)) row → sum_by (λ v. 18 + length (bytes v)) row ≤ 10 ^ 9 → IsStorable 0 row
+pub is_storable : (row : Row) → 0 < length row → length row ≤ 2001
+    → AllByRecursion (λ v. NotNan (number v)) row → sum_by (λ v. 18 + length (bytes v)) row ≤ 10 ^ 9
+    → IsStorable 0 row
 is_storable row some few numbers short = record {
   typed = λ c h. absurd (omega (arith, h, bit_at-zero c));
   columns = (some, few);
@@ -52,8 +55,13 @@ no_reals [] = refl
 no_reals (p ∷ ps) = rw (bit_at-zero p, no_reals ps)
 
 -- the row fits, and so does its entry in each index
-pub fits_in : (schema : Schema) (table : Table) (row : Row) → table_reals table ≡ 0 → IsStorable 0 row → 1 < length row
-    → ((i : Index) → Has schema.indexes i → i.table ≡ table.tree → IsStorable 0 (entry_of i.columns row)) → IsOversized schema table row → ⊥
-fits_in schema table row none fits wide entries (inl big) = big (subst (λ reals. IsStorable reals row) (sym none) fits, wide)
+pub fits_in : (schema : Schema) (table : Table) (row : Row) → table_reals table ≡ 0
+    → IsStorable 0 row → 1 < length row
+    → ((i : Index) → Has schema.indexes i → i.table ≡ table.tree
+    → IsStorable 0 (entry_of i.columns row)) → IsOversized schema table row → ⊥
+fits_in schema table row none fits wide entries (inl big) =
+    big (subst (λ reals. IsStorable reals row) (sym none) fits, wide)
 fits_in schema table row none fits wide entries (inr it) =
-    it.3 (subst (λ reals. IsStorable reals (entry_of it.0.columns row)) (sym (ap (λ reals. index_reals reals it.0.columns) none ∙ no_reals it.0.columns)) (entries it.0 it.1 it.2))
+    it.3 (subst (λ reals. IsStorable reals (entry_of it.0.columns row))
+    (sym (ap (λ reals. index_reals reals it.0.columns) none ∙ no_reals it.0.columns))
+    (entries it.0 it.1 it.2))

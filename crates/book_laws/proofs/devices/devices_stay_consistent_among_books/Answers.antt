@@ -1,4 +1,5 @@
-use Rattle.book_laws.proofs.DeviceLemmas.{event_keeps_device, new_book_keeps_device, partial_page_keeps_device, whole_page_keeps_device}
+use Rattle.book_laws.proofs.DeviceLemmas.{event_keeps_device, new_book_keeps_device}
+use Rattle.book_laws.proofs.DeviceLemmas.{partial_page_keeps_device, whole_page_keeps_device}
 use Rattle.book_laws.proofs.devices.devices_stay_consistent_among_books.Goals as goal
 
 pub returns-clause-events : goal.returns-clause-events

@@ -1,4 +1,5 @@
-use Rattle.book_laws.proofs.PagingLemmas.{events_add_at_most_one, truncated_pages_leave_rest, truncated_pages_leave_fewer, last_pages_leave_nobody}
+use Rattle.book_laws.proofs.PagingLemmas.{events_add_at_most_one, truncated_pages_leave_rest}
+use Rattle.book_laws.proofs.PagingLemmas.{truncated_pages_leave_fewer, last_pages_leave_nobody}
 use Rattle.book_laws.proofs.devices.due_members_are_counted.Goals as goal
 
 pub returns-clause-event : goal.returns-clause-event

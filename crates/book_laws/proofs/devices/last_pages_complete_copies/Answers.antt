@@ -1,4 +1,5 @@
-use Rattle.book_laws.proofs.DeviceLemmas.{last_pages_complete_copies, last_pages_complete_all, nobody_due_is_complete}
+use Rattle.book_laws.proofs.DeviceLemmas.{last_pages_complete_copies, last_pages_complete_all}
+use Rattle.book_laws.proofs.DeviceLemmas.{nobody_due_is_complete}
 use Rattle.book_laws.proofs.devices.last_pages_complete_copies.Goals as goal
 
 pub returns-clause-copies : goal.returns-clause-copies

@@ -1,4 +1,6 @@
-use Rattle.book_laws.proofs.TombstoneLemmas.{removals_drop_the_oldest_tombstone, remove_calls_forget, move_calls_forget, storing_forgets_nothing}
+use Rattle.book_laws.proofs.TombstoneLemmas.{removals_drop_the_oldest_tombstone}
+use Rattle.book_laws.proofs.TombstoneLemmas.{remove_calls_forget, move_calls_forget}
+use Rattle.book_laws.proofs.TombstoneLemmas.{storing_forgets_nothing}
 use Rattle.book_laws.proofs.tombstones.removals_drop_the_oldest_tombstone.Goals as goal
 
 pub returns-clause-events : goal.returns-clause-events

@@ -1,4 +1,5 @@
-use Rattle.book_laws.proofs.WellFormedPages.{pages_fit_books, pages_have_short_numbers, other_books_tokens_are_refused}
+use Rattle.book_laws.proofs.WellFormedPages.{pages_fit_books, pages_have_short_numbers}
+use Rattle.book_laws.proofs.WellFormedPages.{other_books_tokens_are_refused}
 use Rattle.book_laws.proofs.well_formed.pages_fit_well_formed_books.Goals as goal
 
 pub returns-clause-fit : goal.returns-clause-fit

@@ -1,4 +1,6 @@
-use Rattle.book_laws.proofs.WellFormedSteps.{creating_keeps_form, putting_keeps_form, removing_keeps_form, moving_keeps_form, importing_keeps_form, forgetting_keeps_form}
+use Rattle.book_laws.proofs.WellFormedSteps.{creating_keeps_form, putting_keeps_form}
+use Rattle.book_laws.proofs.WellFormedSteps.{removing_keeps_form, moving_keeps_form}
+use Rattle.book_laws.proofs.WellFormedSteps.{importing_keeps_form, forgetting_keeps_form}
 use Rattle.book_laws.proofs.well_formed.steps_keep_books_well_formed.Goals as goal
 
 pub returns-clause-create : goal.returns-clause-create

@@ -6,5 +6,7 @@ use Rattle.card_core.proofs.naming.strip_urn.Goals as goal
 
 pub returns-in_err-front : goal.returns-in_err-front
 returns-in_err-front c =
-    let other : begins_with_urn c.args.value.now ≡ false = false_from_ne_true _ (λ e. both_ways false refl (c.in_err-front.ensures.variant.1 (boundary_after_urn c.args.value.now c.utf8.value e))) in
+    let other : begins_with_urn c.args.value.now ≡ false =
+    false_from_ne_true _ (λ e. both_ways false refl (c.in_err-front.ensures.variant.1
+    (boundary_after_urn c.args.value.now c.utf8.value e))) in
     ap option_copied c.from_residual.ensures ∙ sym (cond-false _ _ _ other)

@@ -8,5 +8,6 @@ abbrev pub invariant-loop-c : goal.invariant-loop-c
 invariant-loop-c l = record {
   can : (goal.iterator-loop-c).can_next l.c-iterator;
   ends : (goal.iterator-loop-c).is_finite l.c-iterator;
-  so_far : line_end_state (string_bytes l.plain) l.is_held ≡ fold append_char (line_end_state [] false) l.yielded;
+  so_far : line_end_state (string_bytes l.plain) l.is_held
+      ≡ fold append_char (line_end_state [] false) l.yielded;
 }

@@ -6,7 +6,10 @@ use Rattle.csv_cards.proofs.laws.first_fault_without_cards.Goals as goal
 
 pub returns-clause-one : goal.returns-clause-one
 returns-clause-one c =
-    let one : FaultsAreOne = record { text = c.first_fault_without_card.ensures.one; made = c.first_fault_of_lines_is_computed.ensures } in
+    let one : FaultsAreOne = record {
+      text = c.first_fault_without_card.ensures.one;
+      made = c.first_fault_of_lines_is_computed.ensures;
+    } in
     first_faults_one c.card_is_unique.ensures one
 
 pub returns-clause-either : goal.returns-clause-either
@@ -17,7 +20,10 @@ returns-clause-either c =
       not_both = c.first_fault_without_card.ensures.not_both;
       made_either = c.first_fault_of_lines_without_card.ensures.either;
       made_not_both = c.first_fault_of_lines_without_card.ensures.not_both;
-      one_fault = record { text = c.first_fault_without_card.ensures.one; made = c.first_fault_of_lines_is_computed.ensures };
+      one_fault = record {
+        text = c.first_fault_without_card.ensures.one;
+        made = c.first_fault_of_lines_is_computed.ensures;
+      };
     } in
     cards_or_fault laws
 

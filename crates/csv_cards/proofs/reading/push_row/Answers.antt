@@ -13,4 +13,7 @@ returns-clause-cause c =
     let represents = c.in_ok-card.ensures.card in
     IfErr-weaker c.push_card.result _ _ (λ why is n.
     let repeated = is n in
-    rw repeated.0 (repeated_least c.args.form c.args.cards.now.items (fields_of c.args.row.now) represents.fields represents.utf8 c.card_is_unique.ensures (record { card = c.in_ok-card.card; represents = represents; repeated = repeated.1 }))) c.push_card.ensures.repeated
+    rw repeated.0 (repeated_least c.args.form c.args.cards.now.items (fields_of c.args.row.now)
+    represents.fields represents.utf8 c.card_is_unique.ensures
+    (record { card = c.in_ok-card.card; represents = represents; repeated = repeated.1 })))
+    c.push_card.ensures.repeated

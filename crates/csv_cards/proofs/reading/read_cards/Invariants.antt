@@ -7,5 +7,6 @@ use Rattle.csv_cards.proofs.reading.read_cards.Given as goal
 abbrev pub invariant-loop-number : goal.invariant-loop-number
 invariant-loop-number l = record {
   uids : HasUids l.uids l.cards.items;
-  read : (text : List ℕ) → HasReadRows l.fn.reader text (header l.fn.form ∷ []) → HasReadCards l.fn.form l.reader text l.number l.cards.items;
+  read : (text : List ℕ) → HasReadRows l.fn.reader text (header l.fn.form ∷ [])
+      → HasReadCards l.fn.form l.reader text l.number l.cards.items;
 }

@@ -10,8 +10,15 @@ loop-place-init c = tt
 pub returns-then-not-is_utf8 : goal.returns-then-not-is_utf8
 returns-then-not-is_utf8 c = (
   λ e. cc e,
-  λ all. sym c.if-not-is_utf8.true ∙ c.is_utf8.ensures.1 (subst IsUtf8 (sym c.row_field.ensures) (text_at (fields_of c.args.row.now) c.loop-place.place (omega (arith, c.len-place-end.ensures, c.loop-place-test.true)) all)),
+  λ all. sym c.if-not-is_utf8.true ∙ c.is_utf8.ensures.1 (subst IsUtf8 (sym c.row_field.ensures)
+      (text_at (fields_of c.args.row.now) c.loop-place.place (omega (
+        arith,
+        c.len-place-end.ensures,
+        c.loop-place-test.true,
+      )) all)),
 )
 
 pub loop-place-preserved : goal.loop-place-preserved
-loop-place-preserved c = all_text-more (fields_of c.args.row.now) c.loop-place.place (omega (arith, c.len-place-end.ensures)) c.loop-place.invariant (subst IsUtf8 c.row_field.ensures (c.is_utf8.ensures.0 c.if-not-is_utf8.false))
+loop-place-preserved c = all_text-more (fields_of c.args.row.now) c.loop-place.place
+    (omega (arith, c.len-place-end.ensures)) c.loop-place.invariant
+    (subst IsUtf8 c.row_field.ensures (c.is_utf8.ensures.0 c.if-not-is_utf8.false))

@@ -14,7 +14,8 @@ returns-in_err-card-clause-cause c =
       fault,
       reported.0,
       record {
-        none = λ card spells. cc (c.in_err-card.ensures.every card (subst (λ text. Spells text card) (sym c.row_field.ensures) spells) (λ e. reported.1 (cc e)));
+        none = λ card spells. cc (c.in_err-card.ensures.every card (subst (λ text. Spells text card)
+            (sym c.row_field.ensures) spells) (λ e. reported.1 (cc e)));
         first = rw c.row_field.ensures at (c.in_err-card.ensures.fault reported.1);
       },
     ))

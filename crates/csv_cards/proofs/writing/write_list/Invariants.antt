@@ -8,5 +8,6 @@ use Rattle.csv_cards.proofs.writing.write_list.Given as goal
 abbrev pub invariant-loop-card : goal.invariant-loop-card
 invariant-loop-card l = record {
   fresh : IsAtRowStart l.writer;
-  text : text_written (λ vec. Some vec.items) l.writer ≡ Some (csv_text l.form (map (λ card. card.now) (take l.card-index l.cards)));
+  text : text_written (λ vec. Some vec.items) l.writer
+      ≡ Some (csv_text l.form (map (λ card. card.now) (take l.card-index l.cards)));
 }

@@ -17,7 +17,8 @@ pub returns-in-Moved : goal.returns-in-Moved
 returns-in-Moved c = rw c.in-Moved.is (c.text_of-in-Moved.ensures _ refl c.moved_value.ensures)
 
 pub returns-in-Imported : goal.returns-in-Imported
-returns-in-Imported c = rw c.in-Imported.is (c.text_of-in-Imported.ensures _ refl c.imported_value.ensures)
+returns-in-Imported c = rw c.in-Imported.is (c.text_of-in-Imported.ensures _ refl
+    c.imported_value.ensures)
 
 pub returns-in-Forgot : goal.returns-in-Forgot
 returns-in-Forgot c = rw c.in-Forgot.is (c.text_of-in-Forgot.ensures _ refl c.forgot_value.ensures)
@@ -28,4 +29,5 @@ returns-in-Tally c = rw c.in-Tally.is (c.text_of-in-Tally.ensures _ refl c.tally
 pub returns-in-People : goal.returns-in-People
 returns-in-People c =
     rw c.in-People.is
-    (c.text_of-in-People.ensures _ (people_have_no_float c.in-People.reached) c.people_value.ensures)
+    (c.text_of-in-People.ensures _ (people_have_no_float c.in-People.reached)
+    c.people_value.ensures)

@@ -8,7 +8,9 @@ use Rattle.http_routes.proofs.query.parse_number.Goals as goal
 
 pub returns-in-Ok : goal.returns-in-Ok
 returns-in-Ok c =
-    let all : c.all.result ≡ list_all is_ascii_digit c.as_bytes.result.now = all_from_yields_List is_ascii_digit _ _ c.all.result c.all.ensures.ran (YieldsList-from_slice c.as_bytes.result.now cc) (λ x b q k. search (rules, tests)) in
+    let all : c.all.result ≡ list_all is_ascii_digit c.as_bytes.result.now =
+    all_from_yields_List is_ascii_digit _ _ c.all.result c.all.ensures.ran
+    (YieldsList-from_slice c.as_bytes.result.now cc) (λ x b q k. search (rules, tests)) in
     number-ok c.args.text.now c.parse.result c.in-Ok.number c.in-Ok.is c.parse.ensures.value.0
     (not_empty (length c.args.text.now) (sym c.is_empty.ensures ∙ c.if-is_empty.false))
     (omega (arith, c.if-text-gt15.false))
@@ -16,7 +18,9 @@ returns-in-Ok c =
 
 pub returns-in-Err : goal.returns-in-Err
 returns-in-Err c =
-    let all : c.all.result ≡ list_all is_ascii_digit c.as_bytes.result.now = all_from_yields_List is_ascii_digit _ _ c.all.result c.all.ensures.ran (YieldsList-from_slice c.as_bytes.result.now cc) (λ x b q k. search (rules, tests)) in
+    let all : c.all.result ≡ list_all is_ascii_digit c.as_bytes.result.now =
+    all_from_yields_List is_ascii_digit _ _ c.all.result c.all.ensures.ran
+    (YieldsList-from_slice c.as_bytes.result.now cc) (λ x b q k. search (rules, tests)) in
     number-err c.args.text.now c.parse.result c.in-Err.field-0 c.in-Err.is c.parse.ensures.value.0
     (not_empty (length c.args.text.now) (sym c.is_empty.ensures ∙ c.if-is_empty.false))
     (omega (arith, c.if-text-gt15.false))

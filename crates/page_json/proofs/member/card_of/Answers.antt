@@ -10,4 +10,9 @@ returns-in_err-card-clause-fault c =
     let fault = c.in_err-card.field-0.0 in
     rw p.1 (λ n.
     let described = bad_card_fault fault _ p.2 n in
-    inl (described.0, λ card spells. cc (c.in_err-card.ensures.every card (subst (λ text. Spells text card) (sym c.as_bytes.ensures.value) spells) (λ e. described.1 (cc e)))))
+    inl (
+      described.0,
+      λ card spells. cc (c.in_err-card.ensures.every card
+          (subst (λ text. Spells text card) (sym c.as_bytes.ensures.value) spells)
+          (λ e. described.1 (cc e))),
+    ))

@@ -6,4 +6,5 @@ use Rattle.page_json.proofs.parts.members_of.Given as goal
 
 -- the values so far encode the members so far
 abbrev pub invariant-loop-value : goal.invariant-loop-value
-invariant-loop-value l = EncodeMembers (map view (take l.value-index l.values)) (map texts_of l.members.items)
+invariant-loop-value l = EncodeMembers (map view (take l.value-index l.values))
+    (map texts_of l.members.items)

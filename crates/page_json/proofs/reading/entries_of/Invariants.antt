@@ -5,4 +5,5 @@ use Rattle.page_json.proofs.reading.entries_of.Given as goal
 
 -- the members so far describe the entries so far
 abbrev pub invariant-loop-member : goal.invariant-loop-member
-invariant-loop-member l = DescribeEntries (map texts_of (take l.member-index l.members)) l.entries.items
+invariant-loop-member l = DescribeEntries (map texts_of (take l.member-index l.members))
+    l.entries.items

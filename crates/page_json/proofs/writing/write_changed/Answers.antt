@@ -3,7 +3,8 @@ use Rattle.page_json.proofs.writing.write_changed.Goals as goal
 
 pub returns : goal.returns
 returns c =
-    let begun = one_more _ _ _ c.in_ok-begin_object.ensures.ok c.in_ok-begin_object.ensures.room.0 in
+    let begun = one_more _ _ _ c.in_ok-begin_object.ensures.ok
+    c.in_ok-begin_object.ensures.room.0 in
     let ended = one_more _ _ _ c.in_ok-end_object.ensures.ok c.in_ok-end_object.ensures.room.0 in
     more_then _ _ _ _ _ begun
     (more_then _ _ _ _ _ c.in_ok-write_text.ensures

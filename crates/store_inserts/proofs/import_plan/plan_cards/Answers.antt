@@ -3,7 +3,8 @@
 -- of the first `i` cards, and that the look-ups changed nothing, so each card is judged by the book
 -- before the import. By `fold_more` one card more is one more step of both folds: of the planned
 -- cards, and of the tombstones that they replace.
-use Rattle.std.proofs.Common.{rules, ◌≡◌, ◌≤◌, ◌+◌, Bool, true, false, [], take, length, sym, ap, subst, ◌∙◌, Result, Err, Option, arith}
+use Rattle.std.proofs.Common.{rules, ◌≡◌, ◌≤◌, ◌+◌, Bool, true, false, [], take, length, sym, ap}
+use Rattle.std.proofs.Common.{subst, ◌∙◌, Result, Err, Option, arith}
 use Rattle.book_model.specs.declared.change.StoreReason.{StoreReason}
 use Rattle.book_model.specs.declared.denied.Denied.{Denied}
 use Rattle.store_lookups.proofs.StoreFaultLemmas.{passed_cause}
@@ -23,7 +24,8 @@ use Rattle.store_tables.specs.Tables.{book_schema}
 use Rattle.store_tables.proofs.SchemaCreationLemmas.{clean_before}
 use Rattle.store_tables.proofs.Lookups.{reads_then}
 use Rattle.store_lookups.proofs.ReadLemmas.{over_then}
-use Rattle.store_inserts.specs.internal.Importing.{plan_next_card, model_plan, planned_import, planning, replaced_count}
+use Rattle.store_inserts.specs.internal.Importing.{plan_next_card, model_plan, planned_import}
+use Rattle.store_inserts.specs.internal.Importing.{planning, replaced_count}
 use Rattle.store_inserts.proofs.import_plan.plan_cards.Goals as goal
 
 one_at_most : (b : Bool) → one_if b ≤ 1
@@ -43,11 +45,15 @@ loop-card-init g c = record {
 
 pub returns-in_err-why-clause-reads_only : goal.returns-in_err-why-clause-reads_only
 returns-in_err-why-clause-reads_only g c =
-    reads_then (state g.S.Store c.args.conn.now) (state g.S.Store c.loop-card.conn) (state g.S.Store c.decide_card.new.conn) c.loop-card.invariant.left c.loop-card.invariant.same c.decide_card.ensures.reads_only
+    reads_then (state g.S.Store c.args.conn.now) (state g.S.Store c.loop-card.conn)
+    (state g.S.Store c.decide_card.new.conn) c.loop-card.invariant.left
+    c.loop-card.invariant.same c.decide_card.ensures.reads_only
 
 pub returns-in_err-take-clause-reads_only : goal.returns-in_err-take-clause-reads_only
 returns-in_err-take-clause-reads_only g c =
-    reads_then (state g.S.Store c.args.conn.now) (state g.S.Store c.loop-card.conn) (state g.S.Store c.decide_card.new.conn) c.loop-card.invariant.left c.loop-card.invariant.same c.decide_card.ensures.reads_only
+    reads_then (state g.S.Store c.args.conn.now) (state g.S.Store c.loop-card.conn)
+    (state g.S.Store c.decide_card.new.conn) c.loop-card.invariant.left
+    c.loop-card.invariant.same c.decide_card.ensures.reads_only
 
 pub loop-card-preserved : goal.loop-card-preserved
 loop-card-preserved g c =
@@ -60,24 +66,33 @@ loop-card-preserved g c =
     record {
       planned_import = λ rows clean holds sound name.
           let book = row_book rows (line_row name c.args.header) in
-          let early : HasCleanDisk mid = clean_before _ mid new c.decide_card.ensures.reads_only.survives clean in
-          let so_far : model_plan c.loop-card.plan ≡ planned_import book (take i cards) = first.planned_import rows early holds sound name in
-          let why = over_then old mid new _ _ first.same c.decide_card.ensures.reads_only.survives c.in_ok-why.ensures.reason rows clean holds sound name in
+          let early : HasCleanDisk mid = clean_before _ mid new
+          c.decide_card.ensures.reads_only.survives clean in
+          let so_far : model_plan c.loop-card.plan ≡ planned_import book (take i cards) =
+          first.planned_import rows early holds sound name in
+          let why = over_then old mid new _ _ first.same c.decide_card.ensures.reads_only.survives
+          c.in_ok-why.ensures.reason rows clean holds sound name in
           c.in_ok-take.ensures.plan
           ∙ ap (import_with_reason planning (model_plan c.loop-card.plan) c.card-item.result) why
           ∙ ap (λ p. plan_next_card book p c.card-item.result) so_far
           ∙ ap (plan_next_card book (planned_import book (take i cards))) c.card-item.is
-          ∙ sym (fold_more (plan_next_card book) (import_state [] 0 0 0) cards i c.card-item.result c.loop-card-test.true);
+          ∙ sym (fold_more (plan_next_card book) (import_state [] 0 0 0) cards i c.card-item.result
+          c.loop-card-test.true);
       replaced = λ rows clean holds sound name.
           let book = row_book rows (line_row name c.args.header) in
-          let early : HasCleanDisk mid = clean_before _ mid new c.decide_card.ensures.reads_only.survives clean in
-          let so_far : c.loop-card.plan.replaced ≡ replaced_count book (take i cards) = first.replaced rows early holds sound name in
-          let here = over_then old mid new _ _ first.same c.decide_card.ensures.reads_only.survives c.in_ok-why.ensures.tombstone rows clean holds sound name in
+          let early : HasCleanDisk mid = clean_before _ mid new
+          c.decide_card.ensures.reads_only.survives clean in
+          let so_far : c.loop-card.plan.replaced ≡ replaced_count book (take i cards) =
+          first.replaced rows early holds sound name in
+          let here = over_then old mid new _ _ first.same c.decide_card.ensures.reads_only.survives
+          c.in_ok-why.ensures.tombstone rows clean holds sound name in
           c.in_ok-take.ensures.replaced
           ∙ ap (λ n. n + one_if c.in_ok-why.over_tombstone) so_far
           ∙ ap (λ b. replaced_count book (take i cards) + one_if b) (sym here)
-          ∙ ap (λ card. replaced_count book (take i cards) + one_if (is_tombstone_at book (uid_of card))) c.card-item.is
-          ∙ sym (fold_more (λ n card. n + one_if (is_tombstone_at book (uid_of card))) 0 cards i c.card-item.result c.loop-card-test.true);
+          ∙ ap (λ card. replaced_count book (take i cards) + one_if
+          (is_tombstone_at book (uid_of card))) c.card-item.is
+          ∙ sym (fold_more (λ n card. n + one_if (is_tombstone_at book (uid_of card))) 0 cards i
+          c.card-item.result c.loop-card-test.true);
       fewer =
           let few = first.fewer in
           let one = one_at_most c.in_ok-why.over_tombstone in
@@ -87,9 +102,11 @@ loop-card-preserved g c =
       counted = c.in_ok-take.ensures.counted first.counted;
       all = c.in_ok-take.ensures.counts_one_more ∙ ap (λ n. n + 1) first.all;
       same = λ clean has.
-          let early : HasCleanDisk mid = clean_before _ mid new c.decide_card.ensures.reads_only.survives clean in
+          let early : HasCleanDisk mid = clean_before _ mid new
+          c.decide_card.ensures.reads_only.survives clean in
           let here = first.same early has in
-          unchanged_then old mid new here (c.in_ok-why.ensures.unchanged clean (subst (λ (d : Database). d.schema ≡ book_schema) (sym here.0.now_is) has));
+          unchanged_then old mid new here (c.in_ok-why.ensures.unchanged clean
+          (subst (λ (d : Database). d.schema ≡ book_schema) (sym here.0.now_is) has));
       left = reads_then old mid new first.left first.same c.decide_card.ensures.reads_only;
     }
 
@@ -97,23 +114,32 @@ pub returns-clause-planned : goal.returns-clause-planned
 returns-clause-planned g c rows clean holds sound name =
     let cards = c.args.cards.now in
     let end : c.loop-card.card-index ≡ length cards = search rules in
-    c.loop-card.invariant.planned_import rows clean holds sound name ∙ ap (planned_import (row_book rows (line_row name c.args.header))) (ap (λ i. take i cards) end ∙ take-length cards)
+    c.loop-card.invariant.planned_import rows clean holds sound name
+    ∙ ap (planned_import (row_book rows (line_row name c.args.header)))
+    (ap (λ i. take i cards) end ∙ take-length cards)
 
 pub returns-clause-replaced : goal.returns-clause-replaced
 returns-clause-replaced g c rows clean holds sound name =
     let cards = c.args.cards.now in
     let end : c.loop-card.card-index ≡ length cards = search rules in
-    c.loop-card.invariant.replaced rows clean holds sound name ∙ ap (replaced_count (row_book rows (line_row name c.args.header))) (ap (λ i. take i cards) end ∙ take-length cards)
+    c.loop-card.invariant.replaced rows clean holds sound name
+    ∙ ap (replaced_count (row_book rows (line_row name c.args.header)))
+    (ap (λ i. take i cards) end ∙ take-length cards)
 
 -- ---- faults
 
 pub returns-in_err-check_open-clause-store_fault : goal.returns-in_err-check_open-clause-store_fault
 returns-in_err-check_open-clause-store_fault g c fits rows clean holds faultless =
-    passed_cause c.from_residual.result c.in_err-check_open.field-0.0 _ c.from_residual.ensures.1 (c.in_err-check_open.ensures.store_fault rows clean holds faultless)
+    passed_cause c.from_residual.result c.in_err-check_open.field-0.0 _ c.from_residual.ensures.1
+    (c.in_err-check_open.ensures.store_fault rows clean holds faultless)
 
 pub returns-in_err-why-clause-store_fault : goal.returns-in_err-why-clause-store_fault
 returns-in_err-why-clause-store_fault g c fits rows clean holds faultless =
     let failed : Result (Option StoreReason × Bool) Denied = Err c.in_err-why.field-0.0 in
-    passed_cause c.from_residual-in_err-why.result c.in_err-why.field-0.0 _ c.from_residual-in_err-why.ensures.1
-    (then_reads (state g.S.Store c.args.conn.now) (state g.S.Store c.loop-card.conn) (state g.S.Store c.decide_card.new.conn) _ _ failed c.loop-card.invariant.left.survives c.loop-card.invariant.same
-    c.decide_card.ensures.reads_only.survives (c.in_err-why.ensures.store_fault fits) rows clean holds faultless)
+    passed_cause c.from_residual-in_err-why.result c.in_err-why.field-0.0 _
+    c.from_residual-in_err-why.ensures.1
+    (then_reads (state g.S.Store c.args.conn.now) (state g.S.Store c.loop-card.conn)
+    (state g.S.Store c.decide_card.new.conn) _ _ failed c.loop-card.invariant.left.survives
+    c.loop-card.invariant.same
+    c.decide_card.ensures.reads_only.survives (c.in_err-why.ensures.store_fault fits) rows clean
+    holds faultless)

@@ -27,9 +27,13 @@ returns-in_err-so_far-clause-keeps_commit g c rows name book clean inside wrote 
     let mid = state g.S.Store c.loop-card.tx.conn.now in
     let new = state g.S.Store c.write_next_card.new.tx.conn.now in
     let first = c.loop-card.invariant in
-    let early : HasCleanDisk mid = clean_before _ mid new c.write_next_card.ensures.survives clean in
+    let early : HasCleanDisk mid = clean_before _ mid new c.write_next_card.ensures.survives
+    clean in
     let here = first.holds rows name book early inside wrote in
-    keeps_commit_then old mid new (first.kept rows name book early inside wrote) (c.in_err-so_far.ensures.keeps_commit rows name (book_with_stored book (take c.loop-card.card-index c.args.stored.now)) clean here.inside here.holds)
+    keeps_commit_then old mid new (first.kept rows name book early inside wrote)
+    (c.in_err-so_far.ensures.keeps_commit rows name
+    (book_with_stored book (take c.loop-card.card-index c.args.stored.now)) clean here.inside
+    here.holds)
 
 pub loop-card-preserved : goal.loop-card-preserved
 loop-card-preserved g c =
@@ -43,41 +47,59 @@ loop-card-preserved g c =
     record {
       same_reference = c.write_next_card.ensures.same_reference ∙ first.same_reference;
       holds = λ rows name book clean inside wrote.
-          let early : HasCleanDisk mid = clean_before _ mid new c.write_next_card.ensures.survives clean in
+          let early : HasCleanDisk mid = clean_before _ mid new c.write_next_card.ensures.survives
+          clean in
           let here = first.holds rows name book early inside wrote in
-          let there = c.in_ok-so_far.ensures.book_after rows name (book_with_stored book (take i stored)) clean here.inside here.holds in
-          subst (λ b. HoldsInTx new (λ db. WritesBook db rows name c.in_ok-so_far.so_far b)) (stored_more book stored i c.card-item.result c.loop-card-test.true c.card-item.is) there;
+          let there = c.in_ok-so_far.ensures.book_after rows name
+          (book_with_stored book (take i stored)) clean here.inside here.holds in
+          subst (λ b. HoldsInTx new (λ db. WritesBook db rows name c.in_ok-so_far.so_far b))
+          (stored_more book stored i c.card-item.result c.loop-card-test.true c.card-item.is)
+          there;
       number =
           let one = ap (λ f. f.number) next in
           let before = first.number in
           omega (arith, one, before);
       same_id = ap (λ f. f.id) next ∙ first.same_id;
       kept = λ rows name book clean inside wrote.
-          let early : HasCleanDisk mid = clean_before _ mid new c.write_next_card.ensures.survives clean in
+          let early : HasCleanDisk mid = clean_before _ mid new c.write_next_card.ensures.survives
+          clean in
           let here = first.holds rows name book early inside wrote in
-          keeps_commit_then old mid new (first.kept rows name book early inside wrote) (c.in_ok-so_far.ensures.keeps_commit rows name (book_with_stored book (take i stored)) clean here.inside here.holds);
-      survives = survives_then old mid new _ _ (λ _. ⊥) (λ _ db none. none) (λ _ db none. none) first.survives c.write_next_card.ensures.survives;
+          keeps_commit_then old mid new (first.kept rows name book early inside wrote)
+          (c.in_ok-so_far.ensures.keeps_commit rows name (book_with_stored book (take i stored))
+          clean here.inside here.holds);
+      survives = survives_then old mid new _ _ (λ _. ⊥) (λ _ db none. none) (λ _ db none. none)
+          first.survives c.write_next_card.ensures.survives;
       obeys = λ rows name book clean inside wrote obeys.
-          let early : HasCleanDisk mid = clean_before _ mid new c.write_next_card.ensures.survives clean in
+          let early : HasCleanDisk mid = clean_before _ mid new c.write_next_card.ensures.survives
+          clean in
           let here = first.holds rows name book early inside wrote in
-          c.in_ok-so_far.ensures.obeys rows name (book_with_stored book (take i stored)) clean here.inside here.holds (first.obeys rows name book early inside wrote obeys);
+          c.in_ok-so_far.ensures.obeys rows name (book_with_stored book (take i stored)) clean
+          here.inside here.holds (first.obeys rows name book early inside wrote obeys);
       ids = λ rows name book clean inside wrote count free.
-          let early : HasCleanDisk mid = clean_before _ mid new c.write_next_card.ensures.survives clean in
+          let early : HasCleanDisk mid = clean_before _ mid new c.write_next_card.ensures.survives
+          clean in
           let here = first.holds rows name book early inside wrote in
-          (c.in_ok-so_far.ensures.takes_ids rows name (book_with_stored book (take i stored)) clean here.inside here.holds).0 count
-          (first.ids rows name book early inside wrote (count + 1) (fewer_ids (count + 1 + i) (count + (i + 1)) (old.now.trees 4) (omega arith) free));
+          (c.in_ok-so_far.ensures.takes_ids rows name (book_with_stored book (take i stored)) clean
+          here.inside here.holds).0 count
+          (first.ids rows name book early inside wrote (count + 1) (fewer_ids (count + 1 + i)
+          (count + (i + 1)) (old.now.trees 4) (omega arith) free));
       imports = λ rows name book clean inside wrote.
-          let early : HasCleanDisk mid = clean_before _ mid new c.write_next_card.ensures.survives clean in
+          let early : HasCleanDisk mid = clean_before _ mid new c.write_next_card.ensures.survives
+          clean in
           let here = first.holds rows name book early inside wrote in
-          (c.in_ok-so_far.ensures.takes_ids rows name (book_with_stored book (take i stored)) clean here.inside here.holds).1 ∙ first.imports rows name book early inside wrote;
+          (c.in_ok-so_far.ensures.takes_ids rows name (book_with_stored book (take i stored)) clean
+          here.inside here.holds).1 ∙ first.imports rows name book early inside wrote;
     }
 
 pub returns-clause-book_after : goal.returns-clause-book_after
 returns-clause-book_after g c rows name book clean inside wrote =
     let stored = c.args.stored.now in
     let end : c.loop-card.card-index ≡ length stored = search rules in
-    let all : take c.loop-card.card-index stored ≡ stored = ap (λ i. take i stored) end ∙ take-length stored in
-    subst (λ l. HoldsInTx (state g.S.Store c.loop-card.tx.conn.now) (λ db. WritesBook db rows name c.loop-card.so_far (book_with_stored book l))) all (c.loop-card.invariant.holds rows name book clean inside wrote)
+    let all : take c.loop-card.card-index stored ≡ stored = ap (λ i. take i stored) end
+    ∙ take-length stored in
+    subst (λ l. HoldsInTx (state g.S.Store c.loop-card.tx.conn.now) (λ db. WritesBook db rows name
+    c.loop-card.so_far (book_with_stored book l))) all (c.loop-card.invariant.holds rows name
+    book clean inside wrote)
 
 pub returns-clause-next_number : goal.returns-clause-next_number
 returns-clause-next_number g c =
@@ -86,13 +108,15 @@ returns-clause-next_number g c =
     omega (arith, number, end)
 
 pub returns-clause-obeys : goal.returns-clause-obeys
-returns-clause-obeys g c rows name book clean inside wrote obeys = c.loop-card.invariant.obeys rows name book clean inside wrote obeys
+returns-clause-obeys g c rows name book clean inside wrote obeys =
+    c.loop-card.invariant.obeys rows name book clean inside wrote obeys
 
 pub returns-clause-takes_ids : goal.returns-clause-takes_ids
 returns-clause-takes_ids g c rows name book clean inside wrote =
     let old = state g.S.Store c.args.tx.now.conn.now in
     let end : c.loop-card.card-index ≡ length c.args.stored.now = search rules in (
-      λ count free. c.loop-card.invariant.ids rows name book clean inside wrote count (subst (λ n. HasFreeIds (count + n) (old.now.trees 4)) (sym end) free),
+      λ count free. c.loop-card.invariant.ids rows name book clean inside wrote count
+          (subst (λ n. HasFreeIds (count + n) (old.now.trees 4)) (sym end) free),
       c.loop-card.invariant.imports rows name book clean inside wrote,
     )
 
@@ -107,11 +131,22 @@ returns-in_err-so_far-clause-store_fault g c rows name book accepts clean inside
     let i = c.loop-card.card-index in
     let stored = c.args.stored.now in
     let left = c.loop-card-test.true in
-    let early : HasCleanDisk mid = clean_before _ mid new c.write_next_card.ensures.survives clean in
+    let early : HasCleanDisk mid = clean_before _ mid new c.write_next_card.ensures.survives
+    clean in
     let here = first.holds rows name book early inside accepts.wrote in
-    let ids = first.ids rows name book early inside accepts.wrote 1 (fewer_ids (1 + i) (length stored) (old.now.trees 4) (omega (arith, left)) accepts.free_ids) in
-    let ready : AcceptsCards mid.now rows name c.loop-card.so_far (book_with_stored book (take i stored)) 1 =
-    record { wrote = here.holds; known = knows_stored (take i stored) book accepts.known; free_ids = ids; id = let fits = accepts.id in let same = first.same_id in omega (arith, fits, same) } in
+    let ids = first.ids rows name book early inside accepts.wrote 1
+    (fewer_ids (1 + i) (length stored) (old.now.trees 4) (omega (arith, left))
+    accepts.free_ids) in
+    let ready : AcceptsCards mid.now rows name c.loop-card.so_far
+    (book_with_stored book (take i stored)) 1 =
+    record {
+      wrote = here.holds;
+      known = knows_stored (take i stored) book accepts.known;
+      free_ids = ids;
+      id = let fits = accepts.id in let same = first.same_id in
+          omega (arith, fits, same);
+    } in
     passed_cause c.from_residual.result c.in_err-so_far.field-0.0 _ c.from_residual.ensures.1
     (λ store. outside_later old mid new _ _ first.survives early c.write_next_card.ensures.survives
-    (c.in_err-so_far.ensures.store_fault rows name (book_with_stored book (take i stored)) ready clean here.inside (first.obeys rows name book early inside accepts.wrote obeys) store))
+    (c.in_err-so_far.ensures.store_fault rows name (book_with_stored book (take i stored)) ready
+    clean here.inside (first.obeys rows name book early inside accepts.wrote obeys) store))

@@ -23,46 +23,69 @@ pub returns-in_err-source-clause-finds : goal.returns-in_err-source-clause-finds
 returns-in_err-source-clause-finds g c rows clean holds sound =
     let said : c.from_residual.result ≡ Err c.in_err-source.field-0.0 = search rules in
     subst (λ r. AreBothNamed rows c.args.from.now c.args.to.now r) (sym said)
-    (in_none {T = Book × Book} {A = Book × Book} IsExactly rows c.args.from.now (λ source. book_named (books_of rows) c.args.to.now >>= λ target. Ok (source, target)) c.in_err-source.field-0.0 (c.in_err-source.ensures.finds rows clean holds sound))
+    (in_none {T = Book × Book} {A = Book × Book} IsExactly rows c.args.from.now
+    (λ source. book_named (books_of rows) c.args.to.now >>= λ target. Ok (source, target))
+    c.in_err-source.field-0.0 (c.in_err-source.ensures.finds rows clean holds sound))
 
 pub returns-in_err-target-clause-finds : goal.returns-in_err-target-clause-finds
 returns-in_err-target-clause-finds g c rows clean holds sound =
     let old = state g.S.Store c.args.conn.now in
     let mid = state g.S.Store c.open_header.new.conn in
     let new = state g.S.Store c.find_header.new.conn in
-    let early : HasCleanDisk mid = clean_before _ mid new c.find_header.ensures.reads_only.survives clean in
+    let early : HasCleanDisk mid = clean_before _ mid new c.find_header.ensures.reads_only.survives
+    clean in
     let there = c.in_ok-source.ensures.finds rows early holds sound in
-    let none = over_then old mid new _ _ c.in_ok-source.ensures.unchanged c.find_header.ensures.reads_only.survives c.in_err-target.ensures.finds rows clean holds sound in
+    let none = over_then old mid new _ _ c.in_ok-source.ensures.unchanged
+    c.find_header.ensures.reads_only.survives c.in_err-target.ensures.finds rows clean holds
+    sound in
     let book = row_book rows (line_row c.args.from.now c.in_ok-source.source) in
-    let said : c.from_residual-in_err-target.result ≡ Err c.in_err-target.field-0.0 = search rules in
+    let said : c.from_residual-in_err-target.result ≡ Err c.in_err-target.field-0.0 =
+    search rules in
     subst (λ r. AreBothNamed rows c.args.from.now c.args.to.now r) (sym said)
-    (in_book {T = Book × Book} {A = Book × Book} IsExactly rows c.args.from.now c.in_ok-source.source (λ source. book_named (books_of rows) c.args.to.now >>= λ target. Ok (source, target)) (Err c.in_err-target.field-0.0) there
-    (in_none {T = Book × Book} {A = Book × Book} IsExactly rows c.args.to.now (λ target. Ok (book, target)) c.in_err-target.field-0.0 none))
+    (in_book {T = Book × Book} {A = Book × Book} IsExactly rows c.args.from.now
+    c.in_ok-source.source (λ source. book_named (books_of rows) c.args.to.now >>= λ target. Ok
+    (source, target)) (Err c.in_err-target.field-0.0) there
+    (in_none {T = Book × Book} {A = Book × Book} IsExactly rows c.args.to.now (λ target. Ok (
+      book,
+      target,
+    )) c.in_err-target.field-0.0 none))
 
 pub returns-in_err-target-clause-reads_only : goal.returns-in_err-target-clause-reads_only
 returns-in_err-target-clause-reads_only g c =
-    reads_then (state g.S.Store c.args.conn.now) (state g.S.Store c.open_header.new.conn) (state g.S.Store c.find_header.new.conn) c.open_header.ensures.reads_only c.in_ok-source.ensures.unchanged c.find_header.ensures.reads_only
+    reads_then (state g.S.Store c.args.conn.now) (state g.S.Store c.open_header.new.conn)
+    (state g.S.Store c.find_header.new.conn) c.open_header.ensures.reads_only
+    c.in_ok-source.ensures.unchanged c.find_header.ensures.reads_only
 
 pub returns-clause-finds : goal.returns-clause-finds
 returns-clause-finds g c rows clean holds sound =
     let old = state g.S.Store c.args.conn.now in
     let mid = state g.S.Store c.open_header.new.conn in
     let new = state g.S.Store c.find_header.new.conn in (
-      c.in_ok-source.ensures.finds rows (clean_before _ mid new c.find_header.ensures.reads_only.survives clean) holds sound,
-      over_then old mid new _ _ c.in_ok-source.ensures.unchanged c.find_header.ensures.reads_only.survives c.in_ok-target.ensures.finds rows clean holds sound,
+      c.in_ok-source.ensures.finds rows
+          (clean_before _ mid new c.find_header.ensures.reads_only.survives clean) holds sound,
+      over_then old mid new _ _ c.in_ok-source.ensures.unchanged
+          c.find_header.ensures.reads_only.survives c.in_ok-target.ensures.finds rows clean holds
+          sound,
     )
 
 pub returns-clause-reads_only : goal.returns-clause-reads_only
 returns-clause-reads_only g c =
-    reads_then (state g.S.Store c.args.conn.now) (state g.S.Store c.open_header.new.conn) (state g.S.Store c.find_header.new.conn) c.open_header.ensures.reads_only c.in_ok-source.ensures.unchanged c.find_header.ensures.reads_only
+    reads_then (state g.S.Store c.args.conn.now) (state g.S.Store c.open_header.new.conn)
+    (state g.S.Store c.find_header.new.conn) c.open_header.ensures.reads_only
+    c.in_ok-source.ensures.unchanged c.find_header.ensures.reads_only
 
 pub returns-in_err-source-clause-store_fault : goal.returns-in_err-source-clause-store_fault
 returns-in_err-source-clause-store_fault g c rows clean holds faultless =
-    passed_cause c.from_residual.result c.in_err-source.field-0.0 _ c.from_residual.ensures.1 (c.in_err-source.ensures.store_fault rows clean holds faultless)
+    passed_cause c.from_residual.result c.in_err-source.field-0.0 _ c.from_residual.ensures.1
+    (c.in_err-source.ensures.store_fault rows clean holds faultless)
 
 pub returns-in_err-target-clause-store_fault : goal.returns-in_err-target-clause-store_fault
 returns-in_err-target-clause-store_fault g c rows clean holds faultless =
     let failed : Result HeaderRow Denied = Err c.in_err-target.field-0.0 in
-    passed_cause c.from_residual-in_err-target.result c.in_err-target.field-0.0 _ c.from_residual-in_err-target.ensures.1
-    (then_reads (state g.S.Store c.args.conn.now) (state g.S.Store c.open_header.new.conn) (state g.S.Store c.find_header.new.conn) _ _ failed c.open_header.ensures.reads_only.survives c.in_ok-source.ensures.unchanged
-    c.find_header.ensures.reads_only.survives c.in_err-target.ensures.store_fault rows clean holds faultless)
+    passed_cause c.from_residual-in_err-target.result c.in_err-target.field-0.0 _
+    c.from_residual-in_err-target.ensures.1
+    (then_reads (state g.S.Store c.args.conn.now) (state g.S.Store c.open_header.new.conn)
+    (state g.S.Store c.find_header.new.conn) _ _ failed
+    c.open_header.ensures.reads_only.survives c.in_ok-source.ensures.unchanged
+    c.find_header.ensures.reads_only.survives c.in_err-target.ensures.store_fault rows clean holds
+    faultless)

@@ -24,7 +24,8 @@ use Rattle.store_lookups.proofs.ReadLemmas.{over_then}
 use Rattle.store_rows.specs.TableBooks.{row_book, line_row}
 use Rattle.store_removals.specs.declared.drop_plans.DropPlan.{DropPlan}
 use Rattle.store_removals.specs.internal.Moves.{IsMovePlanned, moving_between_books}
-use Rattle.store_removals.proofs.MoveLemmas.{apart_among, denied_among, move_drops, moving_back, same_among}
+use Rattle.store_removals.proofs.MoveLemmas.{apart_among, denied_among, move_drops, moving_back}
+use Rattle.store_removals.proofs.MoveLemmas.{same_among}
 use Rattle.store_removals.proofs.RemoveLemmas.{same_then}
 use Rattle.store_removals.proofs.move_call.plan_move.Goals as goal
 
@@ -33,32 +34,45 @@ use Rattle.store_removals.proofs.move_call.plan_move.Goals as goal
 pub returns-then-eq-clause-planned : goal.returns-then-eq-clause-planned
 returns-then-eq-clause-planned g c rows clean holds sound right =
     let named = c.in_ok-source.ensures.finds rows clean holds sound in
-    same_among c.args.limits rows c.args.from.now c.args.to.now c.args.uid.now c.args.expect c.in_ok-source.source c.in_ok-source.target named.0 named.1 (is_eq-slice_cmp c.args.from.now c.args.to.now ∙ sym c.eq.ensures ∙ c.if-eq.true)
+    same_among c.args.limits rows c.args.from.now c.args.to.now c.args.uid.now c.args.expect
+    c.in_ok-source.source c.in_ok-source.target named.0 named.1 (is_eq-slice_cmp c.args.from.now
+    c.args.to.now ∙ sym c.eq.ensures ∙ c.if-eq.true)
 
 pub returns-in_err-card-clause-planned : goal.returns-in_err-card-clause-planned
 returns-in_err-card-clause-planned g c rows clean holds sound right =
     let old = state g.S.Store c.args.conn.now in
     let mid = state g.S.Store c.find_both_headers.new.conn in
     let new = state g.S.Store c.decide_move.new.conn in
-    let early : HasCleanDisk mid = clean_before _ mid new c.decide_move.ensures.reads_only.survives clean in
+    let early : HasCleanDisk mid = clean_before _ mid new c.decide_move.ensures.reads_only.survives
+    clean in
     let named = c.in_ok-source.ensures.finds rows early holds sound in
-    let apart : same_name c.args.from.now c.args.to.now ≡ false = is_eq-slice_cmp c.args.from.now c.args.to.now ∙ sym c.eq.ensures ∙ c.if-eq.false in
-    let returned = over_then old mid new _ _ c.in_ok-source.ensures.unchanged c.decide_move.ensures.reads_only.survives c.in_err-card.ensures.answers rows clean holds sound c.args.from.now c.args.to.now in
+    let apart : same_name c.args.from.now c.args.to.now ≡ false =
+    is_eq-slice_cmp c.args.from.now c.args.to.now ∙ sym c.eq.ensures ∙ c.if-eq.false in
+    let returned = over_then old mid new _ _ c.in_ok-source.ensures.unchanged
+    c.decide_move.ensures.reads_only.survives c.in_err-card.ensures.answers rows clean holds
+    sound c.args.from.now c.args.to.now in
     let said : c.from_residual-in_err-card.result ≡ Err c.in_err-card.field-0.0 = search rules in
-    subst (λ r. IsMovePlanned c.args.limits rows c.args.from.now c.args.to.now c.args.uid.now c.args.expect r) (sym said)
-    (denied_among _ _ c.in_err-card.field-0.0 (apart_among c.args.limits rows c.args.from.now c.args.to.now c.args.uid.now c.args.expect c.in_ok-source.source c.in_ok-source.target named.0 named.1 apart) returned)
+    subst (λ r. IsMovePlanned c.args.limits rows c.args.from.now c.args.to.now c.args.uid.now
+    c.args.expect r) (sym said)
+    (denied_among _ _ c.in_err-card.field-0.0 (apart_among c.args.limits rows c.args.from.now
+    c.args.to.now c.args.uid.now c.args.expect c.in_ok-source.source c.in_ok-source.target
+    named.0 named.1 apart) returned)
 
 pub returns-in_err-card-clause-reads_only : goal.returns-in_err-card-clause-reads_only
 returns-in_err-card-clause-reads_only g c =
-    reads_then (state g.S.Store c.args.conn.now) (state g.S.Store c.find_both_headers.new.conn) (state g.S.Store c.decide_move.new.conn) c.find_both_headers.ensures.reads_only c.in_ok-source.ensures.unchanged c.decide_move.ensures.reads_only
+    reads_then (state g.S.Store c.args.conn.now) (state g.S.Store c.find_both_headers.new.conn)
+    (state g.S.Store c.decide_move.new.conn) c.find_both_headers.ensures.reads_only
+    c.in_ok-source.ensures.unchanged c.decide_move.ensures.reads_only
 
 pub returns-in_err-plan-clause-reads_only : goal.returns-in_err-plan-clause-reads_only
 returns-in_err-plan-clause-reads_only g c =
     let old = state g.S.Store c.args.conn.now in
     let a = state g.S.Store c.find_both_headers.new.conn in
     let b = state g.S.Store c.decide_move.new.conn in
-    let read = reads_then old a b c.find_both_headers.ensures.reads_only c.in_ok-source.ensures.unchanged c.decide_move.ensures.reads_only in
-    let same = same_then old a b _ c.in_ok-source.ensures.unchanged c.decide_move.ensures.reads_only.survives c.in_ok-card.ensures.unchanged in
+    let read = reads_then old a b c.find_both_headers.ensures.reads_only
+    c.in_ok-source.ensures.unchanged c.decide_move.ensures.reads_only in
+    let same = same_then old a b _ c.in_ok-source.ensures.unchanged
+    c.decide_move.ensures.reads_only.survives c.in_ok-card.ensures.unchanged in
     reads_then old b (state g.S.Store c.plan_drop.new.conn) read same c.plan_drop.ensures.reads_only
 
 pub returns-clause-planned : goal.returns-clause-planned
@@ -67,18 +81,27 @@ returns-clause-planned g c rows clean holds sound right =
     let a = state g.S.Store c.find_both_headers.new.conn in
     let b = state g.S.Store c.decide_move.new.conn in
     let new = state g.S.Store c.plan_drop.new.conn in
-    let later : HasCleanDisk b = clean_before _ b new c.plan_drop.ensures.reads_only.survives clean in
-    let early : HasCleanDisk a = clean_before _ a b c.decide_move.ensures.reads_only.survives later in
+    let later : HasCleanDisk b = clean_before _ b new c.plan_drop.ensures.reads_only.survives
+    clean in
+    let early : HasCleanDisk a = clean_before _ a b c.decide_move.ensures.reads_only.survives
+    later in
     let from = c.args.from.now in
     let to = c.args.to.now in
     let source = c.in_ok-source.source in
     let target = c.in_ok-source.target in
     let named = c.in_ok-source.ensures.finds rows early holds sound in
-    let same = same_then old a b _ c.in_ok-source.ensures.unchanged c.decide_move.ensures.reads_only.survives c.in_ok-card.ensures.unchanged in
-    let moving = moving_back (moving_between_books c.args.limits c.args.uid.now c.args.expect (row_book rows (line_row from source)) (row_book rows (line_row to target))) (c.in_ok-card.card, c.in_ok-card.moved, c.in_ok-card.comes_back)
-    (over_then old a b _ _ c.in_ok-source.ensures.unchanged c.decide_move.ensures.reads_only.survives c.in_ok-card.ensures.answers rows later holds sound from to) in
-    let drop = over_then old b new _ _ same c.plan_drop.ensures.reads_only.survives c.in_ok-plan.ensures.drop rows clean holds sound right named.0 in
-    let tombstones = over_then old b new _ _ same c.plan_drop.ensures.reads_only.survives c.in_ok-plan.ensures.tombstones rows clean holds sound right named.0 in
+    let same = same_then old a b _ c.in_ok-source.ensures.unchanged
+    c.decide_move.ensures.reads_only.survives c.in_ok-card.ensures.unchanged in
+    let moving = moving_back (moving_between_books c.args.limits c.args.uid.now c.args.expect
+    (row_book rows (line_row from source)) (row_book rows (line_row to target)))
+    (c.in_ok-card.card, c.in_ok-card.moved, c.in_ok-card.comes_back)
+    (over_then old a b _ _ c.in_ok-source.ensures.unchanged
+    c.decide_move.ensures.reads_only.survives c.in_ok-card.ensures.answers rows later holds
+    sound from to) in
+    let drop = over_then old b new _ _ same c.plan_drop.ensures.reads_only.survives
+    c.in_ok-plan.ensures.drop rows clean holds sound right named.0 in
+    let tombstones = over_then old b new _ _ same c.plan_drop.ensures.reads_only.survives
+    c.in_ok-plan.ensures.tombstones rows clean holds sound right named.0 in
     let low = c.in_ok-plan.ensures.horizon in
     record {
       source = named.0;
@@ -86,9 +109,14 @@ returns-clause-planned g c rows clean holds sound right =
       apart = is_eq-slice_cmp c.args.from.now c.args.to.now ∙ sym c.eq.ensures ∙ c.if-eq.false;
       horizon = low;
       moving = moving;
-      drop = move_drops rows from source c.args.uid.now c.args.limits (found_in_book (row_book rows (line_row to target)) c.args.uid.now) c.args.expect (moving_of c.in_ok-card.card c.in_ok-card.moved) c.in_ok-plan.plan.drop sound low moving drop;
+      drop = move_drops rows from source c.args.uid.now c.args.limits
+          (found_in_book (row_book rows (line_row to target)) c.args.uid.now) c.args.expect
+          (moving_of c.in_ok-card.card c.in_ok-card.moved) c.in_ok-plan.plan.drop sound low moving
+          drop;
       tombstones = tombstones;
-      comes_back = over_then old a b _ _ c.in_ok-source.ensures.unchanged c.decide_move.ensures.reads_only.survives c.in_ok-card.ensures.tombstone rows later holds sound to;
+      comes_back = over_then old a b _ _ c.in_ok-source.ensures.unchanged
+          c.decide_move.ensures.reads_only.survives c.in_ok-card.ensures.tombstone rows later holds
+          sound to;
     }
 
 -- ---- the numbers of tombstones
@@ -99,10 +127,14 @@ returns-in_err-plan-clause-counts g c rows clean holds sound right =
     let a = state g.S.Store c.find_both_headers.new.conn in
     let b = state g.S.Store c.decide_move.new.conn in
     let new = state g.S.Store c.plan_drop.new.conn in
-    let later : HasCleanDisk b = clean_before _ b new c.plan_drop.ensures.reads_only.survives clean in
-    let early : HasCleanDisk a = clean_before _ a b c.decide_move.ensures.reads_only.survives later in
-    let same = same_then old a b _ c.in_ok-source.ensures.unchanged c.decide_move.ensures.reads_only.survives c.in_ok-card.ensures.unchanged in
-    over_then old b new _ _ same c.plan_drop.ensures.reads_only.survives c.plan_drop.ensures.counts rows clean holds sound right (c.in_ok-source.ensures.finds rows early holds sound).0
+    let later : HasCleanDisk b = clean_before _ b new c.plan_drop.ensures.reads_only.survives
+    clean in
+    let early : HasCleanDisk a = clean_before _ a b c.decide_move.ensures.reads_only.survives
+    later in
+    let same = same_then old a b _ c.in_ok-source.ensures.unchanged
+    c.decide_move.ensures.reads_only.survives c.in_ok-card.ensures.unchanged in
+    over_then old b new _ _ same c.plan_drop.ensures.reads_only.survives c.plan_drop.ensures.counts
+    rows clean holds sound right (c.in_ok-source.ensures.finds rows early holds sound).0
 
 pub returns-clause-counts : goal.returns-clause-counts
 returns-clause-counts g c rows clean holds sound right =
@@ -110,10 +142,14 @@ returns-clause-counts g c rows clean holds sound right =
     let a = state g.S.Store c.find_both_headers.new.conn in
     let b = state g.S.Store c.decide_move.new.conn in
     let new = state g.S.Store c.plan_drop.new.conn in
-    let later : HasCleanDisk b = clean_before _ b new c.plan_drop.ensures.reads_only.survives clean in
-    let early : HasCleanDisk a = clean_before _ a b c.decide_move.ensures.reads_only.survives later in
-    let same = same_then old a b _ c.in_ok-source.ensures.unchanged c.decide_move.ensures.reads_only.survives c.in_ok-card.ensures.unchanged in
-    over_then old b new _ _ same c.plan_drop.ensures.reads_only.survives c.plan_drop.ensures.counts rows clean holds sound right (c.in_ok-source.ensures.finds rows early holds sound).0
+    let later : HasCleanDisk b = clean_before _ b new c.plan_drop.ensures.reads_only.survives
+    clean in
+    let early : HasCleanDisk a = clean_before _ a b c.decide_move.ensures.reads_only.survives
+    later in
+    let same = same_then old a b _ c.in_ok-source.ensures.unchanged
+    c.decide_move.ensures.reads_only.survives c.in_ok-card.ensures.unchanged in
+    over_then old b new _ _ same c.plan_drop.ensures.reads_only.survives c.plan_drop.ensures.counts
+    rows clean holds sound right (c.in_ok-source.ensures.finds rows early holds sound).0
 
 -- ---- reads
 
@@ -122,28 +158,35 @@ returns-clause-reads_only g c =
     let old = state g.S.Store c.args.conn.now in
     let a = state g.S.Store c.find_both_headers.new.conn in
     let b = state g.S.Store c.decide_move.new.conn in
-    let read = reads_then old a b c.find_both_headers.ensures.reads_only c.in_ok-source.ensures.unchanged c.decide_move.ensures.reads_only in
-    let same = same_then old a b _ c.in_ok-source.ensures.unchanged c.decide_move.ensures.reads_only.survives c.in_ok-card.ensures.unchanged in
+    let read = reads_then old a b c.find_both_headers.ensures.reads_only
+    c.in_ok-source.ensures.unchanged c.decide_move.ensures.reads_only in
+    let same = same_then old a b _ c.in_ok-source.ensures.unchanged
+    c.decide_move.ensures.reads_only.survives c.in_ok-card.ensures.unchanged in
     reads_then old b (state g.S.Store c.plan_drop.new.conn) read same c.plan_drop.ensures.reads_only
 
 -- ---- faults
 
 pub returns-in_err-source-clause-store_fault : goal.returns-in_err-source-clause-store_fault
 returns-in_err-source-clause-store_fault g c rows clean holds accept free =
-    passed_cause c.from_residual.result c.in_err-source.field-0.0 _ c.from_residual.ensures.1 (c.in_err-source.ensures.store_fault rows clean holds accept.faultless)
+    passed_cause c.from_residual.result c.in_err-source.field-0.0 _ c.from_residual.ensures.1
+    (c.in_err-source.ensures.store_fault rows clean holds accept.faultless)
 
 pub returns-in_err-card-clause-store_fault : goal.returns-in_err-card-clause-store_fault
 returns-in_err-card-clause-store_fault g c rows clean holds accept free =
     let old = state g.S.Store c.args.conn.now in
     let mid = state g.S.Store c.find_both_headers.new.conn in
     let new = state g.S.Store c.decide_move.new.conn in
-    let early : HasCleanDisk mid = clean_before _ mid new c.decide_move.ensures.reads_only.survives clean in
+    let early : HasCleanDisk mid = clean_before _ mid new c.decide_move.ensures.reads_only.survives
+    clean in
     let named = c.in_ok-source.ensures.finds rows early holds accept.faultless.sound in
     let source = header_fits rows c.args.from.now c.in_ok-source.source accept named.0.there in
     let target = header_fits rows c.args.to.now c.in_ok-source.target accept named.1.there in
     let failed : Result (List Line × Moved × Bool) Denied = Err c.in_err-card.field-0.0 in
-    passed_cause c.from_residual-in_err-card.result c.in_err-card.field-0.0 _ c.from_residual-in_err-card.ensures.1
-    (then_reads old mid new _ _ failed c.find_both_headers.ensures.reads_only.survives c.in_ok-source.ensures.unchanged c.decide_move.ensures.reads_only.survives (c.in_err-card.ensures.store_fault target source) rows clean holds accept.faultless)
+    passed_cause c.from_residual-in_err-card.result c.in_err-card.field-0.0 _
+    c.from_residual-in_err-card.ensures.1
+    (then_reads old mid new _ _ failed c.find_both_headers.ensures.reads_only.survives
+    c.in_ok-source.ensures.unchanged c.decide_move.ensures.reads_only.survives
+    (c.in_err-card.ensures.store_fault target source) rows clean holds accept.faultless)
 
 pub returns-in_err-plan-clause-store_fault : goal.returns-in_err-plan-clause-store_fault
 returns-in_err-plan-clause-store_fault g c rows clean holds accept free =
@@ -151,10 +194,15 @@ returns-in_err-plan-clause-store_fault g c rows clean holds accept free =
     let a = state g.S.Store c.find_both_headers.new.conn in
     let b = state g.S.Store c.decide_move.new.conn in
     let new = state g.S.Store c.plan_drop.new.conn in
-    let same = same_then old a b _ c.in_ok-source.ensures.unchanged c.decide_move.ensures.reads_only.survives c.in_ok-card.ensures.unchanged in
-    let read = survives_then old a b _ _ (λ _. ⊤) (λ _ db none. tt) (λ _ db none. tt) c.find_both_headers.ensures.reads_only.survives c.decide_move.ensures.reads_only.survives in
+    let same = same_then old a b _ c.in_ok-source.ensures.unchanged
+    c.decide_move.ensures.reads_only.survives c.in_ok-card.ensures.unchanged in
+    let read = survives_then old a b _ _ (λ _. ⊤) (λ _ db none. tt) (λ _ db none. tt)
+    c.find_both_headers.ensures.reads_only.survives c.decide_move.ensures.reads_only.survives in
     let failed : Result DropPlan Denied = Err c.in_err-plan.field-0.0 in
-    passed_cause c.from_residual-in_err-plan.result c.in_err-plan.field-0.0 _ c.from_residual-in_err-plan.ensures.1
+    passed_cause c.from_residual-in_err-plan.result c.in_err-plan.field-0.0 _
+    c.from_residual-in_err-plan.ensures.1
     (then_change_faults old b new _ _ c.args.from.now c.in_ok-source.source failed read same
-    (λ rows later held sound. (c.in_ok-source.ensures.finds rows (clean_before _ a b c.decide_move.ensures.reads_only.survives later) held sound).0.there)
-    c.plan_drop.ensures.reads_only.survives c.in_err-plan.ensures.store_fault rows clean holds accept free)
+    (λ rows later held sound. (c.in_ok-source.ensures.finds rows
+    (clean_before _ a b c.decide_move.ensures.reads_only.survives later) held sound).0.there)
+    c.plan_drop.ensures.reads_only.survives c.in_err-plan.ensures.store_fault rows clean holds
+    accept free)

@@ -3,7 +3,8 @@
 -- what the clauses of `write_member` ask for. For faults: the id and the next number fit, by the
 -- premises, so no conversion of a number fails. What is left as a cause is memory, or the cause of
 -- the write.
-use Rattle.std.proofs.Common.{rules, ◌≡◌, ◌+◌, Some, option_copied, pos, to_z, of_z, w64, ap, subst, sym, arith}
+use Rattle.std.proofs.Common.{rules, ◌≡◌, ◌+◌, Some, option_copied, pos, to_z, of_z, w64, ap, subst}
+use Rattle.std.proofs.Common.{sym, arith}
 use Rattle.sqlite.specs.Held.{state}
 use Rattle.store_writes.specs.AcceptedChanges.{AcceptsMemberOf}
 use Rattle.store_writes.proofs.TransactionFaults.{error_faults, memory_cause}
@@ -20,28 +21,42 @@ use Rattle.store_removals.proofs.moving.add_to_target.Goals as goal
 pub returns-in-Ok-clause-books_after : goal.returns-in-Ok-clause-books_after
 returns-in-Ok-clause-books_after g c legal text rows name clean inside line =
     let change = Stores c.args.card.now MoveIn in
-    let id : to_z w64 (of_z w64 c.in_ok-id.id) ≡ pos c.args.header.id = back_of c.in_ok-id.id c.id.result c.args.header.id c.in_ok-id.ensures.ok c.in_ok-id.ensures.fits c.id.ensures in
-    let at : to_z w64 (of_z w64 c.in_ok-changed.changed) ≡ pos (c.args.header.number + 1) = back_of c.in_ok-changed.changed (c.number.result + 1) (c.args.header.number + 1) c.in_ok-changed.ensures.ok c.in_ok-changed.ensures.fits (ap (λ k. k + 1) c.number.ensures) in
-    let numbers : numbers_of c.in_ok-numbers.numbers ≡ numbers_row (c.args.header.number + 1) c.args.header.horizon (counts_after_change change c.args.header.counts) = search rules in
-    let columns : AreHeaderColumns (header_after change c.args.header) (to_z w64 (of_z w64 c.in_ok-id.id)) c.in_ok-numbers.numbers = record { id_is = id; numbers = numbers } in
-    let is : IsRowOfChange c.args.uid.now (option_copied (Some c.args.text)) change = record { legal = legal; canonical = text.canonical; card = ap Some text.reads_back } in
+    let id : to_z w64 (of_z w64 c.in_ok-id.id) ≡ pos c.args.header.id =
+    back_of c.in_ok-id.id c.id.result c.args.header.id c.in_ok-id.ensures.ok
+    c.in_ok-id.ensures.fits c.id.ensures in
+    let at : to_z w64 (of_z w64 c.in_ok-changed.changed) ≡ pos (c.args.header.number + 1) =
+    back_of c.in_ok-changed.changed (c.number.result + 1) (c.args.header.number + 1)
+    c.in_ok-changed.ensures.ok c.in_ok-changed.ensures.fits
+    (ap (λ k. k + 1) c.number.ensures) in
+    let numbers : numbers_of c.in_ok-numbers.numbers ≡ numbers_row (c.args.header.number + 1)
+    c.args.header.horizon (counts_after_change change c.args.header.counts) = search rules in
+    let columns : AreHeaderColumns (header_after change c.args.header)
+    (to_z w64 (of_z w64 c.in_ok-id.id)) c.in_ok-numbers.numbers =
+    record { id_is = id; numbers = numbers } in
+    let is : IsRowOfChange c.args.uid.now (option_copied (Some c.args.text)) change =
+    record { legal = legal; canonical = text.canonical; card = ap Some text.reads_back } in
     c.in-Ok.ensures.books_after c.args.header change at is columns rows name clean inside line
 
 pub returns-in-Ok-clause-keeps_commit : goal.returns-in-Ok-clause-keeps_commit
 returns-in-Ok-clause-keeps_commit g c rows name clean inside line =
-    let id : to_z w64 (of_z w64 c.in_ok-id.id) ≡ pos c.args.header.id = back_of c.in_ok-id.id c.id.result c.args.header.id c.in_ok-id.ensures.ok c.in_ok-id.ensures.fits c.id.ensures in
+    let id : to_z w64 (of_z w64 c.in_ok-id.id) ≡ pos c.args.header.id =
+    back_of c.in_ok-id.id c.id.result c.args.header.id c.in_ok-id.ensures.ok
+    c.in_ok-id.ensures.fits c.id.ensures in
     c.in-Ok.ensures.keeps_commit c.args.header id rows name clean inside line
 
 pub returns-clause-keeps_commit : goal.returns-clause-keeps_commit
 returns-clause-keeps_commit g c rows name clean inside line =
-    let id : to_z w64 (of_z w64 c.in_ok-id.id) ≡ pos c.args.header.id = back_of c.in_ok-id.id c.id.result c.args.header.id c.in_ok-id.ensures.ok c.in_ok-id.ensures.fits c.id.ensures in
+    let id : to_z w64 (of_z w64 c.in_ok-id.id) ≡ pos c.args.header.id =
+    back_of c.in_ok-id.id c.id.result c.args.header.id c.in_ok-id.ensures.ok
+    c.in_ok-id.ensures.fits c.id.ensures in
     c.in-Err.ensures.keeps_commit c.args.header id rows name clean inside line
 
 -- ---- faults
 
 pub returns-in_err-numbers-clause-store_fault : goal.returns-in_err-numbers-clause-store_fault
 returns-in_err-numbers-clause-store_fault g c fits rows name accepts below clean inside obeys =
-    memory_cause c.from_residual-in_err-numbers.result c.in_err-numbers.field-0.0 _ c.from_residual-in_err-numbers.ensures.1 (c.in_err-numbers.ensures.memory fits)
+    memory_cause c.from_residual-in_err-numbers.result c.in_err-numbers.field-0.0 _
+    c.from_residual-in_err-numbers.ensures.1 (c.in_err-numbers.ensures.memory fits)
 
 pub returns-in_err-id-clause-store_fault : goal.returns-in_err-id-clause-store_fault
 returns-in_err-id-clause-store_fault g c fits rows name accepts below clean inside obeys =
@@ -57,20 +72,32 @@ returns-in_err-changed-clause-store_fault g c fits rows name accepts below clean
 
 pub returns-clause-store_fault : goal.returns-clause-store_fault
 returns-clause-store_fault g c fits rows name accepts below clean inside obeys =
-    let id : to_z w64 (of_z w64 c.in_ok-id.id) ≡ pos c.args.header.id = back_of c.in_ok-id.id c.id.result c.args.header.id c.in_ok-id.ensures.ok c.in_ok-id.ensures.fits c.id.ensures in
-    let at : to_z w64 (of_z w64 c.in_ok-changed.changed) ≡ pos (c.args.header.number + 1) = back_of c.in_ok-changed.changed (c.number.result + 1) (c.args.header.number + 1) c.in_ok-changed.ensures.ok c.in_ok-changed.ensures.fits (ap (λ k. k + 1) c.number.ensures) in
+    let id : to_z w64 (of_z w64 c.in_ok-id.id) ≡ pos c.args.header.id =
+    back_of c.in_ok-id.id c.id.result c.args.header.id c.in_ok-id.ensures.ok
+    c.in_ok-id.ensures.fits c.id.ensures in
+    let at : to_z w64 (of_z w64 c.in_ok-changed.changed) ≡ pos (c.args.header.number + 1) =
+    back_of c.in_ok-changed.changed (c.number.result + 1) (c.args.header.number + 1)
+    c.in_ok-changed.ensures.ok c.in_ok-changed.ensures.fits
+    (ap (λ k. k + 1) c.number.ensures) in
     let db = (state g.S.Store c.args.tx.now.conn.now).now in
-    let ready = subst (λ z. AcceptsMemberOf db rows name c.args.header c.args.uid.now z (Some c.args.text.now)) (sym at) accepts in
-    error_faults c.in-Err.error c.fault_of.result _ c.fault_of.ensures.value (c.in-Err.ensures.fails_from_outside rows name c.args.header id ready clean inside accepts.book.line.holds.schema obeys)
+    let ready = subst (λ z. AcceptsMemberOf db rows name c.args.header c.args.uid.now z
+    (Some c.args.text.now)) (sym at) accepts in
+    error_faults c.in-Err.error c.fault_of.result _ c.fault_of.ensures.value
+    (c.in-Err.ensures.fails_from_outside rows name c.args.header id ready clean inside
+    accepts.book.line.holds.schema obeys)
 
 -- ---- the rows that the writes leave
 
 pub returns-in-Ok-clause-obeys : goal.returns-in-Ok-clause-obeys
 returns-in-Ok-clause-obeys g c rows name clean inside line =
-    let id : to_z w64 (of_z w64 c.in_ok-id.id) ≡ pos c.args.header.id = back_of c.in_ok-id.id c.id.result c.args.header.id c.in_ok-id.ensures.ok c.in_ok-id.ensures.fits c.id.ensures in
+    let id : to_z w64 (of_z w64 c.in_ok-id.id) ≡ pos c.args.header.id =
+    back_of c.in_ok-id.id c.id.result c.args.header.id c.in_ok-id.ensures.ok
+    c.in_ok-id.ensures.fits c.id.ensures in
     c.in-Ok.ensures.obeys c.args.header id rows name clean inside line
 
 pub returns-in-Ok-clause-takes_one_id : goal.returns-in-Ok-clause-takes_one_id
 returns-in-Ok-clause-takes_one_id g c rows name clean inside line count free =
-    let id : to_z w64 (of_z w64 c.in_ok-id.id) ≡ pos c.args.header.id = back_of c.in_ok-id.id c.id.result c.args.header.id c.in_ok-id.ensures.ok c.in_ok-id.ensures.fits c.id.ensures in
+    let id : to_z w64 (of_z w64 c.in_ok-id.id) ≡ pos c.args.header.id =
+    back_of c.in_ok-id.id c.id.result c.args.header.id c.in_ok-id.ensures.ok
+    c.in_ok-id.ensures.fits c.id.ensures in
     c.in-Ok.ensures.takes_one_id c.args.header id rows name clean inside line count free

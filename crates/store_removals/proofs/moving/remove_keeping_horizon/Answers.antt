@@ -1,4 +1,5 @@
-use Rattle.std.proofs.Common.{rules, ◌≡◌, ◌+◌, pos, to_z, of_z, w64, refl, ap, subst, sym, arith, None}
+use Rattle.std.proofs.Common.{rules, ◌≡◌, ◌+◌, pos, to_z, of_z, w64, refl, ap, subst, sym, arith}
+use Rattle.std.proofs.Common.{None}
 use Rattle.sqlite.specs.Held.{state}
 use Rattle.store_writes.specs.AcceptedChanges.{AcceptsMemberOf}
 use Rattle.store_writes.proofs.TransactionFaults.{error_faults, memory_cause}
@@ -15,20 +16,36 @@ use Rattle.store_removals.proofs.moving.remove_keeping_horizon.Goals as goal
 pub returns-in-Ok-clause-books_after : goal.returns-in-Ok-clause-books_after
 returns-in-Ok-clause-books_after g c legal rows name clean inside line =
     let change = TakesAway MoveOut in
-    let id : to_z w64 (of_z w64 c.in_ok-id.id) ≡ pos c.args.header.id = back_of c.in_ok-id.id c.id.result c.args.header.id c.in_ok-id.ensures.ok c.in_ok-id.ensures.fits c.id.ensures in
-    let at : to_z w64 (of_z w64 c.in_ok-changed.changed) ≡ pos (c.args.header.number + 1) = back_of c.in_ok-changed.changed (c.number.result + 1) (c.args.header.number + 1) c.in_ok-changed.ensures.ok c.in_ok-changed.ensures.fits (ap (λ k. k + 1) c.number.ensures) in
-    let numbers : numbers_of c.in_ok-numbers.numbers ≡ numbers_row (c.args.header.number + 1) c.args.header.horizon (counts_after_change change c.args.header.counts) = search rules in
-    let columns : AreHeaderColumns (header_after change c.args.header) (to_z w64 (of_z w64 c.in_ok-id.id)) c.in_ok-numbers.numbers = record { id_is = id; numbers = numbers } in
-    c.in-Ok.ensures.books_after c.args.header change at (record { legal = legal; canonical = tt; card = refl }) columns rows name clean inside line
+    let id : to_z w64 (of_z w64 c.in_ok-id.id) ≡ pos c.args.header.id =
+    back_of c.in_ok-id.id c.id.result c.args.header.id c.in_ok-id.ensures.ok
+    c.in_ok-id.ensures.fits c.id.ensures in
+    let at : to_z w64 (of_z w64 c.in_ok-changed.changed) ≡ pos (c.args.header.number + 1) =
+    back_of c.in_ok-changed.changed (c.number.result + 1) (c.args.header.number + 1)
+    c.in_ok-changed.ensures.ok c.in_ok-changed.ensures.fits
+    (ap (λ k. k + 1) c.number.ensures) in
+    let numbers : numbers_of c.in_ok-numbers.numbers ≡ numbers_row (c.args.header.number + 1)
+    c.args.header.horizon (counts_after_change change c.args.header.counts) = search rules in
+    let columns : AreHeaderColumns (header_after change c.args.header)
+    (to_z w64 (of_z w64 c.in_ok-id.id)) c.in_ok-numbers.numbers =
+    record { id_is = id; numbers = numbers } in
+    c.in-Ok.ensures.books_after c.args.header change at (record {
+      legal = legal;
+      canonical = tt;
+      card = refl;
+    }) columns rows name clean inside line
 
 pub returns-in-Ok-clause-keeps_commit : goal.returns-in-Ok-clause-keeps_commit
 returns-in-Ok-clause-keeps_commit g c rows name clean inside line =
-    let id : to_z w64 (of_z w64 c.in_ok-id.id) ≡ pos c.args.header.id = back_of c.in_ok-id.id c.id.result c.args.header.id c.in_ok-id.ensures.ok c.in_ok-id.ensures.fits c.id.ensures in
+    let id : to_z w64 (of_z w64 c.in_ok-id.id) ≡ pos c.args.header.id =
+    back_of c.in_ok-id.id c.id.result c.args.header.id c.in_ok-id.ensures.ok
+    c.in_ok-id.ensures.fits c.id.ensures in
     c.in-Ok.ensures.keeps_commit c.args.header id rows name clean inside line
 
 pub returns-in-Err-clause-keeps_commit : goal.returns-in-Err-clause-keeps_commit
 returns-in-Err-clause-keeps_commit g c rows name clean inside line =
-    let id : to_z w64 (of_z w64 c.in_ok-id.id) ≡ pos c.args.header.id = back_of c.in_ok-id.id c.id.result c.args.header.id c.in_ok-id.ensures.ok c.in_ok-id.ensures.fits c.id.ensures in
+    let id : to_z w64 (of_z w64 c.in_ok-id.id) ≡ pos c.args.header.id =
+    back_of c.in_ok-id.id c.id.result c.args.header.id c.in_ok-id.ensures.ok
+    c.in_ok-id.ensures.fits c.id.ensures in
     c.in-Err.ensures.keeps_commit c.args.header id rows name clean inside line
 
 -- ---- faults
@@ -37,7 +54,8 @@ pub returns-in_err-numbers-clause-store_fault : goal.returns-in_err-numbers-clau
 returns-in_err-numbers-clause-store_fault g c fits rows name accepts below clean inside obeys =
     let header = c.horizon.ensures.most in
     let horizon = c.horizon.ensures.value in
-    memory_cause c.from_residual.result c.in_err-numbers.field-0.0 _ c.from_residual.ensures.1 (c.in_err-numbers.ensures.memory fits (omega (arith, fits, header, horizon)))
+    memory_cause c.from_residual.result c.in_err-numbers.field-0.0 _ c.from_residual.ensures.1
+    (c.in_err-numbers.ensures.memory fits (omega (arith, fits, header, horizon)))
 
 pub returns-in_err-id-clause-store_fault : goal.returns-in_err-id-clause-store_fault
 returns-in_err-id-clause-store_fault g c fits rows name accepts below clean inside obeys =
@@ -53,8 +71,16 @@ returns-in_err-changed-clause-store_fault g c fits rows name accepts below clean
 
 pub returns-in-Err-clause-store_fault : goal.returns-in-Err-clause-store_fault
 returns-in-Err-clause-store_fault g c fits rows name accepts below clean inside obeys =
-    let id : to_z w64 (of_z w64 c.in_ok-id.id) ≡ pos c.args.header.id = back_of c.in_ok-id.id c.id.result c.args.header.id c.in_ok-id.ensures.ok c.in_ok-id.ensures.fits c.id.ensures in
-    let at : to_z w64 (of_z w64 c.in_ok-changed.changed) ≡ pos (c.args.header.number + 1) = back_of c.in_ok-changed.changed (c.number.result + 1) (c.args.header.number + 1) c.in_ok-changed.ensures.ok c.in_ok-changed.ensures.fits (ap (λ k. k + 1) c.number.ensures) in
+    let id : to_z w64 (of_z w64 c.in_ok-id.id) ≡ pos c.args.header.id =
+    back_of c.in_ok-id.id c.id.result c.args.header.id c.in_ok-id.ensures.ok
+    c.in_ok-id.ensures.fits c.id.ensures in
+    let at : to_z w64 (of_z w64 c.in_ok-changed.changed) ≡ pos (c.args.header.number + 1) =
+    back_of c.in_ok-changed.changed (c.number.result + 1) (c.args.header.number + 1)
+    c.in_ok-changed.ensures.ok c.in_ok-changed.ensures.fits
+    (ap (λ k. k + 1) c.number.ensures) in
     let db = (state g.S.Store c.args.tx.now.conn.now).now in
-    let ready = subst (λ z. AcceptsMemberOf db rows name c.args.header c.args.uid.now z None) (sym at) accepts in
-    error_faults c.in-Err.error c.fault_of.result _ c.fault_of.ensures.value (c.in-Err.ensures.fails_from_outside rows name c.args.header id ready clean inside accepts.book.line.holds.schema obeys)
+    let ready = subst (λ z. AcceptsMemberOf db rows name c.args.header c.args.uid.now z None)
+    (sym at) accepts in
+    error_faults c.in-Err.error c.fault_of.result _ c.fault_of.ensures.value
+    (c.in-Err.ensures.fails_from_outside rows name c.args.header id ready clean inside
+    accepts.book.line.holds.schema obeys)

@@ -27,33 +27,49 @@ use Rattle.store_removals.proofs.remove_call.plan_remove.Goals as goal
 pub returns-in_err-header-clause-planned : goal.returns-in_err-header-clause-planned
 returns-in_err-header-clause-planned g c rows clean holds sound right =
     let said : c.from_residual.result ≡ Err c.in_err-header.field-0.0 = search rules in
-    subst (λ r. IsRemovalPlanned c.args.limits rows c.args.name.now c.args.uid.now c.args.expect r) (sym said)
-    (none_returned IsExactly (removal_number_in c.args.limits c.args.uid.now c.args.expect) c.args.name.now (state g.S.Store c.args.conn.now) (state g.S.Store c.open_header.new.conn) c.in_err-header.field-0.0 c.in_err-header.ensures.finds rows clean holds sound)
+    subst (λ r. IsRemovalPlanned c.args.limits rows c.args.name.now c.args.uid.now c.args.expect r)
+    (sym said)
+    (none_returned IsExactly (removal_number_in c.args.limits c.args.uid.now c.args.expect)
+    c.args.name.now (state g.S.Store c.args.conn.now) (state g.S.Store c.open_header.new.conn)
+    c.in_err-header.field-0.0 c.in_err-header.ensures.finds rows clean holds sound)
 
 pub returns-in_err-number-clause-planned : goal.returns-in_err-number-clause-planned
 returns-in_err-number-clause-planned g c rows clean holds sound right =
-    let said : c.from_residual-in_err-number.result ≡ Err c.in_err-number.field-0.0 = search rules in
-    subst (λ r. IsRemovalPlanned c.args.limits rows c.args.name.now c.args.uid.now c.args.expect r) (sym said)
-    (returns_then IsExactly (removal_number_in c.args.limits c.args.uid.now c.args.expect) c.args.name.now (state g.S.Store c.args.conn.now) (state g.S.Store c.open_header.new.conn) (state g.S.Store c.decide_removal.new.conn) _ c.in_ok-header.header (Err c.in_err-number.field-0.0)
-    c.in_ok-header.ensures.finds c.in_ok-header.ensures.unchanged c.decide_removal.ensures.reads_only.survives c.in_err-number.ensures.answers rows clean holds sound)
+    let said : c.from_residual-in_err-number.result ≡ Err c.in_err-number.field-0.0 =
+    search rules in
+    subst (λ r. IsRemovalPlanned c.args.limits rows c.args.name.now c.args.uid.now c.args.expect r)
+    (sym said)
+    (returns_then IsExactly (removal_number_in c.args.limits c.args.uid.now c.args.expect)
+    c.args.name.now (state g.S.Store c.args.conn.now) (state g.S.Store c.open_header.new.conn)
+    (state g.S.Store c.decide_removal.new.conn) _ c.in_ok-header.header
+    (Err c.in_err-number.field-0.0)
+    c.in_ok-header.ensures.finds c.in_ok-header.ensures.unchanged
+    c.decide_removal.ensures.reads_only.survives c.in_err-number.ensures.answers rows clean
+    holds sound)
 
 pub returns-in_err-number-clause-reads_only : goal.returns-in_err-number-clause-reads_only
 returns-in_err-number-clause-reads_only g c =
-    reads_then (state g.S.Store c.args.conn.now) (state g.S.Store c.open_header.new.conn) (state g.S.Store c.decide_removal.new.conn) c.open_header.ensures.reads_only c.in_ok-header.ensures.unchanged c.decide_removal.ensures.reads_only
+    reads_then (state g.S.Store c.args.conn.now) (state g.S.Store c.open_header.new.conn)
+    (state g.S.Store c.decide_removal.new.conn) c.open_header.ensures.reads_only
+    c.in_ok-header.ensures.unchanged c.decide_removal.ensures.reads_only
 
 pub returns-in_err-plan-clause-planned : goal.returns-in_err-plan-clause-planned
 returns-in_err-plan-clause-planned g c rows clean holds sound right =
     let said : c.from_residual-in_err-plan.result ≡ Err c.in_err-plan.field-0.0 = search rules in
-    subst (λ r. IsRemovalPlanned c.args.limits rows c.args.name.now c.args.uid.now c.args.expect r) (sym said)
-    (fault_removes c.args.limits rows c.args.name.now c.args.uid.now c.args.expect c.in_err-plan.field-0.0 c.in_err-plan.ensures.fault)
+    subst (λ r. IsRemovalPlanned c.args.limits rows c.args.name.now c.args.uid.now c.args.expect r)
+    (sym said)
+    (fault_removes c.args.limits rows c.args.name.now c.args.uid.now c.args.expect
+    c.in_err-plan.field-0.0 c.in_err-plan.ensures.fault)
 
 pub returns-in_err-plan-clause-reads_only : goal.returns-in_err-plan-clause-reads_only
 returns-in_err-plan-clause-reads_only g c =
     let old = state g.S.Store c.args.conn.now in
     let a = state g.S.Store c.open_header.new.conn in
     let b = state g.S.Store c.decide_removal.new.conn in
-    let read = reads_then old a b c.open_header.ensures.reads_only c.in_ok-header.ensures.unchanged c.decide_removal.ensures.reads_only in
-    let same = same_then old a b _ c.in_ok-header.ensures.unchanged c.decide_removal.ensures.reads_only.survives c.in_ok-number.ensures.unchanged in
+    let read = reads_then old a b c.open_header.ensures.reads_only c.in_ok-header.ensures.unchanged
+    c.decide_removal.ensures.reads_only in
+    let same = same_then old a b _ c.in_ok-header.ensures.unchanged
+    c.decide_removal.ensures.reads_only.survives c.in_ok-number.ensures.unchanged in
     reads_then old b (state g.S.Store c.plan_drop.new.conn) read same c.plan_drop.ensures.reads_only
 
 pub returns-clause-planned : goal.returns-clause-planned
@@ -62,22 +78,31 @@ returns-clause-planned g c rows clean holds sound right =
     let a = state g.S.Store c.open_header.new.conn in
     let b = state g.S.Store c.decide_removal.new.conn in
     let new = state g.S.Store c.plan_drop.new.conn in
-    let later : HasCleanDisk b = clean_before _ b new c.plan_drop.ensures.reads_only.survives clean in
-    let early : HasCleanDisk a = clean_before _ a b c.decide_removal.ensures.reads_only.survives later in
+    let later : HasCleanDisk b = clean_before _ b new c.plan_drop.ensures.reads_only.survives
+    clean in
+    let early : HasCleanDisk a = clean_before _ a b c.decide_removal.ensures.reads_only.survives
+    later in
     let name = c.args.name.now in
     let header = c.in_ok-header.header in
-    let same = same_then old a b _ c.in_ok-header.ensures.unchanged c.decide_removal.ensures.reads_only.survives c.in_ok-number.ensures.unchanged in
-    let number = answer_is_exact (removal_number_in c.args.limits c.args.uid.now c.args.expect (row_book rows (line_row name header))) c.in_ok-number.number
-    (over_then old a b _ _ c.in_ok-header.ensures.unchanged c.decide_removal.ensures.reads_only.survives c.in_ok-number.ensures.answers rows later holds sound name) in
+    let same = same_then old a b _ c.in_ok-header.ensures.unchanged
+    c.decide_removal.ensures.reads_only.survives c.in_ok-number.ensures.unchanged in
+    let number = answer_is_exact (removal_number_in c.args.limits c.args.uid.now c.args.expect
+    (row_book rows (line_row name header))) c.in_ok-number.number
+    (over_then old a b _ _ c.in_ok-header.ensures.unchanged
+    c.decide_removal.ensures.reads_only.survives c.in_ok-number.ensures.answers rows later holds
+    sound name) in
     let named = c.in_ok-header.ensures.finds rows early holds sound in
-    let drop = over_then old b new _ _ same c.plan_drop.ensures.reads_only.survives c.in_ok-plan.ensures.drop rows clean holds sound right named in
-    let tombstones = over_then old b new _ _ same c.plan_drop.ensures.reads_only.survives c.in_ok-plan.ensures.tombstones rows clean holds sound right named in
+    let drop = over_then old b new _ _ same c.plan_drop.ensures.reads_only.survives
+    c.in_ok-plan.ensures.drop rows clean holds sound right named in
+    let tombstones = over_then old b new _ _ same c.plan_drop.ensures.reads_only.survives
+    c.in_ok-plan.ensures.tombstones rows clean holds sound right named in
     let low = c.in_ok-plan.ensures.horizon in
     record {
       named = named;
       horizon = low;
       number = number;
-      drop = drop_is rows name header c.args.uid.now c.args.limits c.args.expect c.in_ok-number.number c.in_ok-plan.plan.drop sound low number drop;
+      drop = drop_is rows name header c.args.uid.now c.args.limits c.args.expect
+          c.in_ok-number.number c.in_ok-plan.plan.drop sound low number drop;
       tombstones = tombstones;
     }
 
@@ -89,10 +114,14 @@ returns-in_err-plan-clause-counts g c rows clean holds sound right =
     let a = state g.S.Store c.open_header.new.conn in
     let b = state g.S.Store c.decide_removal.new.conn in
     let new = state g.S.Store c.plan_drop.new.conn in
-    let later : HasCleanDisk b = clean_before _ b new c.plan_drop.ensures.reads_only.survives clean in
-    let early : HasCleanDisk a = clean_before _ a b c.decide_removal.ensures.reads_only.survives later in
-    let same = same_then old a b _ c.in_ok-header.ensures.unchanged c.decide_removal.ensures.reads_only.survives c.in_ok-number.ensures.unchanged in
-    over_then old b new _ _ same c.plan_drop.ensures.reads_only.survives c.plan_drop.ensures.counts rows clean holds sound right (c.in_ok-header.ensures.finds rows early holds sound)
+    let later : HasCleanDisk b = clean_before _ b new c.plan_drop.ensures.reads_only.survives
+    clean in
+    let early : HasCleanDisk a = clean_before _ a b c.decide_removal.ensures.reads_only.survives
+    later in
+    let same = same_then old a b _ c.in_ok-header.ensures.unchanged
+    c.decide_removal.ensures.reads_only.survives c.in_ok-number.ensures.unchanged in
+    over_then old b new _ _ same c.plan_drop.ensures.reads_only.survives c.plan_drop.ensures.counts
+    rows clean holds sound right (c.in_ok-header.ensures.finds rows early holds sound)
 
 pub returns-clause-counts : goal.returns-clause-counts
 returns-clause-counts g c rows clean holds sound right =
@@ -100,10 +129,14 @@ returns-clause-counts g c rows clean holds sound right =
     let a = state g.S.Store c.open_header.new.conn in
     let b = state g.S.Store c.decide_removal.new.conn in
     let new = state g.S.Store c.plan_drop.new.conn in
-    let later : HasCleanDisk b = clean_before _ b new c.plan_drop.ensures.reads_only.survives clean in
-    let early : HasCleanDisk a = clean_before _ a b c.decide_removal.ensures.reads_only.survives later in
-    let same = same_then old a b _ c.in_ok-header.ensures.unchanged c.decide_removal.ensures.reads_only.survives c.in_ok-number.ensures.unchanged in
-    over_then old b new _ _ same c.plan_drop.ensures.reads_only.survives c.plan_drop.ensures.counts rows clean holds sound right (c.in_ok-header.ensures.finds rows early holds sound)
+    let later : HasCleanDisk b = clean_before _ b new c.plan_drop.ensures.reads_only.survives
+    clean in
+    let early : HasCleanDisk a = clean_before _ a b c.decide_removal.ensures.reads_only.survives
+    later in
+    let same = same_then old a b _ c.in_ok-header.ensures.unchanged
+    c.decide_removal.ensures.reads_only.survives c.in_ok-number.ensures.unchanged in
+    over_then old b new _ _ same c.plan_drop.ensures.reads_only.survives c.plan_drop.ensures.counts
+    rows clean holds sound right (c.in_ok-header.ensures.finds rows early holds sound)
 
 -- ---- reads
 
@@ -112,30 +145,37 @@ returns-clause-unchanged g c =
     let old = state g.S.Store c.args.conn.now in
     let a = state g.S.Store c.open_header.new.conn in
     let b = state g.S.Store c.decide_removal.new.conn in
-    let same = same_then old a b _ c.in_ok-header.ensures.unchanged c.decide_removal.ensures.reads_only.survives c.in_ok-number.ensures.unchanged in
-    same_then old b (state g.S.Store c.plan_drop.new.conn) _ same c.plan_drop.ensures.reads_only.survives c.in_ok-plan.ensures.unchanged
+    let same = same_then old a b _ c.in_ok-header.ensures.unchanged
+    c.decide_removal.ensures.reads_only.survives c.in_ok-number.ensures.unchanged in
+    same_then old b (state g.S.Store c.plan_drop.new.conn) _ same
+    c.plan_drop.ensures.reads_only.survives c.in_ok-plan.ensures.unchanged
 
 pub returns-clause-reads_only : goal.returns-clause-reads_only
 returns-clause-reads_only g c =
     let old = state g.S.Store c.args.conn.now in
     let a = state g.S.Store c.open_header.new.conn in
     let b = state g.S.Store c.decide_removal.new.conn in
-    let read = reads_then old a b c.open_header.ensures.reads_only c.in_ok-header.ensures.unchanged c.decide_removal.ensures.reads_only in
-    let same = same_then old a b _ c.in_ok-header.ensures.unchanged c.decide_removal.ensures.reads_only.survives c.in_ok-number.ensures.unchanged in
+    let read = reads_then old a b c.open_header.ensures.reads_only c.in_ok-header.ensures.unchanged
+    c.decide_removal.ensures.reads_only in
+    let same = same_then old a b _ c.in_ok-header.ensures.unchanged
+    c.decide_removal.ensures.reads_only.survives c.in_ok-number.ensures.unchanged in
     reads_then old b (state g.S.Store c.plan_drop.new.conn) read same c.plan_drop.ensures.reads_only
 
 pub returns-clause-was_open : goal.returns-clause-was_open
 returns-clause-was_open g c clean =
     let a = state g.S.Store c.open_header.new.conn in
     let b = state g.S.Store c.decide_removal.new.conn in
-    let later : HasCleanDisk b = clean_before _ b (state g.S.Store c.plan_drop.new.conn) c.plan_drop.ensures.reads_only.survives clean in
-    c.in_ok-header.ensures.was_open (clean_before _ a b c.decide_removal.ensures.reads_only.survives later)
+    let later : HasCleanDisk b = clean_before _ b (state g.S.Store c.plan_drop.new.conn)
+    c.plan_drop.ensures.reads_only.survives clean in
+    c.in_ok-header.ensures.was_open (clean_before _ a b c.decide_removal.ensures.reads_only.survives
+    later)
 
 -- ---- faults
 
 pub returns-in_err-header-clause-store_fault : goal.returns-in_err-header-clause-store_fault
 returns-in_err-header-clause-store_fault g c rows clean holds accept free =
-    passed_cause c.from_residual.result c.in_err-header.field-0.0 _ c.from_residual.ensures.1 (c.in_err-header.ensures.store_fault rows clean holds accept.faultless)
+    passed_cause c.from_residual.result c.in_err-header.field-0.0 _ c.from_residual.ensures.1
+    (c.in_err-header.ensures.store_fault rows clean holds accept.faultless)
 
 pub returns-in_err-number-clause-store_fault : goal.returns-in_err-number-clause-store_fault
 returns-in_err-number-clause-store_fault g c rows clean holds accept free =
@@ -143,9 +183,13 @@ returns-in_err-number-clause-store_fault g c rows clean holds accept free =
     let mid = state g.S.Store c.open_header.new.conn in
     let new = state g.S.Store c.decide_removal.new.conn in
     let failed : Result ℕ Denied = Err c.in_err-number.field-0.0 in
-    passed_cause c.from_residual-in_err-number.result c.in_err-number.field-0.0 _ c.from_residual-in_err-number.ensures.1
-    (then_faults old mid new _ _ c.args.name.now c.in_ok-header.header failed c.open_header.ensures.reads_only.survives c.in_ok-header.ensures.unchanged c.in_ok-header.ensures.finds
-    c.decide_removal.ensures.reads_only.survives c.in_err-number.ensures.store_fault rows clean holds accept.faultless)
+    passed_cause c.from_residual-in_err-number.result c.in_err-number.field-0.0 _
+    c.from_residual-in_err-number.ensures.1
+    (then_faults old mid new _ _ c.args.name.now c.in_ok-header.header failed
+    c.open_header.ensures.reads_only.survives c.in_ok-header.ensures.unchanged
+    c.in_ok-header.ensures.finds
+    c.decide_removal.ensures.reads_only.survives c.in_err-number.ensures.store_fault rows clean
+    holds accept.faultless)
 
 pub returns-in_err-plan-clause-store_fault : goal.returns-in_err-plan-clause-store_fault
 returns-in_err-plan-clause-store_fault g c rows clean holds accept free =
@@ -153,10 +197,15 @@ returns-in_err-plan-clause-store_fault g c rows clean holds accept free =
     let a = state g.S.Store c.open_header.new.conn in
     let b = state g.S.Store c.decide_removal.new.conn in
     let new = state g.S.Store c.plan_drop.new.conn in
-    let same = same_then old a b _ c.in_ok-header.ensures.unchanged c.decide_removal.ensures.reads_only.survives c.in_ok-number.ensures.unchanged in
-    let read = survives_then old a b _ _ (λ _. ⊤) (λ _ db none. tt) (λ _ db none. tt) c.open_header.ensures.reads_only.survives c.decide_removal.ensures.reads_only.survives in
+    let same = same_then old a b _ c.in_ok-header.ensures.unchanged
+    c.decide_removal.ensures.reads_only.survives c.in_ok-number.ensures.unchanged in
+    let read = survives_then old a b _ _ (λ _. ⊤) (λ _ db none. tt) (λ _ db none. tt)
+    c.open_header.ensures.reads_only.survives c.decide_removal.ensures.reads_only.survives in
     let failed : Result DropPlan Denied = Err c.in_err-plan.field-0.0 in
-    passed_cause c.from_residual-in_err-plan.result c.in_err-plan.field-0.0 _ c.from_residual-in_err-plan.ensures.1
+    passed_cause c.from_residual-in_err-plan.result c.in_err-plan.field-0.0 _
+    c.from_residual-in_err-plan.ensures.1
     (then_change_faults old b new _ _ c.args.name.now c.in_ok-header.header failed read same
-    (λ rows later held sound. (c.in_ok-header.ensures.finds rows (clean_before _ a b c.decide_removal.ensures.reads_only.survives later) held sound).there)
-    c.plan_drop.ensures.reads_only.survives c.in_err-plan.ensures.store_fault rows clean holds accept free)
+    (λ rows later held sound. (c.in_ok-header.ensures.finds rows
+    (clean_before _ a b c.decide_removal.ensures.reads_only.survives later) held sound).there)
+    c.plan_drop.ensures.reads_only.survives c.in_err-plan.ensures.store_fault rows clean holds
+    accept free)

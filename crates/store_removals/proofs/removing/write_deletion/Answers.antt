@@ -3,7 +3,8 @@
 -- columns are the numbers of the header after that (`back_of`). For faults: the horizon, which no
 -- premise bounds here, fits as the others do (`header_fits`); and the table accepts the tombstone,
 -- as its number is unused (`accepts_member`).
-use Rattle.std.proofs.Common.{rules, ◌≡◌, ◌+◌, pos, to_z, of_z, w64, refl, ap, None, arith, subst, sym}
+use Rattle.std.proofs.Common.{rules, ◌≡◌, ◌+◌, pos, to_z, of_z, w64, refl, ap, None, arith, subst}
+use Rattle.std.proofs.Common.{sym}
 use Rattle.store_lookups.proofs.ChangeFaultLemmas.{header_fits}
 use Rattle.store_writes.specs.AcceptedChanges.{AcceptsMemberOf}
 use Rattle.store_writes.proofs.AcceptLemmas.{accepts_member, legal_short}
@@ -22,21 +23,30 @@ use Rattle.store_removals.proofs.removing.write_deletion.Goals.{After-commit_mem
 -- what the clauses share: the columns after the change
 module _ (g : given.Over) (c : After-commit_member g) where
   changed_is : to_z w64 (of_z w64 c.in_ok-changed.changed) ≡ pos (c.args.header.number + 1)
-  changed_is = back_of c.in_ok-changed.changed (c.number.result + 1) (c.args.header.number + 1) c.in_ok-changed.ensures.ok c.in_ok-changed.ensures.fits (ap (λ k. k + 1) c.number.ensures)
+  changed_is = back_of c.in_ok-changed.changed (c.number.result + 1) (c.args.header.number + 1)
+      c.in_ok-changed.ensures.ok c.in_ok-changed.ensures.fits (ap (λ k. k + 1) c.number.ensures)
 
-  columns : AreHeaderColumns (header_after (TakesAway Deletion) c.args.header) (to_z w64 (of_z w64 c.in_ok-id.id)) c.in_ok-numbers.numbers
-  columns = record { id_is = back_of c.in_ok-id.id c.id.result c.args.header.id c.in_ok-id.ensures.ok c.in_ok-id.ensures.fits c.id.ensures; numbers = search rules }
+  columns : AreHeaderColumns (header_after (TakesAway Deletion) c.args.header)
+      (to_z w64 (of_z w64 c.in_ok-id.id)) c.in_ok-numbers.numbers
+  columns = record {
+    id_is = back_of c.in_ok-id.id c.id.result c.args.header.id
+        c.in_ok-id.ensures.ok c.in_ok-id.ensures.fits c.id.ensures;
+    numbers = search rules;
+  }
 
 pub returns-clause-atomic : goal.returns-clause-atomic
 returns-clause-atomic g c legal rows name clean line =
     let p = (goal.at.returns-clause-atomic g c).After-commit_member in
-    mapped_atomic (state g.S.Store c.args.conn.now) (state g.S.Store c.commit_member.new.conn) c.commit_member.result c.map_err.result _ _ c.map_err.ensures.cases
-    (c.commit_member.ensures.atomic c.args.header (TakesAway Deletion) (changed_is g p) (record { legal = legal; canonical = tt; card = refl }) (columns g p) rows name clean line)
+    mapped_atomic (state g.S.Store c.args.conn.now) (state g.S.Store c.commit_member.new.conn)
+    c.commit_member.result c.map_err.result _ _ c.map_err.ensures.cases
+    (c.commit_member.ensures.atomic c.args.header (TakesAway Deletion) (changed_is g p)
+    (record { legal = legal; canonical = tt; card = refl }) (columns g p) rows name clean line)
 
 pub returns-clause-crash : goal.returns-clause-crash
 returns-clause-crash g c legal rows name line =
     let p = (goal.at.returns-clause-crash g c).After-commit_member in
-    c.commit_member.ensures.crash c.args.header (TakesAway Deletion) (changed_is g p) (record { legal = legal; canonical = tt; card = refl }) (columns g p) rows name line
+    c.commit_member.ensures.crash c.args.header (TakesAway Deletion) (changed_is g p)
+    (record { legal = legal; canonical = tt; card = refl }) (columns g p) rows name line
 
 -- ---- faults
 
@@ -46,7 +56,8 @@ returns-in_err-numbers-clause-store_fault g c fits legal rows name clean holds a
     let below = header.number in
     let under = header.horizon in
     let is = c.horizon.ensures.value in
-    memory_cause c.from_residual.result c.in_err-numbers.field-0.0 _ c.from_residual.ensures.1 (c.in_err-numbers.ensures.memory fits (omega (arith, below, under, is)))
+    memory_cause c.from_residual.result c.in_err-numbers.field-0.0 _ c.from_residual.ensures.1
+    (c.in_err-numbers.ensures.memory fits (omega (arith, below, under, is)))
 
 pub returns-in_err-id-clause-store_fault : goal.returns-in_err-id-clause-store_fault
 returns-in_err-id-clause-store_fault g c fits legal rows name clean holds accept free there =
@@ -65,7 +76,12 @@ pub returns-clause-store_fault : goal.returns-clause-store_fault
 returns-clause-store_fault g c fits legal rows name clean holds accept free there =
     let p = (goal.at.returns-clause-store_fault g c).After-commit_member in
     let db = (state g.S.Store c.args.conn.now).now in
-    let member = accepts_member db rows name c.args.header c.args.uid.now None holds accept free there (legal_short c.args.uid.now legal) tt in
-    let ready = subst (λ z. AcceptsMemberOf db rows name c.args.header c.args.uid.now z None) (sym (changed_is g p)) member in
-    mapped_faults c.commit_member.result c.map_err.result _ _ (λ e d h. search (rules, h)) c.map_err.ensures.cases
-    (c.commit_member.ensures.fails_from_outside c.args.header (TakesAway Deletion) (changed_is g p) (record { legal = legal; canonical = tt; card = refl }) (columns g p) rows name ready clean holds.schema)
+    let member = accepts_member db rows name c.args.header c.args.uid.now None holds accept free
+    there (legal_short c.args.uid.now legal) tt in
+    let ready = subst (λ z. AcceptsMemberOf db rows name c.args.header c.args.uid.now z None)
+    (sym (changed_is g p)) member in
+    mapped_faults c.commit_member.result c.map_err.result _ _ (λ e d h. search (rules, h))
+    c.map_err.ensures.cases
+    (c.commit_member.ensures.fails_from_outside c.args.header (TakesAway Deletion) (changed_is g p)
+    (record { legal = legal; canonical = tt; card = refl }) (columns g p) rows name ready clean
+    holds.schema)

@@ -16,4 +16,5 @@ pub returns-in-None-clause-store_fault : goal.returns-in-None-clause-store_fault
 returns-in-None-clause-store_fault g c fits low = c.write_deletion.ensures.store_fault fits
 
 pub returns-in-Some-clause-store_fault : goal.returns-in-Some-clause-store_fault
-returns-in-Some-clause-store_fault g c fits low = c.write_drop.ensures.store_fault fits (rw c.in-Some.is at low)
+returns-in-Some-clause-store_fault g c fits low =
+    c.write_drop.ensures.store_fault fits (rw c.in-Some.is at low)

@@ -17,9 +17,14 @@ invariant-loop-line g l =
     let old = state g.S.Store l.fn.conn in
     let now = state g.S.Store l.conn in
     record {
-      entries : GivenSoundRows old now (λ rows. book_lines (books_of rows) ≡ l.lines → map (planned_entry rows) l.plans.items ≡ take l.line-index (finite.entries (books_of rows)));
-      each : GivenSoundRows old now (λ rows. book_lines (books_of rows) ≡ l.lines → AllByRecursion (IsBookPlan l.limits l.pairs rows) l.plans.items);
-      accepted : GivenSoundRows old now (λ rows. book_lines (books_of rows) ≡ l.lines → accept_books l.limits l.pairs (take l.line-index (finite.entries (books_of rows))) ≡ Ok tt);
+      entries : GivenSoundRows old now (λ rows. book_lines (books_of rows) ≡ l.lines
+          → map (planned_entry rows) l.plans.items ≡ take l.line-index
+          (finite.entries (books_of rows)));
+      each : GivenSoundRows old now (λ rows. book_lines (books_of rows) ≡ l.lines
+          → AllByRecursion (IsBookPlan l.limits l.pairs rows) l.plans.items);
+      accepted : GivenSoundRows old now (λ rows. book_lines (books_of rows) ≡ l.lines
+          → accept_books l.limits l.pairs (take l.line-index (finite.entries (books_of rows)))
+          ≡ Ok tt);
       same : GivenTables old now (IsUnchanged old now);
       left : OnlyReads old now;
       opened : HasCleanDisk now → IsTrue old.is_open;

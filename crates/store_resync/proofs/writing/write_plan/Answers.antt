@@ -8,12 +8,14 @@ use Rattle.store_resync.proofs.writing.write_plan.Goals.{After-write_stage}
 
 module _ (g : given.Over) (c : After-write_stage g) where
   id_is : to_z w64 (of_z w64 c.in_ok-id.id) ≡ pos c.args.plan.now.header.id
-  id_is = back_of c.in_ok-id.id c.id.result c.args.plan.now.header.id c.in_ok-id.ensures.ok c.in_ok-id.ensures.fits c.id.ensures
+  id_is = back_of c.in_ok-id.id c.id.result c.args.plan.now.header.id c.in_ok-id.ensures.ok
+      c.in_ok-id.ensures.fits c.id.ensures
 
   last_is : to_z w64 (of_z w64 c.in_ok-last.last) ≡ pos c.args.plan.now.last
   last_is = search rules
 
-  columns : AreHeaderColumns (header_after c.args.stage c.args.plan.now) (to_z w64 (of_z w64 c.in_ok-id.id)) c.in_ok-numbers.numbers
+  columns : AreHeaderColumns (header_after c.args.stage c.args.plan.now)
+      (to_z w64 (of_z w64 c.in_ok-id.id)) c.in_ok-numbers.numbers
   columns = record { id_is = id_is; numbers = search rules }
 
 pub returns-in-Ok-clause-stage : goal.returns-in-Ok-clause-stage

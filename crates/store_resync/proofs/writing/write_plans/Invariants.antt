@@ -13,7 +13,8 @@ invariant-loop-plan g l =
     let now = state g.S.Store l.tx.conn.now in
     record {
       same_reference : l.tx.conn.ghost_name ≡ l.fn.tx.conn.ghost_name;
-      holds : InTxWithPlans g.S.Store l.fn.tx.conn.now l.tx.conn.now l.plans l.stage (λ rows. HoldsInTx now (λ db. HoldsStages db rows l.plans l.stage l.plan-index));
+      holds : InTxWithPlans g.S.Store l.fn.tx.conn.now l.tx.conn.now l.plans l.stage
+          (λ rows. HoldsInTx now (λ db. HoldsStages db rows l.plans l.stage l.plan-index));
       kept : KeepsCommitWithPlans g.S.Store l.fn.tx.conn.now l.tx.conn.now l.plans l.stage;
       survives : Survives old now (λ _. ⊥);
     }

@@ -14,7 +14,11 @@ returns-clause-resynced g c rows clean inside given =
     let early : HasCleanDisk mid = clean_before _ mid new c.write_plans-2.ensures.survives clean in
     let one = c.in_ok-write_plans.ensures.stage rows early inside given in
     let again = planned_again old.now mid.now rows c.args.plans.now given one.holds in
-    on_ok_weaker c.write_plans-2.result (λ two. record { holds = both_stages old.now mid.now rows c.args.plans.now given one.holds new.now two.holds; inside = two.inside })
+    on_ok_weaker c.write_plans-2.result (λ two. record {
+      holds = both_stages old.now mid.now rows
+          c.args.plans.now given one.holds new.now two.holds;
+      inside = two.inside;
+    })
     (c.write_plans-2.ensures.stage one.holds.now clean one.inside again)
 
 pub returns-clause-keeps_commit : goal.returns-clause-keeps_commit
@@ -25,4 +29,5 @@ returns-clause-keeps_commit g c rows clean inside given =
     let early : HasCleanDisk mid = clean_before _ mid new c.write_plans-2.ensures.survives clean in
     let one = c.in_ok-write_plans.ensures.stage rows early inside given in
     let again = planned_again old.now mid.now rows c.args.plans.now given one.holds in
-    keeps_then old mid new (c.write_plans.ensures.keeps_commit rows early inside given) (c.write_plans-2.ensures.keeps_commit one.holds.now clean one.inside again)
+    keeps_then old mid new (c.write_plans.ensures.keeps_commit rows early inside given)
+    (c.write_plans-2.ensures.keeps_commit one.holds.now clean one.inside again)

@@ -4,4 +4,5 @@ use Rattle.store_rows.proofs.canonical.is_canonical_text.Goals as goal
 
 pub returns-in-None : goal.returns-in-None
 returns-in-None c =
-    not_whole c.as_bytes.result.now c.args.text.now (canonical_text c.args.card.now) c.in_ok-rest.field-0 c.as_bytes.ensures.value c.in_ok-rest.ensures c.in-None.is
+    not_whole c.as_bytes.result.now c.args.text.now (canonical_text c.args.card.now)
+    c.in_ok-rest.field-0 c.as_bytes.ensures.value c.in_ok-rest.ensures c.in-None.is

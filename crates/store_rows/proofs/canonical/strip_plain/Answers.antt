@@ -10,5 +10,7 @@ returns-in_default-strip c =
 
 pub returns : goal.returns
 returns c =
-    then_strips c.args.text.now c.args.name.now _ c.in-Some.after_name.now c.strip_value.result c.in-Some.ensures
-    (then_strips c.in-Some.after_name.now (colon ∷ []) _ c.in-Some-strip.after_colon.now c.strip_value.result c.in-Some-strip.ensures c.strip_value.ensures)
+    then_strips c.args.text.now c.args.name.now _ c.in-Some.after_name.now c.strip_value.result
+    c.in-Some.ensures
+    (then_strips c.in-Some.after_name.now (colon ∷ []) _ c.in-Some-strip.after_colon.now
+    c.strip_value.result c.in-Some-strip.ensures c.strip_value.ensures)

@@ -1,4 +1,5 @@
-use Rattle.store_rows.proofs.RemovedLemmas.{forgetting_held, forgetting_forgets, drops_forget, deletions_dropped}
+use Rattle.store_rows.proofs.RemovedLemmas.{forgetting_held, forgetting_forgets, drops_forget}
+use Rattle.store_rows.proofs.RemovedLemmas.{deletions_dropped}
 use Rattle.store_rows.proofs.forgetting.forget_members_is_forgetting.Goals as goal
 
 pub returns-clause-tables : goal.returns-clause-tables

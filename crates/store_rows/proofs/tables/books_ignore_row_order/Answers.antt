@@ -6,4 +6,5 @@ pub returns-clause-books : goal.returns-clause-books
 returns-clause-books c = books_held
 
 pub returns-clause-order : goal.returns-clause-order
-returns-clause-order c a b rows p q sound = books_held a rows p sound ∙ sym (books_held b rows q sound)
+returns-clause-order c a b rows p q sound = books_held a rows p sound
+    ∙ sym (books_held b rows q sound)

@@ -9,13 +9,29 @@ use Rattle.store_tables.proofs.members.find_member.Goals as goal
 
 pub returns-clause-finds : goal.returns-clause-finds
 returns-clause-finds g c xs clean has rows =
-    finds_member (state g.S.Store c.args.conn.now) (state g.S.Store c.query_row.new.self) c.args.book c.args.uid.now xs c.query_row.result has rows (rw (c.params-to_sql.ensures, c.params-to_sql-2.ensures, to_z-of_z c.ranges.book) at (c.query_row.ensures.row clean))
+    finds_member (state g.S.Store c.args.conn.now) (state g.S.Store c.query_row.new.self)
+    c.args.book c.args.uid.now xs c.query_row.result has rows (rw (
+      c.params-to_sql.ensures,
+      c.params-to_sql-2.ensures,
+      to_z-of_z c.ranges.book,
+    ) at (c.query_row.ensures.row clean))
 
 pub returns-clause-reads_only : goal.returns-clause-reads_only
-returns-clause-reads_only g c = only_reads find_text _ (state g.S.Store c.args.conn.now) (state g.S.Store c.query_row.new.self) c.query_row.result find_selects find_is.2 c.query_row.ensures.row c.query_row.ensures.mode c.query_row.ensures.survives
+returns-clause-reads_only g c = only_reads find_text _ (state g.S.Store c.args.conn.now)
+    (state g.S.Store c.query_row.new.self) c.query_row.result find_selects find_is.2
+    c.query_row.ensures.row c.query_row.ensures.mode c.query_row.ensures.survives
 
 pub returns-clause-unchanged : goal.returns-clause-unchanged
-returns-clause-unchanged g c clean has = ok_unchanged find_text _ (state g.S.Store c.args.conn.now) (state g.S.Store c.query_row.new.self) c.query_row.result _ _ find_is.0 find_is.2 has (c.query_row.ensures.row clean)
+returns-clause-unchanged g c clean has =
+    ok_unchanged find_text _ (state g.S.Store c.args.conn.now)
+    (state g.S.Store c.query_row.new.self) c.query_row.result _ _ find_is.0 find_is.2 has
+    (c.query_row.ensures.row clean)
 
 pub returns-clause-fails_from_outside : goal.returns-clause-fails_from_outside
-returns-clause-fails_from_outside g c clean has = find_member_fails (state g.S.Store c.args.conn.now) (state g.S.Store c.query_row.new.self) c.args.book c.args.uid.now c.query_row.result has (rw (c.params-to_sql.ensures, c.params-to_sql-2.ensures, to_z-of_z c.ranges.book) at (c.query_row.ensures.row clean))
+returns-clause-fails_from_outside g c clean has =
+    find_member_fails (state g.S.Store c.args.conn.now) (state g.S.Store c.query_row.new.self)
+    c.args.book c.args.uid.now c.query_row.result has (rw (
+      c.params-to_sql.ensures,
+      c.params-to_sql-2.ensures,
+      to_z-of_z c.ranges.book,
+    ) at (c.query_row.ensures.row clean))

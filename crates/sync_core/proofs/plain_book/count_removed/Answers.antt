@@ -8,7 +8,10 @@ use Rattle.sync_core.proofs.plain_book.count_removed.Goals as goal
 
 pub returns : goal.returns
 returns c =
-    let all : map deref_pair c.loop-uid.yielded ≡ c.args.rows.now.entries = search (rules, iter_end) in
+    let all : map deref_pair c.loop-uid.yielded ≡ c.args.rows.now.entries =
+    search (rules, iter_end) in
     c.loop-uid.invariant.so_far
-    ∙ ap (λ es. length (filter (λ (m : MemberWithRow). is_tombstone_after c.args.horizon m.1) (map octet_entry es))) all
-    ∙ ap (λ ms. length (filter (λ (m : MemberWithRow). is_tombstone_after c.args.horizon m.1) ms)) (sym (entries-texts c.args.rows.now c.iter-uid-items.ensures.ordered))
+    ∙ ap (λ es. length (filter (λ (m : MemberWithRow). is_tombstone_after c.args.horizon m.1)
+    (map octet_entry es))) all
+    ∙ ap (λ ms. length (filter (λ (m : MemberWithRow). is_tombstone_after c.args.horizon m.1) ms))
+    (sym (entries-texts c.args.rows.now c.iter-uid-items.ensures.ordered))

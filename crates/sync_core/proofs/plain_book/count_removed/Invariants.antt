@@ -9,6 +9,7 @@ use Rattle.sync_core.proofs.plain_book.count_removed.Given as goal
 -- those so far are counted, and they are rows of the map
 abbrev pub invariant-loop-uid : goal.invariant-loop-uid
 invariant-loop-uid l = record {
-  so_far : l.count ≡ length (filter (λ (m : MemberWithRow). is_tombstone_after l.horizon m.1) (map octet_entry (map deref_pair l.yielded)));
+  so_far : l.count ≡ length (filter (λ (m : MemberWithRow). is_tombstone_after l.horizon m.1)
+      (map octet_entry (map deref_pair l.yielded)));
   fits : l.count + length l._uid-iterator ≤ btree_map_len l.rows;
 }

@@ -8,4 +8,6 @@ use Rattle.sync_core.proofs.plain_book.oldest_removal.Given as goal
 
 -- the least number of the removals so far
 abbrev pub invariant-loop-uid : goal.invariant-loop-uid
-invariant-loop-uid l = l.first ≡ least (map (λ m. m.1.changed) (filter (λ (m : MemberWithRow). is_tombstone_after l.horizon m.1) (map octet_entry (map deref_pair l.yielded))))
+invariant-loop-uid l = l.first ≡ least
+    (map (λ m. m.1.changed) (filter (λ (m : MemberWithRow). is_tombstone_after l.horizon m.1)
+    (map octet_entry (map deref_pair l.yielded))))

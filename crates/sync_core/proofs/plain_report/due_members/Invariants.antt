@@ -6,4 +6,5 @@ use Rattle.sync_core.proofs.plain_report.due_members.Given as goal
 
 -- the due members so far are in the list
 abbrev pub invariant-loop-uid : goal.invariant-loop-uid
-invariant-loop-uid l = map deref_pair l.due.items ≡ filter (λ (m : MemberWithRow). is_due_row l.mark m.1) (map octet_entry (map deref_pair l.yielded))
+invariant-loop-uid l = map deref_pair l.due.items ≡ filter (λ (m : MemberWithRow). is_due_row l.mark
+    m.1) (map octet_entry (map deref_pair l.yielded))

@@ -4,4 +4,5 @@ use Rattle.vcard_export.proofs.card.label_count.Given as goal
 
 -- the labels so far are counted
 abbrev pub invariant-loop-param : goal.invariant-loop-param
-invariant-loop-param l = (l.count ≡ count_by is_label (take l.param-index l.params)) × (l.count ≤ l.param-index)
+invariant-loop-param l = (l.count ≡ count_by is_label (take l.param-index l.params))
+    × (l.count ≤ l.param-index)

@@ -4,4 +4,5 @@ use Rattle.vcard_export.proofs.card.push_lines.Given as goal
 
 -- what the lines so far become is written
 abbrev pub invariant-loop-line : goal.invariant-loop-line
-invariant-loop-line l = string_bytes l.out ≡ string_bytes l.fn.out ++ flat_map (folded_lines l.splits_labels) (take l.line-index l.lines)
+invariant-loop-line l = string_bytes l.out ≡ string_bytes l.fn.out
+    ++ flat_map (folded_lines l.splits_labels) (take l.line-index l.lines)

@@ -4,4 +4,5 @@ use Rattle.vcard_export.proofs.params.push_label.Given as goal
 
 -- the labels so far are written
 abbrev pub invariant-loop-param : goal.invariant-loop-param
-invariant-loop-param l = string_bytes l.out ≡ string_bytes l.fn.out ++ label_text (take l.param-index l.params)
+invariant-loop-param l = string_bytes l.out ≡ string_bytes l.fn.out
+    ++ label_text (take l.param-index l.params)

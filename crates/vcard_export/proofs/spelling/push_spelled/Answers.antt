@@ -9,10 +9,12 @@ pub returns : goal.returns
 returns c =
     let all : c.loop-c.yielded ≡ chars c.args.text.now =
     Chars-Drains (chars c.args.text.now) c.loop-c.yielded c.into_iter-c-iterator.result
-    (encodes-chars c.args.text.now c.utf8.text ∙ sym c.chars-c-items.ensures.rest ∙ ap (λ s. s.rest.now) (sym c.into_iter-c-iterator.ensures.into_iter_gives))
+    (encodes-chars c.args.text.now c.utf8.text ∙ sym c.chars-c-items.ensures.rest
+    ∙ ap (λ s. s.rest.now) (sym c.into_iter-c-iterator.ensures.into_iter_gives))
     (c.next.new.self, (c.loop-c.c-iterator, c.loop-c.yielded_by, c.in-None.ensures.steps)) in
     subst (λ (t : List ℕ). OnOk c.push_end.result (string_bytes c.push_end.new.out ≡ t))
     (ap (finished c.args.spelling) c.loop-c.invariant.so_far
-    ∙ ap (λ cs. finished c.args.spelling (fold (spell_char c.args.spelling) (spelling_state (string_bytes c.args.out.now) false) cs)) all
+    ∙ ap (λ cs. finished c.args.spelling (fold (spell_char c.args.spelling)
+    (spelling_state (string_bytes c.args.out.now) false) cs)) all
     ∙ spells_all c.args.spelling (string_bytes c.args.out.now) c.args.text.now)
     c.push_end.ensures

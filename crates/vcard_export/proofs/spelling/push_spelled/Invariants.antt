@@ -8,5 +8,6 @@ abbrev pub invariant-loop-c : goal.invariant-loop-c
 invariant-loop-c l = record {
   can : (goal.iterator-loop-c).can_next l.c-iterator;
   ends : (goal.iterator-loop-c).is_finite l.c-iterator;
-  so_far : spelling_state (string_bytes l.out) l.is_marked ≡ fold (spell_char l.spelling) (spelling_state (string_bytes l.fn.out) false) l.yielded;
+  so_far : spelling_state (string_bytes l.out) l.is_marked ≡ fold (spell_char l.spelling)
+      (spelling_state (string_bytes l.fn.out) false) l.yielded;
 }

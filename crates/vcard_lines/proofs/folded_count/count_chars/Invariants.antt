@@ -7,5 +7,6 @@ abbrev pub invariant-loop-c : goal.invariant-loop-c
 invariant-loop-c l = record {
   can : (goal.iterator-loop-c).can_next l.c-iterator;
   ends : (goal.iterator-loop-c).is_finite l.c-iterator;
-  so_far : (part : FoldState) → IsCount l.initial.count part → IsCount l.count (fold fold_char part l.yielded);
+  so_far : (part : FoldState) → IsCount l.initial.count part
+      → IsCount l.count (fold fold_char part l.yielded);
 }

@@ -5,4 +5,5 @@ use Rattle.vcard_lines.proofs.folded_count.count_params.Given as goal
 
 -- the parameters so far are counted
 abbrev pub invariant-loop-param : goal.invariant-loop-param
-invariant-loop-param l = CountsLineText l.fn.count l.count (params_text (take l.param-index l.params))
+invariant-loop-param l = CountsLineText l.fn.count l.count
+    (params_text (take l.param-index l.params))

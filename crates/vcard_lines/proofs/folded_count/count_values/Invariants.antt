@@ -6,4 +6,5 @@ use Rattle.vcard_lines.proofs.folded_count.count_values.Given as goal
 
 -- the values so far are counted, each after a comma
 abbrev pub invariant-loop-value : goal.invariant-loop-value
-invariant-loop-value l = CountsLineText l.initial.count l.count (flat_map (λ v. comma ∷ value_text v) (take l.value-index l.others))
+invariant-loop-value l = CountsLineText l.initial.count l.count
+    (flat_map (λ v. comma ∷ value_text v) (take l.value-index l.others))

@@ -9,4 +9,10 @@ pub returns : goal.returns
 returns c =
     let all = c.count_line.ensures [] c.empty_line_count-count.ensures in
     let whole = length-append (fold_line (line_text c.args.line.now)).octets (13 ∷ 10 ∷ []) in
-    omega (arith, c.saturating_add.ensures, all.counted.octets_are, whole, ap length (folded_is (line_text c.args.line.now)))
+    omega (
+      arith,
+      c.saturating_add.ensures,
+      all.counted.octets_are,
+      whole,
+      ap length (folded_is (line_text c.args.line.now)),
+    )

@@ -7,7 +7,8 @@ abbrev pub invariant-loop-room : goal.invariant-loop-room
 invariant-loop-room l = record {
   utf8 : IsUtf8 l.rest;
   room : (74 ≤ l.room) × (l.room ≤ 75);
-  so_far : fold fold_char (fold_state (string_bytes l.out) l.room) (chars l.rest) ≡ fold fold_char (fold_state (string_bytes l.fn.out) 75) (chars l.line);
+  so_far : fold fold_char (fold_state (string_bytes l.out) l.room) (chars l.rest)
+      ≡ fold fold_char (fold_state (string_bytes l.fn.out) 75) (chars l.line);
 }
 
 abbrev pub decreases-loop-room : goal.decreases-loop-room

@@ -8,5 +8,6 @@ invariant-loop-c l = record {
   can : (goal.iterator-loop-c).can_next l.c-iterator;
   ends : (goal.iterator-loop-c).is_finite l.c-iterator;
   room : l.room ≤ 75;
-  so_far : fold_state (string_bytes l.out) l.room ≡ fold fold_char (fold_state (string_bytes l.fn.out) l.fn.room) l.yielded;
+  so_far : fold_state (string_bytes l.out) l.room
+      ≡ fold fold_char (fold_state (string_bytes l.fn.out) l.fn.room) l.yielded;
 }

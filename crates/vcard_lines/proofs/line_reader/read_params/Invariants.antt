@@ -8,7 +8,8 @@ use Rattle.vcard_lines.proofs.line_reader.read_params.Given as goal
 abbrev pub invariant-loop-more : goal.invariant-loop-more
 invariant-loop-more l = record {
   utf8 : IsUtf8 l.rest;
-  whole : after_items l.params (parse_many 59 parse_param (length l.rest) l.rest) ≡ parse_params l.text;
+  whole : after_items l.params (parse_many 59 parse_param (length l.rest) l.rest)
+      ≡ parse_params l.text;
 }
 
 abbrev pub decreases-loop-more : goal.decreases-loop-more

@@ -8,7 +8,8 @@ use Rattle.vcard_lines.proofs.line_reader.read_values.Given as goal
 abbrev pub invariant-loop-more : goal.invariant-loop-more
 invariant-loop-more l = record {
   utf8 : IsUtf8 l.rest;
-  whole : after_items l.values (parse_many 44 parse_param_value (length l.rest) l.rest) ≡ parse_values l.text;
+  whole : after_items l.values (parse_many 44 parse_param_value (length l.rest) l.rest)
+      ≡ parse_values l.text;
 }
 
 abbrev pub decreases-loop-more : goal.decreases-loop-more

@@ -8,5 +8,6 @@ abbrev pub invariant-loop-c : goal.invariant-loop-c
 invariant-loop-c l = record {
   can : (goal.iterator-loop-c).can_next l.c-iterator;
   ends : (goal.iterator-loop-c).is_finite l.c-iterator;
-  so_far : string_bytes l.value ≡ encode_utf8_all (flat_map (λ c. written_chars (text_char_of c)) l.yielded);
+  so_far : string_bytes l.value ≡ encode_utf8_all (flat_map (λ c. written_chars (text_char_of c))
+      l.yielded);
 }

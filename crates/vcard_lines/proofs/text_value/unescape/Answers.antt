@@ -9,8 +9,10 @@ pub returns : goal.returns
 returns c =
     let all : c.loop-c.yielded ≡ chars c.args.value.now =
     Chars-Drains (chars c.args.value.now) c.loop-c.yielded c.into_iter-c-iterator.result
-    (encodes-chars c.args.value.now c.utf8.value ∙ sym c.chars-c-items.ensures.rest ∙ ap (λ s. s.rest.now) (sym c.into_iter-c-iterator.ensures.into_iter_gives))
+    (encodes-chars c.args.value.now c.utf8.value ∙ sym c.chars-c-items.ensures.rest
+    ∙ ap (λ s. s.rest.now) (sym c.into_iter-c-iterator.ensures.into_iter_gives))
     (c.next.new.self, (c.loop-c.c-iterator, c.loop-c.yielded_by, c.in-None.ensures.steps)) in
     c.in_ok-end_text.ensures
-    ∙ ap finished_text (c.loop-c.invariant.so_far ∙ ap (fold unescape_char (unescape_state [] false)) all)
+    ∙ ap finished_text (c.loop-c.invariant.so_far
+    ∙ ap (fold unescape_char (unescape_state [] false)) all)
     ∙ reads_all c.args.value.now

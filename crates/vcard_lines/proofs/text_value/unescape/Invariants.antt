@@ -8,5 +8,6 @@ abbrev pub invariant-loop-c : goal.invariant-loop-c
 invariant-loop-c l = record {
   can : (goal.iterator-loop-c).can_next l.c-iterator;
   ends : (goal.iterator-loop-c).is_finite l.c-iterator;
-  so_far : unescape_state (string_bytes l.text) l.is_escaped ≡ fold unescape_char (unescape_state [] false) l.yielded;
+  so_far : unescape_state (string_bytes l.text) l.is_escaped ≡ fold unescape_char
+      (unescape_state [] false) l.yielded;
 }

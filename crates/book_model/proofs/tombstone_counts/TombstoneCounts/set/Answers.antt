@@ -7,9 +7,12 @@ pub returns-in-Ok : goal.returns-in-Ok
 returns-in-Ok c =
     let absent : finite.get c.args.self.now c.args.name.now ≡ None = search rules in
     let same : c.replace.new.self ≡ c.args.self.now = search rules in
-    let put : OnOk c.insert.result (c.insert.new.self ≡ finite.insert c.replace.new.self c.args.name.now c.args.number) =
-    subst (λ k. OnOk c.insert.result (c.insert.new.self ≡ finite.insert c.replace.new.self k c.args.number)) c.in-Ok.ensures.ok c.insert.ensures.ok in
-    inserted c.insert.result c.args.self.now c.replace.new.self c.insert.new.self c.args.name.now c.args.number same absent put c.insert.ensures.err
+    let put : OnOk c.insert.result (c.insert.new.self ≡ finite.insert c.replace.new.self
+    c.args.name.now c.args.number) =
+    subst (λ k. OnOk c.insert.result (c.insert.new.self ≡ finite.insert c.replace.new.self k
+    c.args.number)) c.in-Ok.ensures.ok c.insert.ensures.ok in
+    inserted c.insert.result c.args.self.now c.replace.new.self c.insert.new.self c.args.name.now
+    c.args.number same absent put c.insert.ensures.err
 
 pub returns-in_default : goal.returns-in_default
 returns-in_default c =

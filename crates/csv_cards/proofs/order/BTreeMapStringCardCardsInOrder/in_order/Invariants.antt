@@ -4,4 +4,5 @@ use Rattle.csv_cards.proofs.order.BTreeMapStringCardCardsInOrder.in_order.Given 
 
 -- the cards so far are those of the entries that the map has given
 abbrev pub invariant-loop-card : goal.invariant-loop-card
-invariant-loop-card l = map (λ card. card.now) l.list.items ≡ map (λ e. e.1) (map deref_pair l.yielded)
+invariant-loop-card l = map (λ card. card.now) l.list.items
+    ≡ map (λ e. e.1) (map deref_pair l.yielded)

@@ -7,4 +7,5 @@ use Rattle.sync_core.proofs.plain_book.PlainBook.live_cards.Given as goal
 
 -- the live cards so far are in the map
 abbrev pub invariant-loop-uid : goal.invariant-loop-uid
-invariant-loop-uid l = l.cards ≡ fold with_live finite.empty (map octet_entry (map deref_pair l.yielded))
+invariant-loop-uid l = l.cards ≡ fold with_live finite.empty
+    (map octet_entry (map deref_pair l.yielded))

@@ -14,5 +14,7 @@ invariant_of-result c = (
     sum = ap total_changes c.none.ensures;
     rows = subst (λ (m : Rows). AllUpTo 0 (finite.entries m)) (sym c.new.ensures) none_up_to;
   },
-  subst (λ (m : Rows). tombstone_count_after m 0 ≤ 0) (sym c.new.ensures) (subst (λ (k : ℕ). tombstone_count_after finite.empty 0 ≤ k) (finite.len-empty text_cmp Row) (removed_short 0 finite.empty)),
+  subst (λ (m : Rows). tombstone_count_after m 0 ≤ 0) (sym c.new.ensures)
+      (subst (λ (k : ℕ). tombstone_count_after finite.empty 0 ≤ k) (finite.len-empty text_cmp Row)
+      (removed_short 0 finite.empty)),
 )

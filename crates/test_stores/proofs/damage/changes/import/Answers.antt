@@ -6,5 +6,6 @@ use Rattle.test_stores.proofs.damage.changes.import.Goals as goal
 pub import_in_book-tally-requires : goal.import_in_book-tally-requires
 import_in_book-tally-requires c = record {
   settled = c.requires;
-  distinct = subst HaveDistinctUids (sym c.as_slice.ensures.value) (are_distinct c.as_bytes.result.now c.in-Ok.cards.items c.in-Ok.ensures.cards);
+  distinct = subst HaveDistinctUids (sym c.as_slice.ensures.value)
+      (are_distinct c.as_bytes.result.now c.in-Ok.cards.items c.in-Ok.ensures.cards);
 }
