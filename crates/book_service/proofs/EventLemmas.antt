@@ -12,8 +12,10 @@ use Rattle.book_service.specs.internal.RowSteps.{CommandOnRows}
 use Rattle.book_service.specs.Runs.{SystemState, MatchesRows, StepsTo}
 use Rattle.book_service.proofs.PerformLemmas.{same_rows}
 
-module _ (limits : Bounds) (old new : Books) (r : Reply) (now : SystemState) (at : MatchesRows now limits old) where
-  pub command_happens : (command : Command) → CommandOnRows limits old command r new → StepsTo now (Do command) r new now.devices
+module _ (limits : Bounds) (old new : Books) (r : Reply) (now : SystemState) (at :
+    MatchesRows now limits old) where
+  pub command_happens : (command : Command) → CommandOnRows limits old command r new
+      → StepsTo now (Do command) r new now.devices
   command_happens command does =
       let p = does.performed now.model at.limits_are at.histories in
       record {
@@ -23,8 +25,10 @@ module _ (limits : Bounds) (old new : Books) (r : Reply) (now : SystemState) (at
         devices_are = refl;
       }
 
-  pub ask_happens : (devices : List DeviceState) → now.devices ≡ devices → (i : ℕ) (limit : Option ℕ) (was is : DeviceState) → slice_get devices i ≡ Some was
-      → HandlesReply r (report_at now was.book was.token limit) was is → new ≡ old → StepsTo now (Ask i limit) r new (slice_set devices i is)
+  pub ask_happens : (devices : List DeviceState) → now.devices ≡ devices
+      → (i : ℕ) (limit : Option ℕ) (was is : DeviceState) → slice_get devices i ≡ Some was
+      → HandlesReply r (report_at now was.book was.token limit) was is → new ≡ old
+      → StepsTo now (Ask i limit) r new (slice_set devices i is)
   ask_happens devices device_at i limit was is found answers same = record {
     next = record now { devices = slice_set now.devices i is };
     step = record {

@@ -7,4 +7,10 @@ pub page_tokens_have_texts : PagesFitBooks → PagesHaveShortNumbers → PageTok
 page_tokens_have_texts fit short limits books name token limit asked page range is e report =
     let fits = fit limits books name token limit asked page is e report in
     let numbers = short limits books name token limit asked page range is e report in
-    record { spelled = refl; short_book = numbers.short_book; short_at = numbers.short_at; short_base = numbers.short_base; ordered = fits.ordered }
+    record {
+      spelled = refl;
+      short_book = numbers.short_book;
+      short_at = numbers.short_at;
+      short_base = numbers.short_base;
+      ordered = fits.ordered;
+    }

@@ -116,18 +116,37 @@ pub record LivedTo (now : SystemState) (asked : List (List Event)) (replied : Li
   pub devices_are : (end_of now trace).devices ≡ devices
 
 module _ {S : Type 0} (model : StoreModel S) where
-  -- From this state the runs led as a life to the rows of the last store, if its premise holds, and
-  -- to all rows that a crash of that store may leave.
+  -- from this state the runs led as a life to all rows that a crash of the last store may leave
+  abbrev pub LeadsTo : SystemState → S → List (List Event) → List (List Reply) → List DeviceState
+      → Type 0
+  LeadsTo now last asked replied devices = (books : Books) → model.may_leave last books →
+      ∥ LivedTo now asked replied books devices ∥₁
+
+  -- the same, and to the rows of that store, if its premise holds
   pub record LedTo (now : SystemState) (last : S) (asked : List (List Event))
       (replied : List (List Reply)) (devices : List DeviceState) : Type 0 where
     pub has : model.premise last → ∥ LivedTo now asked replied (model.books last) devices ∥₁
-    pub leaves : (books : Books) → model.may_leave last books →
-        ∥ LivedTo now asked replied books devices ∥₁
+    pub leaves : LeadsTo now last asked replied devices
 
-  -- the same from each state with the rows of the first store, whose premise held
+  -- this holds of each state with these devices and the rows of the first store, whose premise held
+  abbrev pub FromTheStart : S → List DeviceState → (SystemState → Type 0) → Type 0
+  FromTheStart first devices Holds = model.premise first → IsSettled model first →
+      (now : SystemState) → MatchesRows now (model.limits first) (model.books first) →
+      now.devices ≡ devices → Holds now
+
+  -- from each such state the runs led as a life to the last store
   abbrev pub LivesOn : S → S → List (List Event) → List (List Reply) → List DeviceState
       → List DeviceState
       → Type 0
-  LivesOn first last asked replied before after = model.premise first → IsSettled model first →
-      (now : SystemState) → MatchesRows now (model.limits first) (model.books first) →
-      now.devices ≡ before → LedTo now last asked replied after
+  LivesOn first last asked replied before after =
+      FromTheStart first before (λ now. LedTo now last asked replied after)
+
+  -- From each such state the runs led as a life to all rows that a crash of some store may have
+  -- left; and this store, which has the limits of the first, didn't open again for this cause.
+  pub record EndsRefused {R : Type 0} (refuses : S → R → Type 0) (first : S) (cause : R)
+      (asked : List (List Event)) (replied : List (List Reply)) (before after : List DeviceState)
+      : Type 0 where
+    pub last : S
+    pub limits : model.limits last ≡ model.limits first
+    pub leads : FromTheStart first before (λ now. LeadsTo now last asked replied after)
+    pub refused : refuses last cause

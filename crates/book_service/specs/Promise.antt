@@ -176,6 +176,6 @@ NewStoresStart = (now : SystemState) → now.model.books ≡ finite.empty →
     MatchesRows now now.model.limits finite.empty
 
 -- over every run the number of truncated pages that a device receives is bounded
-abbrev pub TruncatedPagesAreFew : Type 0
-TruncatedPagesAreFew = (now : SystemState) (run : List TraceStep) → Run now run →
+abbrev pub TruncatedPagesAreBounded : Type 0
+TruncatedPagesAreBounded = (now : SystemState) (run : List TraceStep) → Run now run →
     HasFewTruncatedPages now (events_of run) (replies_of run) (rows_of (end_of now run).model.books)

@@ -8,7 +8,7 @@ ghost use Rattle.book_service.specs.Runs.{RanTo};
 
 use crate::command::perform;
 use crate::device_pages::next_page;
-use crate::laws::truncated_pages_are_few;
+use crate::laws::truncated_pages_are_bounded;
 use crate::reply::denied_reply;
 use book_commands::{Command, Reply};
 use std::alloc::Global;
@@ -114,7 +114,7 @@ pub fn drive<S: BookStore>(
         × (devices.new.items ≡ devices.old.items)) }
 {
     // A law, no code.
-    truncated_pages_are_few();
+    truncated_pages_are_bounded();
 
     let mut replies = Vec::with_capacity(alloc, events.len())?;
     for event in events {

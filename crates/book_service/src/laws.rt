@@ -8,7 +8,7 @@ ghost use Rattle.book_service.specs.Promise.{CountsMatchChanges, HistoriesExtend
 ghost use Rattle.book_service.specs.Promise.{MovesTransferOneCard, DevicesStayConsistent};
 ghost use Rattle.book_service.specs.Promise.{LastPagesComplete, TokensExpire, ImportsAreIdempotent};
 ghost use Rattle.book_service.specs.Promise.{RowsStayWellFormed, RunsAppend, NewStoresStart};
-ghost use Rattle.book_service.specs.Promise.{TruncatedPagesAreFew};
+ghost use Rattle.book_service.specs.Promise.{TruncatedPagesAreBounded};
 
 use book_laws::devices::{
     devices_start_consistent, devices_stay_consistent_among_books,
@@ -88,8 +88,8 @@ pub fn runs_append()
 /// Where every request of a device in a run got a page of at most k entries, with k above 0, and at
 /// least one of the pages is truncated: the number of truncated pages, times k, is less than the
 /// members due at first plus the changes of the book in the run.
-pub fn truncated_pages_are_few()
-    ensures { TruncatedPagesAreFew }
+pub fn truncated_pages_are_bounded()
+    ensures { TruncatedPagesAreBounded }
 {
     calls_extend_histories();
     due_members_are_counted();

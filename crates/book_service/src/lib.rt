@@ -22,4 +22,4 @@ pub use command::perform;
 pub use event::{Event, drive};
 pub use mirrored::{Mirrored, mirror};
 pub use page_tokens::page_tokens_have_texts;
-pub use restarts::{Restarts, live};
+pub use restarts::{Lived, Restarts, live};

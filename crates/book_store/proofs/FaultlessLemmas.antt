@@ -1,5 +1,6 @@
 -- The rows of well-formed books cause no fault.
-use Rattle.std.proofs.Common.{◌≡◌, ◌<◌, ◌≤◌, ◌*◌, ◌^◌, ℕ, Bool, true, false, List, IsUtf8, refl, sym, ◌∙◌, true≢false, arith}
+use Rattle.std.proofs.Common.{◌≡◌, ◌<◌, ◌≤◌, ◌*◌, ◌^◌, ℕ, Bool, true, false, List, IsUtf8, refl}
+use Rattle.std.proofs.Common.{sym, ◌∙◌, true≢false, arith}
 use Rattle.std.specs.FinMap as finite
 use Rattle.std.specs.Str.{is_utf8}
 use Rattle.std.proofs.lemmas.Str.{IsUtf8-from_is_utf8, is_utf8-from_IsUtf8}
@@ -21,15 +22,19 @@ name_utf8 name legal = go (is_utf8 name) refl
   where
     go : (b : Bool) → is_utf8 name ≡ b → IsUtf8 name
     go true e = IsUtf8-from_is_utf8 name e
-    go false e = absurd (true≢false (sym legal ∙ sym (no_name name (λ utf8. true≢false (sym (is_utf8-from_IsUtf8 name utf8) ∙ e)))))
+    go false e = absurd (true≢false (sym legal
+        ∙ sym (no_name name (λ utf8. true≢false (sym (is_utf8-from_IsUtf8 name utf8) ∙ e)))))
 
-pub faultless_rows : (limits : Bounds) (rows : TableRows) → limits.books_max * limits.changes_max < 9223372036854775807 → limits.books_max < 2 ^ 63 → limits.changes_max < 2 ^ 63 → AreWellFormed limits rows → AreFaultless rows
+pub faultless_rows : (limits : Bounds) (rows : TableRows)
+    → limits.books_max * limits.changes_max < 9223372036854775807 → limits.books_max < 2 ^ 63
+    → limits.changes_max < 2 ^ 63 → AreWellFormed limits rows → AreFaultless rows
 faultless_rows limits rows few few_books few_changes well = record {
   sound = well.sound;
   books = all_from_has IsFaultlessBook rows.books (λ b there.
       let got = give_book rows b well.sound there in
       let is = well.books.each b.name (row_book rows b) got in
-      let id : natural b.id ≤ finite.len (books_of rows) = well.books.last_id b.name (row_book rows b) got in
+      let id : natural b.id ≤ finite.len (books_of rows) =
+      well.books.last_id b.name (row_book rows b) got in
       let books : finite.len (books_of rows) ≤ limits.books_max = well.books.within_limit in
       let number : natural b.numbers.number ≤ limits.changes_max = is.within_limit in
       record {

@@ -13,14 +13,19 @@ use Rattle.store_lookups.specs.StoredBooks.{IsOpenOnHonestDisk}
 use Rattle.book_store.specs.OpenOutcomes.{AreNewStoreTrees, StartsWithoutTables}
 
 -- a connection that was just opened and only tested shows what the files held
-pub found_well_formed : (old new : State) → ChangesNothing old new → (HasCleanDisk old → Opens old × IsLive old) → (IsOpenOnHonestDisk new → IsOpenOnHonestDisk old) → (IsOpenOnHonestDisk new → HoldsWellFormed max_limits old.now)
+pub found_well_formed : (old new : State) → ChangesNothing old new
+    → (HasCleanDisk old → Opens old × IsLive old)
+    → (IsOpenOnHonestDisk new → IsOpenOnHonestDisk old)
+    → (IsOpenOnHonestDisk new → HoldsWellFormed max_limits old.now)
     → IsOpenOnHonestDisk new → HoldsWellFormed max_limits new.now
 found_well_formed old new left opened before found order =
     let same = left.same order.0 order.1 (λ _. (opened (before order).0).0.clean) in
     subst (HoldsWellFormed max_limits) (sym same.now_is) (found order)
 
 -- and so of what it found in the files
-pub found_in_files : (image : Image) (old new : State) → ChangesNothing old new → (HasCleanDisk old → Opens old × IsLive old) → (HasCleanDisk old → FindsIn image old) → (IsOpenOnHonestDisk new → IsOpenOnHonestDisk old)
+pub found_in_files : (image : Image) (old new : State) → ChangesNothing old new
+    → (HasCleanDisk old → Opens old × IsLive old) → (HasCleanDisk old → FindsIn image old)
+    → (IsOpenOnHonestDisk new → IsOpenOnHonestDisk old)
     → IsOpenOnHonestDisk new → FindsIn image new
 found_in_files image old new left opened found before order =
     let was = before order in
@@ -32,6 +37,11 @@ found_in_files image old new left opened found before order =
     }
 
 -- a store that was created in files began with what the files held, which had no tables
-pub created_start : {C : Type 0} (state_of : C → State) (image : Image) (old new : C) → (HasCleanDisk (state_of old) → FindsIn image (state_of old)) → (IsOpenOnHonestDisk (state_of new) → IsOpenOnHonestDisk (state_of old))
-    → (state_of old).now.schema ≡ empty_schema → Survives (state_of old) (state_of new) AreNewStoreTrees → IsOpenOnHonestDisk (state_of new) → StartsWithoutTables state_of image new
-created_start state_of image old new found before empty crash order = record { start = old; found = found (before order).0; was_empty = empty; crash = crash }
+pub created_start : {C : Type 0} (state_of : C → State) (image : Image) (old new : C)
+    → (HasCleanDisk (state_of old) → FindsIn image (state_of old))
+    → (IsOpenOnHonestDisk (state_of new) → IsOpenOnHonestDisk (state_of old))
+    → (state_of old).now.schema ≡ empty_schema
+    → Survives (state_of old) (state_of new) AreNewStoreTrees
+    → IsOpenOnHonestDisk (state_of new) → StartsWithoutTables state_of image new
+created_start state_of image old new found before empty crash order =
+    record { start = old; found = found (before order).0; was_empty = empty; crash = crash }

@@ -12,3 +12,4 @@ pub mod CountLemmas
 pub mod SearchLemmas
 pub mod CopyLemmas
 pub mod RestartLemmas
+pub mod PathLemmas

@@ -1,4 +1,5 @@
--- What a search of a connection for a faulty row found, by what the files held over which it was opened.
+-- What a search of a connection for a faulty row found, by what the files held over which it was
+-- opened.
 use Rattle.std.proofs.Common.{arith, Option, Some, None, Result, Ok, Err}
 use Rattle.sqlite.specs.declared.file.Leftover.TheVariants as leftover
 use Rattle.sqlite.specs.Effect.{Database}
@@ -17,13 +18,16 @@ use Rattle.store_check.specs.declared.faults.FaultyRow.{FaultyRow}
 use Rattle.store_rows.specs.SoundTables.{HoldsWellFormed}
 use Rattle.store_schema.specs.StoredSchema.{ChangesNothing}
 use Rattle.store_schema.specs.declared.open_fault.OpenFault.{OpenFault}
-use Rattle.store_schema.specs.declared.open_fault.OpenFault.TheVariants.{Store, NotOurs, OtherSchema, Damaged, NotEmpty, Memory}
+use Rattle.store_schema.specs.declared.open_fault.OpenFault.TheVariants.{Store, NotOurs}
+use Rattle.store_schema.specs.declared.open_fault.OpenFault.TheVariants.{OtherSchema, Damaged}
+use Rattle.store_schema.specs.declared.open_fault.OpenFault.TheVariants.{NotEmpty, Memory}
 use Rattle.store_schema.proofs.LeftoverLemmas.{still_clean}
 use Rattle.book_store.specs.FileSearches.{IsFileSearch}
 use Rattle.book_store.proofs.RefusalLemmas.{opened_fault, shown}
 
 -- a fault of the search is one of opening the tables
-opening_fault : (db : Database) (fault : OpenFault) → IsSearchFault db fault → IsOpenResult max_limits db (Err fault)
+opening_fault : (db : Database) (fault : OpenFault) → IsSearchFault db fault
+    → IsOpenResult max_limits db (Err fault)
 opening_fault db Store is = tt
 opening_fault db NotOurs is = is
 opening_fault db (OtherSchema has) is = is
@@ -31,16 +35,24 @@ opening_fault db Damaged is = absurd is
 opening_fault db NotEmpty is = absurd is
 opening_fault db Memory is = tt
 
-module _ {D : Type 0} {g : Ghosts D} (image : Image) (conn searched : Held (FileStore D g)) (last : FileStore D g) (opened : HasCleanDisk (file_state conn) → Opens (file_state conn) × IsLive (file_state conn)) (found : HasCleanDisk (file_state conn) → FindsIn image (file_state conn))
+module _ {D : Type 0} {g : Ghosts D} (image : Image) (conn searched : Held (FileStore D g)) (last :
+    FileStore D g) (opened : HasCleanDisk (file_state conn) → Opens (file_state conn)
+    × IsLive (file_state conn)) (found : HasCleanDisk (file_state conn)
+    → FindsIn image (file_state conn))
     (quiet : IsQuiet view faults recovers is_shielded searched.store last) where
-  pub searched_files : (result : Result (Option FaultyRow) OpenFault) → (HasCleanDisk (file_state searched) → IsFaultSearch max_limits (file_state conn).now result) → OpensWellFormed max_limits (file_state conn) (file_state searched) result → ChangesNothing (file_state conn) (file_state searched)
+  pub searched_files : (result : Result (Option FaultyRow) OpenFault)
+      → (HasCleanDisk (file_state searched) → IsFaultSearch max_limits (file_state conn).now result)
+      → OpensWellFormed max_limits (file_state conn) (file_state searched) result
+      → ChangesNothing (file_state conn) (file_state searched)
       → IsFileSearch image result (Some (leftover.Store last))
   searched_files (Ok None) searched_is opens unchanged = λ is_clean.
       let clean = still_clean searched last quiet is_clean in
-      shown image conn searched last opened found quiet (HoldsWellFormed max_limits) (omega (arith, clean, unchanged.survives.clean)) (searched_is clean)
+      shown image conn searched last opened found quiet (HoldsWellFormed max_limits)
+      (omega (arith, clean, unchanged.survives.clean)) (searched_is clean)
   searched_files (Ok (Some f)) searched_is opens unchanged = λ is_clean.
       let clean = still_clean searched last quiet is_clean in
-      shown image conn searched last opened found quiet (λ db. AreFaulty max_limits db f) (omega (arith, clean, unchanged.survives.clean)) (searched_is clean)
+      shown image conn searched last opened found quiet (λ db. AreFaulty max_limits db f)
+      (omega (arith, clean, unchanged.survives.clean)) (searched_is clean)
   searched_files (Err fault) searched_is opens unchanged =
       opened_fault image conn searched last opened found quiet fault (record {
         left_unchanged = unchanged;

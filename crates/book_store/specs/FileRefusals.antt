@@ -20,6 +20,10 @@ use Rattle.store_schema.specs.declared.open_fault.OpenFault.TheVariants.{OtherSc
 use Rattle.store_schema.specs.declared.open_fault.OpenFault.TheVariants.{NotEmpty, Memory}
 use Rattle.store_check.specs.OpenResults.{max_limits}
 
+-- unless the files hold no database, this holds
+abbrev pub IsUnlessNoDatabase : Error → Type 0 → Type 0
+IsUnlessNoDatabase error Then = ¬ (error ≡ SqliteFailure NotADatabase) → Then
+
 -- ---- new stores
 
 module _ {D : Type 0} {g : Ghosts D} (image : Image) (left : Leftover D g) where
@@ -88,6 +92,10 @@ module _ {D : Type 0} {g : Ghosts D} where
   -- right for files with these bytes, of which this is left.
   abbrev pub IsFileOpenRefusal : Image → OpenFault → Option (Leftover D g) → Type 0
   IsFileOpenRefusal image = IsFileRefusal image ClassifiesSchema (HoldsWellFormed max_limits)
+
+  -- No fault of the disk is forgotten. First `old` was left of the files, and now `new`.
+  abbrev pub ForgetsNoFault : Option (Leftover D g) → Option (Leftover D g) → Type 0
+  ForgetsNoFault old new = IfSome new (λ left. IsCleanLeft left → IfSome old IsCleanLeft)
 
   -- the fault of opening a store is right after opening a connection failed with the error
   abbrev pub IsOpenRefusalAfter :

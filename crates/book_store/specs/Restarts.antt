@@ -1,9 +1,9 @@
 -- What a run of a program leaves in the files of a store, and what the next run opens.
-use Rattle.std.specs.Prelude.{◌≡◌, ◌⊎◌}
+use Rattle.std.specs.Prelude.{◌≡◌, ◌⊎◌, Option, Some, None}
 use Rattle.sqlite.specs.Disk.{MoreFaults}
 use Rattle.sqlite.specs.Effect.{Database}
-use Rattle.sqlite.specs.Files.{IsCleanLeft, IsFullLeft, faults_left, faults_of, file_state}
-use Rattle.sqlite.specs.Files.{image_of}
+use Rattle.sqlite.specs.Files.{IsCleanLeft, IsFullLeft, LeavesFiles, faults_left, faults_of}
+use Rattle.sqlite.specs.Files.{file_state, image_of}
 use Rattle.sqlite.specs.Held.{Held}
 use Rattle.sqlite.specs.Recovery.{Image}
 use Rattle.sqlite.specs.State.{State}
@@ -17,6 +17,7 @@ use Rattle.book_model.specs.Books.{Books}
 use Rattle.book_store.specs.StoreViews.{MayLeaveBooks}
 use Rattle.database_files.specs.Restarts.{HoldsListed, ShowsOpened}
 use Rattle.store_check.specs.OpenResults.{max_limits}
+use Rattle.store_schema.specs.OpenFaults.{IsErrorFault}
 use Rattle.store_schema.specs.declared.open_fault.OpenFault.{OpenFault}
 use Rattle.store_schema.specs.declared.open_fault.OpenFault.TheVariants.{Memory, Store}
 use Rattle.store_rows.specs.SoundTables.{HoldsWellFormed}
@@ -59,9 +60,28 @@ module _ {D : Type 0} {g : Ghosts D} where
       ⊎ (FailsOnceOpened db left ⊎ IsFullLeft left)))
 
   -- Why a restart failed: the crash left these files, which hold a store, and they don't open for
-  -- this cause.
+  -- this cause. What is left of them stands for what they stood for.
   pub record HasCrashCause (s : State) (left : Leftover D g) (fault : OpenFault) : Type 0 where
     pub files : Files D
     pub holds : AreClean g files.log files.db → ∥ LeftStore s (image_of g files) ∥₁
     pub cause : (books : Books) → (stored : HoldsStore (image_of g files) books)
         → IsCleanLeft left → HasRestartCause (declared_over stored.trees) files left fault
+    pub unharmed : IsCleanLeft left → LeavesFiles files left
+
+  -- ---- an opening at a path
+
+  -- the disk failed as files with these bytes were opened
+  pub record FailsAtOpening (image : Image) (left : Leftover D g) : Type 0 where
+    pub files : Files D
+    pub image_is : image_of g files ≡ image
+    pub failed : MoreFaults (faults_of g files) (faults_left left)
+
+  -- Why a file whose bytes hold a store doesn't open. If it wasn't opened, memory ran out, or it
+  -- can't be used, as if it isn't there or another process has it open. Otherwise memory ran out; or
+  -- the disk failed as the file was opened or its rows were read; or it is as long as its format can
+  -- number.
+  abbrev pub HasPathCause : Image → Database → OpenFault → Option (Leftover D g) → Type 0
+  HasPathCause image db fault None = IsErrorFault fault
+  HasPathCause image db fault (Some left) = IsCleanLeft left → (fault ≡ Memory)
+      ⊎ ((fault ≡ Store) × (FailsAtOpening image left
+      ⊎ (FailsOnceOpened db left ⊎ IsFullLeft left)))

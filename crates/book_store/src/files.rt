@@ -1,5 +1,6 @@
 //! Creates and opens stores in files.
 ghost use Rattle.book_store.specs.FileRefusals.{
+  ForgetsNoFault,
   IsCreationFaultAfter,
   IsCreationFaultOfLeftover,
   IsCreationRefusalAfter,
@@ -7,15 +8,16 @@ ghost use Rattle.book_store.specs.FileRefusals.{
   IsFileOpenRefusal,
   IsOpenFaultAfter,
   IsOpenRefusalAfter,
+  IsUnlessNoDatabase,
 };
 ghost use Rattle.book_model.specs.Books.{Books};
 ghost use Rattle.book_store.specs.OpenOutcomes.{StartsWithoutTables};
-ghost use Rattle.book_store.specs.Restarts.{HoldsStore};
+ghost use Rattle.book_store.specs.Restarts.{HasPathCause, HoldsStore, declared_over};
 ghost use Rattle.store_check.specs.OpenResults.{max_limits};
 ghost use Rattle.store_rows.specs.SoundTables.{HoldsWellFormed};
 ghost use Rattle.store_lookups.specs.StoredBooks.{IsOpenOnHonestDisk, stored_books};
-ghost use Rattle.store_schema.specs.OpenFaults.{IsCreationFault};
-ghost use Rattle.sqlite.specs.Files.{file_state};
+ghost use Rattle.store_schema.specs.OpenFaults.{IsCreationFault, open_fault_of_error};
+ghost use Rattle.sqlite.specs.Files.{IsCleanLeft, file_state};
 ghost use Rattle.sqlite.specs.Start.{FindsIn};
 ghost use Rattle.sqlite.specs.WalFiles.{image_at};
 ghost use Rattle.std.specs.FinMap as finite;
@@ -75,13 +77,17 @@ fn creation_fault_after<S: Start>(
     }
 }
 
-/// The same for files in which a store was to be opened.
+/// The same for files in which a store was to be opened. Nothing is done to what is left of them,
+/// unless they hold no database.
 fn open_fault_after<S: Start>(
     alloc: Global,
     error: Error,
     left: &mut Leftover<FileFrom<S>>,
 ) -> OpenFault
-    ensures { IsOpenFaultAfter error left.old left.new result }
+    ensures right { IsOpenFaultAfter error left.old left.new result }
+    ensures clean { IsCleanLeft left.new → IsCleanLeft left.old }
+    ensures other { IsUnlessNoDatabase error
+        ((result ≡ open_fault_of_error error) × (left.new ≡ left.old)) }
 {
     match error {
         Error::SqliteFailure(ErrorCode::NotADatabase) => fault_of_leftover(alloc, left),
@@ -115,7 +121,10 @@ pub(crate) fn open_refusal<S: Start>(
     error: Error,
     left: Option<Leftover<FileFrom<S>>>,
 ) -> FileRefusal<S>
-    ensures { IsOpenRefusalAfter error left result.0 result.1 }
+    ensures right { IsOpenRefusalAfter error left result.0 result.1 }
+    ensures clean { ForgetsNoFault left result.1 }
+    ensures other { IsUnlessNoDatabase error
+        ((result.0 ≡ open_fault_of_error error) × (result.1 ≡ left)) }
 {
     match left {
         Some(left) => {
@@ -189,6 +198,11 @@ impl<S: Start> SqlStore<FileStore<FileFrom<S>>> {
         // The fault is right for what the file and its log held.
         ensures refused { IfErr result (λ refused.
             IsFileOpenRefusal (image_at S.Start) refused.0 refused.1) }
+
+        // If they held a store, it has a cause from outside.
+        ensures cause { (books : Books) → (holds : HoldsStore (image_at S.Start) books)
+            → IfErr result (λ refused. HasPathCause (image_at S.Start)
+            (declared_over holds.trees) refused.0 refused.1) }
     {
         // Opening a connection would create the file.
         if !fs::exists(rt, path).unwrap_or(false) {

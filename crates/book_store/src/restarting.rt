@@ -4,7 +4,7 @@ ghost use Rattle.book_store.specs.Restarts.{HasCrashCause, HasRestartCause, Hold
 ghost use Rattle.book_store.specs.Restarts.{declared_over};
 ghost use Rattle.book_store.specs.StoreViews.{LeftTrees, table_model};
 ghost use Rattle.database_files.specs.Restarts.{LeaveOneOf};
-ghost use Rattle.sqlite.specs.Files.{IsCleanLeft, file_state, image_of, over_files};
+ghost use Rattle.sqlite.specs.Files.{IsCleanLeft, LeavesFiles, file_state, image_of, over_files};
 ghost use Rattle.sqlite.specs.State.{HasCleanDisk};
 ghost use Rattle.sqlite.specs.WalReads.{AreClean};
 ghost use Rattle.store_lookups.specs.StoredBooks.{IsOpenOnHonestDisk, stored_books};
@@ -62,6 +62,10 @@ impl<D: Disk + Drop> SqlStore<FileStore<D>> {
         // So it is never refused as damaged, or as a store of another kind.
         ensures kind { (books : Books) → HoldsStore (image_of D.Disk files) books
             → IfErr result (λ refused. IsCleanLeft refused.1 → IsErrorFault refused.0) }
+
+        // A refusal harms nothing: what is left of the files stands for what they stood for.
+        ensures unharmed { IfErr result (λ refused. IsCleanLeft refused.1
+            → LeavesFiles files refused.1) }
     {
         match runs::open_again(alloc, files, options) {
             Ok(connection) => match SqlStore::try_adopt(alloc, connection, limits) {

@@ -1,8 +1,8 @@
 //! The end of a run, a crash, and the opening of the next run.
 ghost use Rattle.database_files.specs.Restarts.{HasOpenCause, HoldsListed, LeaveOneOf, ShowsOpened};
 ghost use Rattle.sqlite.specs.Effect.{Database};
-ghost use Rattle.sqlite.specs.Files.{Finds, HoldsDatabase, IsCleanLeft, LeavesFiles, file_state};
-ghost use Rattle.sqlite.specs.Files.{image_of};
+ghost use Rattle.sqlite.specs.Files.{Finds, HoldsDatabase, IsCleanLeft, IsOpened, LeavesFiles};
+ghost use Rattle.sqlite.specs.Files.{file_state, image_of};
 ghost use Rattle.sqlite.specs.Held.{IsNew};
 ghost use Rattle.sqlite.specs.Recovery.{Image};
 ghost use Rattle.sqlite.specs.State.{HasCleanDisk};
@@ -54,6 +54,7 @@ pub fn open_again<D: Disk + Drop>(
     ensures fresh { IfOk result IsNew }
     ensures honest { IfOk result (λ c. HasCleanDisk (file_state c)
         → AreClean D.Disk files.log files.db) }
+    ensures opened { IfOk result (λ c. HasCleanDisk (file_state c) → IsOpened c) }
     ensures found { IfOk result (λ c. HasCleanDisk (file_state c) → Finds files c) }
     ensures opens { (db : Database) → HoldsListed (image_of D.Disk files) db
         → IfOk result (λ c. HasCleanDisk (file_state c) → ShowsOpened (file_state c) db) }

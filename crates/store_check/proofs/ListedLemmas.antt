@@ -1,5 +1,6 @@
 -- The rows that the statements return, and the rows that the tables hold.
-use Rattle.std.proofs.Common.{◌≡◌, ℕ, ℤ, List, [], ◌∷◌, map, Option, Some, None, IsPermutation, refl, sym, ap, ap₂, subst, ◌∙◌}
+use Rattle.std.proofs.Common.{◌≡◌, ℕ, ℤ, List, [], ◌∷◌, map, Option, Some, None, IsPermutation}
+use Rattle.std.proofs.Common.{refl, sym, ap, ap₂, subst, ◌∙◌}
 use Rattle.std.specs.List.{AllByRecursion}
 use Rattle.std.proofs.lemmas.List.Sorted.{IsPermutation-map, IsPermutation-trans}
 use Rattle.sqlite.specs.declared.types.Value.{Value}
@@ -8,7 +9,8 @@ use Rattle.sqlite.specs.Effect.{Database}
 use Rattle.sqlite.specs.Order.{Row, column}
 use Rattle.sqlite.specs.Values.{or_null}
 use Rattle.sqlite_rules.specs.Edit.{id_in}
-use Rattle.sqlite_trees.proofs.ListLemmas.{map-map, all-map, all_of, all_weaker, all-permutation, IsPermutation-same}
+use Rattle.sqlite_trees.proofs.ListLemmas.{map-map, all-map, all_of, all_weaker, all-permutation}
+use Rattle.sqlite_trees.proofs.ListLemmas.{IsPermutation-same}
 use Rattle.book_model.specs.Bounds.{Bounds}
 use Rattle.store_tables.specs.Books.{BookRow, book_row, book_cells, book_listed, book_shown}
 use Rattle.store_tables.specs.Imports.{ImportRow, import_row, import_cells}
@@ -17,13 +19,16 @@ use Rattle.store_tables.specs.Members.{MemberRow, member_row, member_cells}
 use Rattle.store_tables.specs.Meta.{meta_listed, schema_row, schema_number}
 use Rattle.store_tables.specs.Tables.{ObeyTables}
 use Rattle.store_rows.specs.OpenLaws.{ListsRows, keep_pair}
-use Rattle.store_rows.specs.SoundTables.{AreReadable, HoldsWellFormed, IsReadableBook, IsReadableMember, IsReadableImport, IsReadableKeep}
+use Rattle.store_rows.specs.SoundTables.{AreReadable, HoldsWellFormed, IsReadableBook}
+use Rattle.store_rows.specs.SoundTables.{IsReadableMember, IsReadableImport, IsReadableKeep}
 use Rattle.store_rows.specs.TableRows.{TableRows, HoldsRows, load_member, load_import}
 use Rattle.store_rows.specs.Values.{text_or_empty, text_or_none}
 use Rattle.store_rows.proofs.OpenLemmas.{listed_held}
 use Rattle.store_rows.proofs.RowLemmas.{AreSame}
 use Rattle.store_rows.proofs.HeldRows.{member_loads}
-use Rattle.store_check.specs.RowChecks.{AreWellStored, AreTableRows, IsBookRow, IsMemberRow, IsImportRow, IsKeepRow, decode_book, decode_keep, decode_rows}
+use Rattle.store_check.specs.RowChecks.{AreWellStored, AreTableRows, IsBookRow, IsMemberRow}
+use Rattle.store_check.specs.RowChecks.{IsImportRow, IsKeepRow, decode_book, decode_keep}
+use Rattle.store_check.specs.RowChecks.{decode_rows}
 use Rattle.store_schema.specs.StoredSchema.{IsCurrentSchema}
 use Rattle.store_check.specs.ListedRows.{AreListedRows, WellStoredAreHeld}
 use Rattle.store_check.proofs.PermutedLemmas.{well_formed_moved}
@@ -54,7 +59,8 @@ book_back r h =
     let moved_in = number_back (column r 9) _ h.moved_in in
     let deleted = number_back (column r 10) _ h.deleted in
     let moved_out = number_back (column r 11) _ h.moved_out in
-    λ i. id i ∷ name i ∷ number i ∷ horizon i ∷ created i ∷ edited i ∷ imported i ∷ import_edited i ∷ moved_in i ∷ deleted i ∷ moved_out i ∷ []
+    λ i. id i ∷ name i ∷ number i ∷ horizon i ∷ created i ∷ edited i ∷ imported i ∷ import_edited i
+    ∷ moved_in i ∷ deleted i ∷ moved_out i ∷ []
 
 abbrev pub IsBackMember : Row → Type 0
 IsBackMember r = IsMemberRow r → member_row (load_member r) ≡ r
@@ -108,12 +114,19 @@ book_shows b h = record {
   moved_out = ap Int h.numbers.moved_out;
 }
 
-if_any_again : (card : Option (List ℕ)) → or_null Text card ≡ or_null Text (text_or_none (or_null Text card))
+if_any_again : (card : Option (List ℕ))
+    → or_null Text card ≡ or_null Text (text_or_none (or_null Text card))
 if_any_again None = refl
 if_any_again (Some t) = refl
 
 member_shows : (m : MemberRow) → IsReadableMember m → IsMemberRow (member_row m)
-member_shows m h = record { id = refl; book = refl; uid = refl; changed = ap Int h.changed; card = if_any_again m.card }
+member_shows m h = record {
+  id = refl;
+  book = refl;
+  uid = refl;
+  changed = ap Int h.changed;
+  card = if_any_again m.card;
+}
 
 import_shows : (i : ImportRow) → IsReadableImport i → IsImportRow (import_row i)
 import_shows i h = record {
@@ -136,23 +149,31 @@ map_all f [] h = refl
 map_all f (x ∷ xs) h = ap₂ (λ a l. a ∷ l) h.0 (map_all f xs h.1)
 
 -- the returned rows of a table, if each decodes and encodes back to itself
-module _ {X : Type 0} (listed : Row → Row) (Shows : Row → Type 0) (returned : Row → X) (shown : X → Row)
+module _ {X : Type 0} (listed : Row → Row) (Shows : Row → Type 0) (returned : Row → X) (shown : X
+    → Row)
     (back : (r : Row) → Shows (listed r) → shown (returned (listed r)) ≡ listed r) where
-  each_back : (rows table : List Row) → IsPermutation (map listed table) rows → AllByRecursion (λ r. Shows r → shown (returned r) ≡ r) rows
+  each_back : (rows table : List Row) → IsPermutation (map listed table) rows
+      → AllByRecursion (λ r. Shows r → shown (returned r) ≡ r) rows
   each_back rows table same =
       all-permutation (λ r. Shows r → shown (returned r) ≡ r) (map listed table) rows same
-      (all-map (λ r. Shows r → shown (returned r) ≡ r) listed table (all_of (λ r. Shows (listed r) → shown (returned (listed r)) ≡ listed r) back table))
+      (all-map (λ r. Shows r → shown (returned r) ≡ r) listed table (all_of (λ r. Shows (listed r)
+      → shown (returned (listed r)) ≡ listed r) back table))
 
-  both : (rows : List Row) → AllByRecursion Shows rows → AllByRecursion (λ r. Shows r → shown (returned r) ≡ r) rows → AllByRecursion (λ r. shown (returned r) ≡ r) rows
+  both : (rows : List Row) → AllByRecursion Shows rows → AllByRecursion (λ r. Shows r
+      → shown (returned r) ≡ r) rows → AllByRecursion (λ r. shown (returned r) ≡ r) rows
   both [] h k = tt
   both (r ∷ rs) h k = (k.0 h.0, both rs h.1 k.1)
 
-  pub decoded_shown : (rows table : List Row) → IsPermutation (map listed table) rows → AllByRecursion Shows rows → IsPermutation (map listed table) (map shown (map returned rows))
+  pub decoded_shown : (rows table : List Row) → IsPermutation (map listed table) rows
+      → AllByRecursion Shows rows → IsPermutation (map listed table) (map shown (map returned rows))
   decoded_shown rows table same shows =
-      subst (IsPermutation (map listed table)) (sym (map-map shown returned rows ∙ map_all (λ r. shown (returned r)) rows (both rows shows (each_back rows table same)))) same
+      subst (IsPermutation (map listed table)) (sym (map-map shown returned rows
+      ∙ map_all (λ r. shown (returned r)) rows (both rows shows (each_back rows table same))))
+      same
 
 -- the returned rows of the entries of a table
-module _ {X : Type 0} (row : X → Row) (cells listed bare : Row → Row) (shown : X → Row) (Shows : Row → Type 0) (returned : Row → X) (Reads : X → Type 0)
+module _ {X : Type 0} (row : X → Row) (cells listed bare : Row → Row) (shown : X → Row) (Shows : Row
+    → Type 0) (returned : Row → X) (Reads : X → Type 0)
     (of_item : (x : X) → bare (row x) ≡ shown x) (of_row : (r : Row) → bare (cells r) ≡ listed r)
     (shows : (x : X) → Reads x → Shows (shown x)) (again : (x : X) → returned (shown x) ≡ x) where
   all_items : (xs : List X) → map (λ x. bare (row x)) xs ≡ map shown xs
@@ -167,21 +188,28 @@ module _ {X : Type 0} (row : X → Row) (cells listed bare : Row → Row) (shown
   all_again [] = refl
   all_again (x ∷ xs) = ap₂ (λ a l. a ∷ l) (again x) (all_again xs)
 
-  shown_rows : (xs : List X) (rows table : List Row) → IsPermutation (map row xs) (map cells table) → IsPermutation (map listed table) rows → IsPermutation (map shown xs) rows
+  shown_rows : (xs : List X) (rows table : List Row) → IsPermutation (map row xs) (map cells table)
+      → IsPermutation (map listed table) rows → IsPermutation (map shown xs) rows
   shown_rows xs rows table held same =
       IsPermutation-trans _ _ _
       (subst (λ l. IsPermutation l (map listed table)) (map-map bare row xs ∙ all_items xs)
-      (subst (IsPermutation (map bare (map row xs))) (map-map bare cells table ∙ all_rows table) (IsPermutation-map bare _ _ held)))
+      (subst (IsPermutation (map bare (map row xs))) (map-map bare cells table
+      ∙ all_rows table) (IsPermutation-map bare _ _ held)))
       same
 
-  pub rows_show : (xs : List X) (rows table : List Row) → IsPermutation (map row xs) (map cells table) → IsPermutation (map listed table) rows → AllByRecursion Reads xs → AllByRecursion Shows rows
+  pub rows_show : (xs : List X) (rows table : List Row)
+      → IsPermutation (map row xs) (map cells table) → IsPermutation (map listed table) rows
+      → AllByRecursion Reads xs → AllByRecursion Shows rows
   rows_show xs rows table held same reads =
       all-permutation Shows (map shown xs) rows (shown_rows xs rows table held same)
       (all-map Shows shown xs (all_weaker Reads (λ x. Shows (shown x)) shows xs reads))
 
-  pub rows_same : (xs : List X) (rows table : List Row) → IsPermutation (map row xs) (map cells table) → IsPermutation (map listed table) rows → IsPermutation xs (map returned rows)
+  pub rows_same : (xs : List X) (rows table : List Row)
+      → IsPermutation (map row xs) (map cells table) → IsPermutation (map listed table) rows
+      → IsPermutation xs (map returned rows)
   rows_same xs rows table held same =
-      subst (λ l. IsPermutation l (map returned rows)) (map-map returned shown xs ∙ all_again xs) (IsPermutation-map returned _ _ (shown_rows xs rows table held same))
+      subst (λ l. IsPermutation l (map returned rows)) (map-map returned shown xs
+      ∙ all_again xs) (IsPermutation-map returned _ _ (shown_rows xs rows table held same))
 
 -- a row without its second column, which is empty
 abbrev bare_row : Row → Row
@@ -194,21 +222,31 @@ whole_row r = r
 
 -- ---- the law
 
-module _ (limits : Bounds) (db : Database) (books members imports keeps : List Row) (ours : IsCurrentSchema db) (listed : AreListedRows db books members imports keeps) where
-  lists : AreTableRows books members imports keeps → ListsRows db (decode_rows books members imports keeps)
+module _ (limits : Bounds) (db : Database) (books members imports keeps : List Row) (ours :
+    IsCurrentSchema db) (listed : AreListedRows db books members imports keeps) where
+  lists : AreTableRows books members imports keeps
+      → ListsRows db (decode_rows books members imports keeps)
   lists shown = record {
-    meta = IsPermutation-same (map meta_listed (db.trees 0)) (schema_row schema_number ∷ []) ours.meta;
-    books = decoded_shown book_listed IsBookRow decode_book book_shown book_back books (db.trees 2) listed.all_books shown.each_book;
-    members = decoded_shown member_cells IsMemberRow load_member member_row member_back members (db.trees 4) listed.all_members shown.each_member;
-    imports = decoded_shown import_cells IsImportRow load_import import_row import_back imports (db.trees 7) listed.all_imports shown.each_import;
-    keeps = decoded_shown keep_listed IsKeepRow decode_keep keep_pair keep_back keeps (db.trees 9) listed.all_keeps shown.each_keep;
+    meta = IsPermutation-same (map meta_listed (db.trees 0)) (schema_row schema_number ∷ [])
+        ours.meta;
+    books = decoded_shown book_listed IsBookRow decode_book book_shown book_back books (db.trees 2)
+        listed.all_books shown.each_book;
+    members = decoded_shown member_cells IsMemberRow load_member member_row member_back members
+        (db.trees 4) listed.all_members shown.each_member;
+    imports = decoded_shown import_cells IsImportRow load_import import_row import_back imports
+        (db.trees 7) listed.all_imports shown.each_import;
+    keeps = decoded_shown keep_listed IsKeepRow decode_keep keep_pair keep_back keeps (db.trees 9)
+        listed.all_keeps shown.each_keep;
   }
 
   -- the tables hold the rows
-  pub rows_are_held : ObeyTables db.trees → AreWellStored limits books members imports keeps → HoldsRows db (decode_rows books members imports keeps)
-  rows_are_held obeys w = listed_held db (decode_rows books members imports keeps) ours.schema obeys (lists w.shown)
+  pub rows_are_held : ObeyTables db.trees → AreWellStored limits books members imports keeps
+      → HoldsRows db (decode_rows books members imports keeps)
+  rows_are_held obeys w = listed_held db (decode_rows books members imports keeps) ours.schema obeys
+      (lists w.shown)
 
-  held_of_stored : ObeyTables db.trees → AreWellStored limits books members imports keeps → HoldsWellFormed limits db
+  held_of_stored : ObeyTables db.trees → AreWellStored limits books members imports keeps
+      → HoldsWellFormed limits db
   held_of_stored obeys w = record {
     rows = decode_rows books members imports keeps;
     holds = rows_are_held obeys w;
@@ -218,24 +256,41 @@ module _ (limits : Bounds) (db : Database) (books members imports keeps : List R
   module _ (had : TableRows) (holds : HoldsRows db had) (readable : AreReadable had) where
     shown_of_held : AreTableRows books members imports keeps
     shown_of_held = record {
-      each_book = rows_show book_row book_cells book_listed bare_row book_shown IsBookRow decode_book IsReadableBook (λ _. refl) (λ _. refl) book_shows (λ _. refl) had.books books (db.trees 2) holds.books listed.all_books readable.books;
-      each_member = rows_show member_row member_cells member_cells whole_row member_row IsMemberRow load_member IsReadableMember (λ _. refl) (λ _. refl) member_shows member_loads had.members members (db.trees 4) holds.members listed.all_members readable.members;
-      each_import = rows_show import_row import_cells import_cells whole_row import_row IsImportRow load_import IsReadableImport (λ _. refl) (λ _. refl) import_shows (λ _. refl) had.imports imports (db.trees 7) holds.imports listed.all_imports readable.imports;
-      each_keep = rows_show keep_row keep_cells keep_listed bare_row keep_pair IsKeepRow decode_keep IsReadableKeep (λ _. refl) (λ _. refl) keep_shows (λ _. refl) had.keeps keeps (db.trees 9) holds.keeps listed.all_keeps readable.keeps;
+      each_book = rows_show book_row book_cells book_listed bare_row book_shown IsBookRow
+          decode_book IsReadableBook (λ _. refl) (λ _. refl) book_shows (λ _. refl) had.books books
+          (db.trees 2) holds.books listed.all_books readable.books;
+      each_member = rows_show member_row member_cells member_cells whole_row member_row IsMemberRow
+          load_member IsReadableMember (λ _. refl) (λ _. refl) member_shows member_loads had.members
+          members (db.trees 4) holds.members listed.all_members readable.members;
+      each_import = rows_show import_row import_cells import_cells whole_row import_row IsImportRow
+          load_import IsReadableImport (λ _. refl) (λ _. refl) import_shows (λ _. refl) had.imports
+          imports (db.trees 7) holds.imports listed.all_imports readable.imports;
+      each_keep = rows_show keep_row keep_cells keep_listed bare_row keep_pair IsKeepRow decode_keep
+          IsReadableKeep (λ _. refl) (λ _. refl) keep_shows (λ _. refl) had.keeps keeps (db.trees 9)
+          holds.keeps listed.all_keeps readable.keeps;
     }
 
     same_rows : AreSame had (decode_rows books members imports keeps)
     same_rows = record {
-      books = rows_same book_row book_cells book_listed bare_row book_shown IsBookRow decode_book IsReadableBook (λ _. refl) (λ _. refl) book_shows (λ _. refl) had.books books (db.trees 2) holds.books listed.all_books;
-      members = rows_same member_row member_cells member_cells whole_row member_row IsMemberRow load_member IsReadableMember (λ _. refl) (λ _. refl) member_shows member_loads had.members members (db.trees 4) holds.members listed.all_members;
-      imports = rows_same import_row import_cells import_cells whole_row import_row IsImportRow load_import IsReadableImport (λ _. refl) (λ _. refl) import_shows (λ _. refl) had.imports imports (db.trees 7) holds.imports listed.all_imports;
-      keeps = rows_same keep_row keep_cells keep_listed bare_row keep_pair IsKeepRow decode_keep IsReadableKeep (λ _. refl) (λ _. refl) keep_shows (λ _. refl) had.keeps keeps (db.trees 9) holds.keeps listed.all_keeps;
+      books = rows_same book_row book_cells book_listed bare_row book_shown IsBookRow decode_book
+          IsReadableBook (λ _. refl) (λ _. refl) book_shows (λ _. refl) had.books books (db.trees 2)
+          holds.books listed.all_books;
+      members = rows_same member_row member_cells member_cells whole_row member_row IsMemberRow
+          load_member IsReadableMember (λ _. refl) (λ _. refl) member_shows member_loads had.members
+          members (db.trees 4) holds.members listed.all_members;
+      imports = rows_same import_row import_cells import_cells whole_row import_row IsImportRow
+          load_import IsReadableImport (λ _. refl) (λ _. refl) import_shows (λ _. refl) had.imports
+          imports (db.trees 7) holds.imports listed.all_imports;
+      keeps = rows_same keep_row keep_cells keep_listed bare_row keep_pair IsKeepRow decode_keep
+          IsReadableKeep (λ _. refl) (λ _. refl) keep_shows (λ _. refl) had.keeps keeps (db.trees 9)
+          holds.keeps listed.all_keeps;
     }
 
   stored_of_held : HoldsWellFormed limits db → AreWellStored limits books members imports keeps
   stored_of_held h = record {
     shown = shown_of_held h.rows h.holds h.well_formed.sound.readable;
-    well_formed = well_formed_moved h.rows (decode_rows books members imports keeps) (same_rows h.rows h.holds h.well_formed.sound.readable) limits h.well_formed;
+    well_formed = well_formed_moved h.rows (decode_rows books members imports keeps)
+        (same_rows h.rows h.holds h.well_formed.sound.readable) limits h.well_formed;
   }
 
 pub well_stored_held : WellStoredAreHeld

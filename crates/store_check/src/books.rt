@@ -15,7 +15,7 @@ ghost use Rattle.std.specs.Prelude.{◌≡◌, ◌+◌, ◌↔◌, IfSome, IsTru
 ghost use Rattle.std.specs.Prelude.{length, map};
 
 use crate::cells::{
-    has_natural, has_number, has_text, natural_at, number_at, text_at, text_if_any_at,
+    has_natural, has_number, has_text, natural_at, number_or_zero_at, text_at, text_if_any_at,
 };
 use crate::faults::BookFault;
 use crate::names::is_name_text;
@@ -29,7 +29,7 @@ pub(crate) fn book_with_id(books: &[Row], id: i64) -> Option<&Row>
         ≡ find (has_id id) (map decode_book books.now) }
 {
     for book in books {
-        if number_at(book, 0) == id {
+        if number_or_zero_at(book, 0) == id {
             return Some(book);
         }
     }
@@ -86,7 +86,7 @@ fn is_removed(member: &Row, id: i64, horizon: i64) -> bool
     ensures { result ≡ is_removed_above id horizon (load_member member.now) }
 {
     let is_gone = text_if_any_at(member, 4).is_none();
-    number_at(member, 1) == id && is_gone && horizon < number_at(member, 3)
+    number_or_zero_at(member, 1) == id && is_gone && horizon < number_or_zero_at(member, 3)
 }
 
 /// The number of tombstones of the book `id` above the horizon.
@@ -107,7 +107,7 @@ fn keep_of(keeps: &[Row], id: i64) -> u64
     ensures { result ≡ keep_of_book id (map decode_keep keeps.now) }
 {
     for keep in keeps {
-        if number_at(keep, 0) == id {
+        if number_or_zero_at(keep, 0) == id {
             return natural_at(keep, 1);
         }
     }
@@ -120,7 +120,7 @@ fn members_fault(book: &Row, tally: BookTally, keeps: &[Row]) -> Option<BookFaul
         → JudgesMembers ms (map decode_keep keeps.now) book.now result }
 {
     let counts = counts_at(book);
-    let keep = keep_of(keeps, number_at(book, 0));
+    let keep = keep_of(keeps, number_or_zero_at(book, 0));
     if keep < 1 || tally.removed > keep {
         return Some(BookFault::Keep);
     }

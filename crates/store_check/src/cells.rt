@@ -21,7 +21,7 @@ fn column_at(row: &Row, at: usize) -> ValueRef<'_>
 }
 
 /// The integer in the column, or 0 if it has none.
-pub fn number_at(row: &Row, at: usize) -> i64
+pub fn number_or_zero_at(row: &Row, at: usize) -> i64
     ensures { result ≡ id_in (column row.now at) }
 {
     match column_at(row, at) {
@@ -44,7 +44,7 @@ pub(crate) fn natural_of(number: i64) -> u64
 pub(crate) fn natural_at(row: &Row, at: usize) -> u64
     ensures { result ≡ natural (id_in (column row.now at)) }
 {
-    natural_of(number_at(row, at))
+    natural_of(number_or_zero_at(row, at))
 }
 
 /// The text in the column, or an empty one if it has none.

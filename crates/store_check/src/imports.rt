@@ -8,7 +8,7 @@ ghost use Rattle.sqlite_rules.specs.Lists.{Has};
 ghost use Rattle.std.specs.Prelude.{◌≡◌, ◌↔◌, IfSome, IsTrue, None, map};
 
 use crate::books::book_with_id;
-use crate::cells::{has_natural, has_number, has_text, natural_at, number_at, text_at};
+use crate::cells::{has_natural, has_number, has_text, natural_at, number_or_zero_at, text_at};
 use crate::faults::ImportFault;
 use crate::names::is_key_text;
 use sqlite::Row;
@@ -30,7 +30,7 @@ fn fault_in_book(import: &Row, book: &Row) -> Option<ImportFault>
 fn import_fault(import: &Row, books: &[Row]) -> Option<ImportFault>
     ensures { JudgesImport (map decode_book books.now) import.now result }
 {
-    match book_with_id(books, number_at(import, 1)) {
+    match book_with_id(books, number_or_zero_at(import, 1)) {
         Some(book) => fault_in_book(import, book),
         None => Some(ImportFault::NoBook),
     }

@@ -16,7 +16,7 @@ ghost use Rattle.std.specs.Prelude.{◌≡◌, ◌↔◌, ◌&&◌, IfOk, IfSome
 ghost use Rattle.std.specs.Prelude.{map};
 
 use crate::books::book_with_id;
-use crate::cells::{number_at, text_at};
+use crate::cells::{number_or_zero_at, text_at};
 use crate::distinct::are_distinct;
 use sqlite::Row;
 use std::alloc::Global;
@@ -27,7 +27,7 @@ fn number_column(alloc: Global, rows: &[Row], at: usize) -> Result<Vec<i64>, NoM
 {
     let mut keys = Vec::new(alloc);
     for row in rows {
-        keys.push(number_at(row, at))?;
+        keys.push(number_or_zero_at(row, at))?;
     }
     Ok(keys)
 }
@@ -49,7 +49,7 @@ fn book_number_column(alloc: Global, rows: &[Row], at: usize) -> Result<Vec<(i64
 {
     let mut keys = Vec::new(alloc);
     for row in rows {
-        keys.push((number_at(row, 1), number_at(row, at)))?;
+        keys.push((number_or_zero_at(row, 1), number_or_zero_at(row, at)))?;
     }
     Ok(keys)
 }
@@ -61,7 +61,7 @@ fn book_text_column(alloc: Global, rows: &[Row], at: usize) -> Result<Vec<(i64, 
 {
     let mut keys = Vec::new(alloc);
     for row in rows {
-        keys.push((number_at(row, 1), text_at(row, at)))?;
+        keys.push((number_or_zero_at(row, 1), text_at(row, at)))?;
     }
     Ok(keys)
 }
@@ -151,7 +151,7 @@ pub(crate) fn have_keep_keys(alloc: Global, keeps: &[Row]) -> Result<bool, NoMem
 fn is_keep_listed(keep: &Row, books: &[Row]) -> bool
     ensures { IsTrue result ↔ HasBookId (map decode_book books.now) (decode_keep keep.now).book }
 {
-    book_with_id(books, number_at(keep, 0)).is_some()
+    book_with_id(books, number_or_zero_at(keep, 0)).is_some()
 }
 
 /// The first keep whose book isn't one of these.

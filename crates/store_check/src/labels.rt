@@ -4,7 +4,7 @@ ghost use Rattle.store_check.specs.RowFaults.{IsLabelled, book_label, key_label,
 ghost use Rattle.std.specs.Prelude.{◌≡◌, IfOk};
 
 use crate::books::book_with_id;
-use crate::cells::{number_at, text_at};
+use crate::cells::{number_or_zero_at, text_at};
 use crate::faults::{FaultyRow, RowFault};
 use sqlite::Row;
 use std::alloc::Global;
@@ -26,8 +26,8 @@ fn book_label<'a>(books: &'a [Row], row: &'a Row, fault: RowFault) -> &'a [u8]
 {
     match fault {
         RowFault::Book(_) => text_at(row, 1),
-        RowFault::Member(_) | RowFault::Import(_) => name_with_id(books, number_at(row, 1)),
-        RowFault::Keep(_) => name_with_id(books, number_at(row, 0)),
+        RowFault::Member(_) | RowFault::Import(_) => name_with_id(books, number_or_zero_at(row, 1)),
+        RowFault::Keep(_) => name_with_id(books, number_or_zero_at(row, 0)),
     }
 }
 
@@ -61,7 +61,7 @@ pub(crate) fn label_row(
     let book = copy_octets(alloc, book_label(books, row, fault))?;
     let key = copy_octets(alloc, key_label(row, fault))?;
     Ok(FaultyRow {
-        row: number_at(row, 0),
+        row: number_or_zero_at(row, 0),
         book,
         key,
         fault,

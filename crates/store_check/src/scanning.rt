@@ -8,7 +8,7 @@ ghost use Rattle.sqlite.specs.declared.error.Error.TheVariants.{SqliteFailure};
 ghost use Rattle.sqlite.specs.declared.error.ErrorCode.TheVariants.{OutOfMemory};
 ghost use Rattle.std.specs.Prelude.{◌≡◌, ◌≢◌, IfErr, IfOk, false};
 
-use crate::cells::number_at;
+use crate::cells::number_or_zero_at;
 use crate::faults::{FaultyRow, RowFault};
 use crate::labels::label_row;
 use crate::tallies::{BookTally, tally_member};
@@ -51,7 +51,7 @@ fn take_member(
             Err(NoMemory) => Err(Error::SqliteFailure(ErrorCode::OutOfMemory)),
         };
     }
-    let id = number_at(member, 0);
+    let id = number_or_zero_at(member, 0);
     if !is_above(*last, id) {
         return Err(Error::SqliteFailure(ErrorCode::DatabaseCorrupt));
     }

@@ -5,7 +5,7 @@ ghost use Rattle.store_check.specs.RowChecks.{decode_book, int_cell};
 ghost use Rattle.store_rows.specs.TableRows.{load_member};
 ghost use Rattle.std.specs.Prelude.{[], ◌≡◌, IfOk, IfSome, map};
 
-use crate::cells::{natural_at, natural_of, number_at, text_if_any_at};
+use crate::cells::{natural_at, natural_of, number_or_zero_at, text_if_any_at};
 use crate::faults::MemberFault;
 use crate::members::{fault_in_book, is_member_row};
 use sqlite::Row;
@@ -31,9 +31,9 @@ fn start_tally(book: &Row) -> BookTally
     ensures { result ≡ tally_of [] (decode_book book.now) }
 {
     BookTally {
-        id: number_at(book, 0),
+        id: number_or_zero_at(book, 0),
         number: natural_at(book, 2),
-        horizon: number_at(book, 3),
+        horizon: number_or_zero_at(book, 3),
         live: 0,
         removed: 0,
     }
@@ -106,7 +106,7 @@ fn count_in(tally: BookTally, member: &Row) -> Result<BookTally, NoMemory>
     ensures { IfOk result (λ next. next ≡ counted (load_member member.now) tally) }
 {
     let is_live = text_if_any_at(member, 4).is_some();
-    let is_kept = !is_live && tally.horizon < number_at(member, 3);
+    let is_kept = !is_live && tally.horizon < number_or_zero_at(member, 3);
     let live = count_more(tally.live, is_live)?;
     let removed = count_more(tally.removed, is_kept)?;
     Ok(BookTally {
@@ -130,7 +130,7 @@ pub(crate) fn tally_member(
     if !is_member_row(member) {
         return Ok(Some(MemberFault::Columns));
     }
-    let Some((place, tally)) = find_tally(tallies, number_at(member, 1)) else {
+    let Some((place, tally)) = find_tally(tallies, number_or_zero_at(member, 1)) else {
         return Ok(Some(MemberFault::NoBook));
     };
     if let Some(fault) = fault_in_book(alloc, member, tally.number, tally.horizon)? {

@@ -1,5 +1,6 @@
 -- Tables that are compared with rows.
-use Rattle.std.proofs.Common.{◌≡◌, ℤ, Bool, IsTrue, IfOk, List, [], map, IsPermutation, Result, Ok, Err, subst}
+use Rattle.std.proofs.Common.{◌≡◌, ℤ, Bool, IsTrue, IfOk, List, [], map, IsPermutation, Result, Ok}
+use Rattle.std.proofs.Common.{Err, subst}
 use Rattle.sqlite.specs.Order.{Row}
 use Rattle.sqlite.specs.Program.{overlay}
 use Rattle.sqlite.specs.State.{State, IsUnchanged, Shown}
@@ -20,27 +21,41 @@ use Rattle.store_copy.specs.declared.reading.BookRows.{BookRows}
 use Rattle.store_copy.specs.declared.reading.StoredRows.{StoredRows}
 
 -- a query for all members shows the rows of the table
-pub members_listed : (old new : State) (rows : List Row) → old.now.schema ≡ book_schema → Shown all_members_text [] old new rows → IsPermutation (map member_cells (old.now.trees 4)) rows
+pub members_listed : (old new : State) (rows : List Row) → old.now.schema ≡ book_schema
+    → Shown all_members_text [] old new rows → IsPermutation (map member_cells (old.now.trees 4))
+    rows
 members_listed old new rows schema h =
-    let answer = (reads_as all_members_text [] old new book_schema schema _ all_members_is.0 all_members_is.2 all_members_is.1 rows h).answer in
-    subst (λ l. IsPermutation (map member_cells l) rows) (every (old.now.trees 4)) (picked 4 [] all_members_terms (overlay old.now.trees []) [] rows answer)
+    let answer = (reads_as all_members_text [] old new book_schema schema _ all_members_is.0
+    all_members_is.2 all_members_is.1 rows h).answer in
+    subst (λ l. IsPermutation (map member_cells l) rows) (every (old.now.trees 4))
+    (picked 4 [] all_members_terms (overlay old.now.trees []) [] rows answer)
 
 -- the members are these with their new ids
 abbrev pub HaveNewMembers : List ℤ → List Row → List Row → Type 0
-HaveNewMembers ids table members = (found : List Row) × IsPermutation (map member_cells table) found × HaveNewIds 1 5 ids found members
+HaveNewMembers ids table members = (found : List Row) × IsPermutation (map member_cells table) found
+    × HaveNewIds 1 5 ids found members
 
-pub holds_all : (ids : List ℤ) (a b c : State) (found : BookRows) (rows : StoredRows) (r : Result Bool Error) → GivenTables a b (IsUnchanged a b) → OnlyReads b c
-    → GivenTables a b (AreBookRows a.now found.books.items found.imports.items found.keeps.items) → HaveNewBooks ids found rows.others
-    → GivenTables b c (IfOk r (λ same. IsTrue same → HaveNewMembers ids (b.now.trees 4) rows.members.items))
+pub holds_all : (ids : List ℤ) (a b c : State) (found : BookRows) (rows : StoredRows) (r :
+    Result Bool Error) → GivenTables a b (IsUnchanged a b) → OnlyReads b c
+    → GivenTables a b (AreBookRows a.now found.books.items found.imports.items found.keeps.items)
+    → HaveNewBooks ids found rows.others
+    → GivenTables b c (IfOk r (λ same. IsTrue same
+    → HaveNewMembers ids (b.now.trees 4) rows.members.items))
     → GivenTables a c (IfOk r (λ same. IsTrue same → HasNewRows ids a.now rows))
 holds_all ids a b c found rows (Ok same) unchanged left first alike second = λ clean has yes.
     let early = clean_before _ b c left.survives clean in
     let others = first early has in
-    let members = over_then a b c (λ db. HaveNewMembers ids (db.trees 4) rows.members.items) unchanged left (λ late there. second late there yes) clean has in
+    let members = over_then a b c (λ db. HaveNewMembers ids (db.trees 4) rows.members.items)
+    unchanged left (λ late there. second late there yes) clean has in
     record {
       others = found;
       members = members.0;
-      listed = record { all_books = others.all_books; all_members = members.1; all_imports = others.all_imports; all_keeps = others.all_keeps };
+      listed = record {
+        all_books = others.all_books;
+        all_members = members.1;
+        all_imports = others.all_imports;
+        all_keeps = others.all_keeps;
+      };
       new_others = alike;
       new_members = members.2;
     }

@@ -15,7 +15,7 @@ use crate::left_out::id_after;
 use crate::reading::{BookRows, StoredRows, list_others};
 use sqlite::types::ValueRef;
 use sqlite::{Alter, Connection, Error, ErrorCode, Row};
-use store_check::cells::number_at;
+use store_check::cells::number_or_zero_at;
 
 /// Whether two values are both null, the same integer or the same text. The tables of a store hold
 /// no others.
@@ -60,7 +60,7 @@ fn has_new_id(found: &Row, row: &Row, at: usize, columns: usize, left: &[i64]) -
             return false;
         }
     }
-    has_int(found, at, id_after(left, number_at(row, at)))
+    has_int(found, at, id_after(left, number_or_zero_at(row, at)))
 }
 
 /// Whether the found row is the one at the place with its new id.

@@ -14,7 +14,7 @@ use base_types::Text;
 use sqlite::Row;
 use sqlite::types::ValueRef;
 use std::alloc::{AllocError, Global};
-use store_check::cells::number_at;
+use store_check::cells::number_or_zero_at;
 
 // ---- names
 
@@ -74,7 +74,7 @@ fn named_ids(alloc: Global, books: &[Row], names: &[Text]) -> Result<Vec<i64>, A
     let mut ids = Vec::new(alloc);
     for book in books {
         if is_named(names, text_at(book, 1)) {
-            ids.push(number_at(book, 0))?;
+            ids.push(number_or_zero_at(book, 0))?;
         }
     }
     Ok(ids)
@@ -141,7 +141,7 @@ fn kept_rows(rows: Vec<Row>, at: usize, left: &[i64]) -> Vec<Row>
     ensures { result.items ≡ kept_rows at left.now rows.items }
 {
     let mut rows = rows;
-    rows.retain(|row| !is_left_out(left, number_at(row, at)));
+    rows.retain(|row| !is_left_out(left, number_or_zero_at(row, at)));
     rows
 }
 

@@ -6,7 +6,7 @@ ghost use Rattle.std.specs.Prelude.{◌*◌, ◌≡◌, ◌<◌, ◌≤◌, map}
 
 use crate::reading::StoredRows;
 use sqlite::Row;
-use store_check::cells::number_at;
+use store_check::cells::number_or_zero_at;
 
 /// The number, or 0 if it is negative.
 fn natural_of(number: i64) -> u64
@@ -23,7 +23,7 @@ fn greater_number(book: &Row, other: u64) -> u64
     ensures own { natural (int_cell 2 book.now) ≤ result }
     ensures other { other ≤ result }
 {
-    let number = natural_of(number_at(book, 2));
+    let number = natural_of(number_or_zero_at(book, 2));
     if number > other { number } else { other }
 }
 

@@ -9,7 +9,7 @@ use crate::left_out::id_after;
 use crate::reading::StoredRows;
 use sqlite::types::ValueRef;
 use sqlite::{Alter, Connection, Error, Row, Transaction};
-use store_check::cells::number_at;
+use store_check::cells::number_or_zero_at;
 use store_tables::creation::create_tables;
 
 /// The value of the column; null past the end of the row.
@@ -22,7 +22,7 @@ fn value_at(row: &Row, at: usize) -> ValueRef<'_> {
 
 /// The new id of the book whose old one is in the column.
 fn new_id(row: &Row, at: usize, left: &[i64]) -> ValueRef<'static> {
-    ValueRef::Int(id_after(left, number_at(row, at)))
+    ValueRef::Int(id_after(left, number_or_zero_at(row, at)))
 }
 
 // ---- one row

@@ -17,7 +17,9 @@ use Rattle.store_migration.specs.internal.MigrationWrites.{IsFirstWithId, TreesA
 use Rattle.store_migration.specs.InitialKeeps.{initial_keeps}
 
 -- the keeps in the order of the plan are the computed ones
-pub migrated : (old new : Database) (keep_rows : List KeepRow) → IsPermutation (initial_keeps (rows_in old.trees)) keep_rows → AddsKeeps keep_rows old new → IsMigrated old new
+pub migrated : (old new : Database) (keep_rows : List KeepRow)
+    → IsPermutation (initial_keeps (rows_in old.trees)) keep_rows → AddsKeeps keep_rows old new
+    → IsMigrated old new
 migrated old new keep_rows same h = record {
   schema = h.schema;
   obeys = h.obeys;
@@ -29,7 +31,9 @@ migrated old new keep_rows same h = record {
 }
 
 -- a crash in one or the other, where the first commits nothing
-pub survives_both : (a b c : State) (P : Trees → Type 0) → Survives a b (λ _. ⊥) → Survives b c (λ _. ⊤) → (HasCleanDisk c → (db : Trees) → c.may_leave db → b.may_leave db ⊎ P db) → (HasCleanDisk c → HasCleanDisk b) → Survives a c P
+pub survives_both : (a b c : State) (P : Trees → Type 0) → Survives a b (λ _. ⊥)
+    → Survives b c (λ _. ⊤) → (HasCleanDisk c → (db : Trees) → c.may_leave db → b.may_leave db
+    ⊎ P db) → (HasCleanDisk c → HasCleanDisk b) → Survives a c P
 survives_both a b c P first next leaves early =
     let all = survives_then a b c _ _ (λ _. ⊤) (λ _ db none. tt) (λ _ db some. tt) first next in
     record {
@@ -39,30 +43,50 @@ survives_both a b c P first next leaves early =
       limit = all.limit;
       closes = all.closes;
       crash = λ clean db left. elim (leaves clean db left) [
-        | inl before ↦ elim (first.crash (early clean) db before) [ inl old ↦ inl old | inr none ↦ absurd none ]
+        | inl before ↦ elim (first.crash (early clean) db before) [
+          | inl old ↦ inl old
+          | inr none ↦
+              absurd none
+        ]
         | inr done ↦ inr done
       ];
     }
 
-module _ (limits : Bounds) (a b c : State) (keeps : List Row) (kept : HasCleanDisk b → IsUnchanged a b) (plan_migration : HasCleanDisk b → IsMigrationPlan limits a.now keeps) where
+module _ (limits : Bounds) (a b c : State) (keeps : List Row) (kept : HasCleanDisk b
+    → IsUnchanged a b) (plan_migration : HasCleanDisk b → IsMigrationPlan limits a.now keeps) where
   pub first_with : (clean : HasCleanDisk b) → IsFirstWithId (plan_migration clean).numbered.id b.now
   first_with clean =
       let p = plan_migration clean in
-      subst (IsFirstWithId p.numbered.id) (sym (kept clean).0.now_is) (record { schema = p.first.schema; one = p.numbered.one })
+      subst (IsFirstWithId p.numbered.id) (sym (kept clean).0.now_is)
+      (record { schema = p.first.schema; one = p.numbered.one })
 
-  pub is_migrated : (clean : HasCleanDisk b) (new : Database) → AddsKeeps (plan_migration clean).keep_rows b.now new → IsMigrated a.now new
+  pub is_migrated : (clean : HasCleanDisk b) (new : Database)
+      → AddsKeeps (plan_migration clean).keep_rows b.now new → IsMigrated a.now new
   is_migrated clean new h =
       let p = plan_migration clean in
-      migrated a.now new p.keep_rows p.same (subst (λ db. AddsKeeps p.keep_rows db new) (kept clean).0.now_is h)
+      migrated a.now new p.keep_rows p.same (subst (λ db. AddsKeeps p.keep_rows db new)
+      (kept clean).0.now_is h)
 
-  pub crash_commits : (clean : HasCleanDisk b) (db : Trees) → TreesAddKeeps (plan_migration clean).keep_rows b.now db → CommitsMigration limits a.now db
+  pub crash_commits : (clean : HasCleanDisk b) (db : Trees)
+      → TreesAddKeeps (plan_migration clean).keep_rows b.now db → CommitsMigration limits a.now db
   crash_commits clean db h =
       let new : Database = record { schema = book_schema; trees = db } in
       let made = is_migrated clean new h in
-      record { first = (plan_migration clean).first; migrated = made; well_formed = (plan_migration clean).makes_well_formed new made }
+      record {
+        first = (plan_migration clean).first;
+        migrated = made;
+        well_formed = (plan_migration clean).makes_well_formed new made;
+      }
 
   -- what a crash can leave of the two
-  pub survives_migration : (HasCleanDisk c → HasCleanDisk b) → Survives a b (λ _. ⊥) → Survives b c (λ _. ⊤)
-      → ((clean : HasCleanDisk b) → Survives b c (TreesAddKeeps (plan_migration clean).keep_rows b.now)) → Survives a c (CommitsMigration limits a.now)
-  survives_migration early first next crash = survives_both a b c (CommitsMigration limits a.now) first next (λ clean db left.
-      elim ((crash (early clean)).crash clean db left) [ inl before ↦ inl before | inr h ↦ inr (crash_commits (early clean) db h) ]) early
+  pub survives_migration : (HasCleanDisk c → HasCleanDisk b) → Survives a b (λ _. ⊥)
+      → Survives b c (λ _. ⊤)
+      → ((clean : HasCleanDisk b) → Survives b c (TreesAddKeeps (plan_migration clean).keep_rows
+      b.now)) → Survives a c (CommitsMigration limits a.now)
+  survives_migration early first next crash =
+      survives_both a b c (CommitsMigration limits a.now) first next (λ clean db left.
+      elim ((crash (early clean)).crash clean db left) [
+        | inl before ↦ inl before
+        | inr h ↦
+            inr (crash_commits (early clean) db h)
+      ]) early

@@ -11,7 +11,7 @@ use sqlite_exec::work::FromRow;
 use sqlite_value::row;
 use std::alloc::Global;
 use store_check::books::count_removed;
-use store_check::cells::number_at;
+use store_check::cells::number_or_zero_at;
 use vcard_text::NoMemory;
 
 /// The least keep: that of a book with no more tombstones.
@@ -22,7 +22,11 @@ fn initial_keep_of(members: &[Row], book: &Row) -> Result<i64, NoMemory>
     ensures { IfOk result (λ keep. keep
         ≡ pos (max 10000 (book_tombstones (map load_member members.now) (decode_book book.now)))) }
 {
-    let book_tombstones = count_removed(members, number_at(book, 0), number_at(book, 3));
+    let book_tombstones = count_removed(
+        members,
+        number_or_zero_at(book, 0),
+        number_or_zero_at(book, 3),
+    );
     let keep = if book_tombstones < LEAST_KEEP {
         LEAST_KEEP
     } else {
@@ -52,7 +56,7 @@ pub fn keeps_of(alloc: Global, books: &[Row], members: &[Row]) -> Result<Vec<Row
     let mut keeps = Vec::new(alloc);
     for book in books {
         let keep = initial_keep_of(members, book)?;
-        keeps.push(initial_keep_row(alloc, number_at(book, 0), keep)?)?;
+        keeps.push(initial_keep_row(alloc, number_or_zero_at(book, 0), keep)?)?;
     }
     Ok(keeps)
 }

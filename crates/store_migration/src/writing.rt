@@ -28,7 +28,7 @@ ghost use Rattle.store_tables.specs.OnConnections.{
 };
 
 use sqlite::{Alter, Connection, Error, Row, Transaction, params};
-use store_check::cells::number_at;
+use store_check::cells::number_or_zero_at;
 use store_tables::creation::create_keeps;
 use store_tables::keeps::insert_keep;
 use store_tables::meta::SCHEMA_NUMBER;
@@ -69,7 +69,7 @@ fn insert_keeps<S: Alter>(tx: &mut Transaction<'_, S>, keeps: &[Row]) -> Result<
         return Ok(());
     };
     insert_keeps(tx, others)?;
-    insert_keep(tx, number_at(keep, 0), number_at(keep, 1))?;
+    insert_keep(tx, number_or_zero_at(keep, 0), number_or_zero_at(keep, 1))?;
     Ok(())
 }
 

@@ -9,6 +9,9 @@ use Rattle.store_schema.specs.OpenFaults.{ComesFromOutside, IsErrorFault, open_f
 use Rattle.store_schema.specs.declared.open_fault.OpenFault.{OpenFault}
 
 -- the fault of an error that has an outside cause
-pub error_from_outside : (old new : State) (e : Error) (fault : OpenFault) → IsErrorFault fault → fault ≡ open_fault_of_error e → (e ≢ SqliteFailure OutOfMemory → HasOutsideCause old new) → ComesFromOutside old new fault
+pub error_from_outside : (old new : State) (e : Error) (fault : OpenFault) → IsErrorFault fault
+    → fault ≡ open_fault_of_error e → (e ≢ SqliteFailure OutOfMemory → HasOutsideCause old new)
+    → ComesFromOutside old new fault
 error_from_outside old new e fault (inr memory) is cause = inl memory
-error_from_outside old new e fault (inl store) is cause = inr (store, cause (λ room. let x = sym store ∙ is ∙ ap open_fault_of_error room in cc))
+error_from_outside old new e fault (inl store) is cause =
+    inr (store, cause (λ room. let x = sym store ∙ is ∙ ap open_fault_of_error room in cc))

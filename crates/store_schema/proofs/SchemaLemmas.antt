@@ -1,10 +1,13 @@
 -- A table or index passes its test exactly if it equals the declared one.
-use Rattle.std.proofs.Common.{◌≡◌, ◌↔◌, ◌==◌, ◌&&◌, ℕ, Bool, true, false, not, List, [], ◌∷◌, map, Option, Some, None, bytes_eq, codes, refl, sym, ap, ap₂, subst, ◌∙◌, true≢false, arith}
+use Rattle.std.proofs.Common.{◌≡◌, ◌↔◌, ◌==◌, ◌&&◌, ℕ, Bool, true, false, not, List, [], ◌∷◌, map}
+use Rattle.std.proofs.Common.{Option, Some, None, bytes_eq, codes, refl, sym, ap, ap₂, subst, ◌∙◌}
+use Rattle.std.proofs.Common.{true≢false, arith}
 use Rattle.sqlite.specs.Table.{Table}
 use Rattle.sqlite.specs.declared.types.Value.{Value}
 use Rattle.sqlite.specs.declared.types.Value.TheVariants.{Null, Int, Real, Text, Blob}
 use Rattle.sqlite_schema.specs.declared.schema.Action.{Action}
-use Rattle.sqlite_schema.specs.declared.schema.Action.TheVariants.{NoAction, Restrict, Cascade, SetNull, SetDefault}
+use Rattle.sqlite_schema.specs.declared.schema.Action.TheVariants.{NoAction, Restrict, Cascade}
+use Rattle.sqlite_schema.specs.declared.schema.Action.TheVariants.{SetNull, SetDefault}
 use Rattle.sqlite_schema.specs.declared.schema.Column.{Column}
 use Rattle.sqlite_schema.specs.declared.schema.Index.{Index}
 use Rattle.sqlite_schema.specs.declared.schema.Kind.{Kind}
@@ -18,9 +21,14 @@ use Rattle.store_tables.specs.Tables.{table_of, book_reference, key_index}
 use Rattle.store_tables.proofs.KeyedRows.{text_itself}
 use Rattle.std.proofs.lemmas.Bool.{and_parts}
 use Rattle.std.proofs.lemmas.List.{map-id}
-use Rattle.store_schema.specs.internal.SchemaTests.{all_match, are_keys, are_places, columns_of, is_binary, is_column, has_id_key, is_index, is_integer, has_column_kind, is_no_action, is_null, is_only_name, is_plain_order, is_reference, is_text, keys_of, IsTable}
+use Rattle.store_schema.specs.internal.SchemaTests.{all_match, are_keys, are_places, columns_of}
+use Rattle.store_schema.specs.internal.SchemaTests.{is_binary, is_column, has_id_key, is_index}
+use Rattle.store_schema.specs.internal.SchemaTests.{is_integer, has_column_kind, is_no_action}
+use Rattle.store_schema.specs.internal.SchemaTests.{is_null, is_only_name, is_plain_order}
+use Rattle.store_schema.specs.internal.SchemaTests.{is_reference, is_text, keys_of, IsTable}
 use Rattle.store_schema.specs.declared.forms.ColumnForm.{ColumnForm}
-use Rattle.store_schema.specs.declared.forms.ColumnForm.TheVariants.{Number, RequiredText, NullableText, RowId}
+use Rattle.store_schema.specs.declared.forms.ColumnForm.TheVariants.{Number, RequiredText}
+use Rattle.store_schema.specs.declared.forms.ColumnForm.TheVariants.{NullableText, RowId}
 use Rattle.store_schema.specs.declared.forms.IndexForm.{IndexForm}
 use Rattle.store_schema.specs.declared.forms.TableForm.{TableForm}
 
@@ -39,29 +47,35 @@ false_from false h = refl
 -- ---- lists
 
 module _ {F X : Type 0} (is : F → X → Bool) (form_of : F → X) where
-  pub all_as : ((f : F) (x : X) → is f x ≡ true → x ≡ form_of f) → (fs : List F) (xs : List X) → all_match is fs xs ≡ true → xs ≡ map form_of fs
+  pub all_as : ((f : F) (x : X) → is f x ≡ true → x ≡ form_of f) → (fs : List F) (xs : List X)
+      → all_match is fs xs ≡ true → xs ≡ map form_of fs
   all_as from [] [] h = refl
   all_as from [] (x ∷ xs) h = absurd (true≢false (sym h))
   all_as from (f ∷ fs) [] h = absurd (true≢false (sym h))
-  all_as from (f ∷ fs) (x ∷ xs) h = let parts = and_parts (is f x) (all_match is fs xs) h in ap₂ (λ a l. a ∷ l) (from f x parts.0) (all_as from fs xs parts.1)
+  all_as from (f ∷ fs) (x ∷ xs) h = let parts = and_parts (is f x) (all_match is fs xs) h in
+      ap₂ (λ a l. a ∷ l) (from f x parts.0) (all_as from fs xs parts.1)
 
-  pub all_itself : ((f : F) → is f (form_of f) ≡ true) → (fs : List F) → all_match is fs (map form_of fs) ≡ true
+  pub all_itself : ((f : F) → is f (form_of f) ≡ true) → (fs : List F)
+      → all_match is fs (map form_of fs) ≡ true
   all_itself own [] = refl
   all_itself own (f ∷ fs) = ap₂ (λ s t. s && t) (own f) (all_itself own fs)
 
 -- ---- places
 
 places_is : (own places : List ℕ) → are_places own places ≡ true → places ≡ own
-places_is own places h = all_as (λ (o p : ℕ). o == p) (λ o. o) (λ o p e. sym (same_number o p e)) own places h ∙ map-id own
+places_is own places h = all_as (λ (o p : ℕ). o == p) (λ o. o) (λ o p e. sym (same_number o p e))
+    own places h ∙ map-id own
 
 places_itself : (own : List ℕ) → are_places own own ≡ true
-places_itself own = ap (are_places own) (sym (map-id own)) ∙ all_itself (λ (o p : ℕ). o == p) (λ o. o) number_itself own
+places_itself own = ap (are_places own) (sym (map-id own))
+    ∙ all_itself (λ (o p : ℕ). o == p) (λ o. o) number_itself own
 
 keys_is : (own keys : List (List ℕ)) → are_keys own keys ≡ true → keys ≡ own
 keys_is own keys h = all_as are_places (λ o. o) places_is own keys h ∙ map-id own
 
 keys_itself : (own : List (List ℕ)) → are_keys own own ≡ true
-keys_itself own = ap (are_keys own) (sym (map-id own)) ∙ all_itself are_places (λ o. o) places_itself own
+keys_itself own = ap (are_keys own) (sym (map-id own))
+    ∙ all_itself are_places (λ o. o) places_itself own
 
 only_is : (own : List ℕ) (names : List (List ℕ)) → is_only_name own names ≡ true → names ≡ own ∷ []
 only_is own [] h = absurd (true≢false (sym h))
@@ -108,11 +122,14 @@ never_null RequiredText = true
 never_null NullableText = false
 never_null RowId = false
 
-kept_is : (cell : ColumnForm) (k : Kind) (n : Bool) → has_column_kind cell k n ≡ true → (k ≡ kind_of cell) × (n ≡ never_null cell)
+kept_is : (cell : ColumnForm) (k : Kind) (n : Bool) → has_column_kind cell k n ≡ true
+    → (k ≡ kind_of cell) × (n ≡ never_null cell)
 kept_is Number k n h = let parts = and_parts (is_integer k) n h in (integer_is k parts.0, parts.1)
 kept_is RequiredText k n h = let parts = and_parts (is_text k) n h in (text_is k parts.0, parts.1)
-kept_is NullableText k n h = let parts = and_parts (is_text k) (not n) h in (text_is k parts.0, false_from n parts.1)
-kept_is RowId k n h = let parts = and_parts (is_integer k) (not n) h in (integer_is k parts.0, false_from n parts.1)
+kept_is NullableText k n h = let parts = and_parts (is_text k) (not n) h in
+    (text_is k parts.0, false_from n parts.1)
+kept_is RowId k n h = let parts = and_parts (is_integer k) (not n) h in
+    (integer_is k parts.0, false_from n parts.1)
 
 kept_itself : (cell : ColumnForm) → has_column_kind cell (kind_of cell) (never_null cell) ≡ true
 kept_itself Number = refl
@@ -140,7 +157,14 @@ column_is form c h =
     let kept = kept_is form.1 c.kind c.not_null b.0 in
     let default = null_is c.default e.0 in
     let collation = binary_is c.collation e.1 in
-    λ i. record { name = name i; kind = kept.0 i; is_strict = d.0 i; not_null = kept.1 i; default = default i; collation = collation i }
+    λ i. record {
+      name = name i;
+      kind = kept.0 i;
+      is_strict = d.0 i;
+      not_null = kept.1 i;
+      default = default i;
+      collation = collation i;
+    }
 
 column_itself : (form : List ℕ × ColumnForm) → is_column form (column_of form) ≡ true
 column_itself form = ap₂ (λ s t. s && (t && true)) (text_itself form.0) (kept_itself form.1)
@@ -173,7 +197,8 @@ no_action_is Cascade h = absurd (true≢false (sym h))
 no_action_is SetNull h = absurd (true≢false (sym h))
 no_action_is SetDefault h = absurd (true≢false (sym h))
 
-reference_is : (column : ℕ) (r : Reference) → is_reference column r ≡ true → r ≡ book_reference column
+reference_is : (column : ℕ) (r : Reference) → is_reference column r ≡ true
+    → r ≡ book_reference column
 reference_is column r h =
     let a = and_parts (are_places (column ∷ []) r.columns) _ h in
     let b = and_parts (bytes_eq r.parent (codes "book")) _ a.1 in
@@ -186,7 +211,14 @@ reference_is column r h =
     let on_delete = no_action_is r.on_delete e.0 in
     let on_update = no_action_is r.on_update f.0 in
     let deferred = false_from r.is_deferred f.1 in
-    λ i. record { columns = columns i; parent = parent i; parent_columns = names i; on_delete = on_delete i; on_update = on_update i; is_deferred = deferred i }
+    λ i. record {
+      columns = columns i;
+      parent = parent i;
+      parent_columns = names i;
+      on_delete = on_delete i;
+      on_update = on_update i;
+      is_deferred = deferred i;
+    }
 
 reference_itself : (column : ℕ) → is_reference column (book_reference column) ≡ true
 reference_itself column = ap (λ s. s && true) (places_itself (column ∷ []))
@@ -215,7 +247,8 @@ table_is form t h =
     let primary = places_is form.primary.now t.primary h.primary_is in
     let uniques = keys_is (keys_of form) t.uniques h.uniques_are in
     let orders = all_as is_plain_order plain_order order_is (keys_of form) t.orders h.orders_are in
-    let references = all_as is_reference book_reference reference_is form.to_books.now t.references h.references_are in
+    let references = all_as is_reference book_reference reference_is form.to_books.now t.references
+    h.references_are in
     let stamps = h.plain.stamps in
     λ i. record {
       name = name i;
@@ -228,7 +261,11 @@ table_is form t h =
       checks = h.plain.checks i;
       references = references i;
       computed = h.plain.computed i;
-      stamps = record { places = stamps.places i; terms = stamps.terms i; formats = stamps.formats i };
+      stamps = record {
+        places = stamps.places i;
+        terms = stamps.terms i;
+        formats = stamps.formats i;
+      };
       is_counted = h.plain.counted i;
     }
 
@@ -242,12 +279,26 @@ table_itself form = record {
   uniques_are = keys_itself (keys_of form);
   orders_are = all_itself is_plain_order plain_order (λ key. refl) (keys_of form);
   references_are = all_itself is_reference book_reference reference_itself form.to_books.now;
-  plain = record { checks = refl; computed = refl; stamps = record { places = refl; terms = refl; formats = refl }; counted = refl };
+  plain = record {
+    checks = refl;
+    computed = refl;
+    stamps = record {
+      places = refl;
+      terms = refl;
+      formats = refl;
+    };
+    counted = refl;
+  };
 }
 
 -- the test of a form accepts exactly its table
-pub table_is_decided : (form : TableForm) (t wanted : Table) (outcome : Bool) → table_as form ≡ wanted → ((outcome ≡ true) ↔ IsTable form t) → (outcome ≡ true) ↔ (t ≡ wanted)
-table_is_decided form t wanted outcome same h = (λ yes. table_is form t (h.0 yes) ∙ same, λ e. h.1 (subst (IsTable form) (same ∙ sym e) (table_itself form)))
+pub table_is_decided : (form : TableForm) (t wanted : Table) (outcome : Bool)
+    → table_as form ≡ wanted → ((outcome ≡ true) ↔ IsTable form t) → (outcome ≡ true) ↔ (t ≡ wanted)
+table_is_decided form t wanted outcome same h = (
+  λ yes. table_is form t (h.0 yes)
+      ∙ same,
+  λ e. h.1 (subst (IsTable form) (same ∙ sym e) (table_itself form)),
+)
 
 -- ---- indexes
 
@@ -266,15 +317,26 @@ index_is form x h =
     let table = same_number x.table form.table d.0 in
     let columns = places_is form.columns.now x.columns e.0 in
     let digits = same_number x.order.digits 0 f.0 in
-    λ i. record { name = name i; tree = tree i; table = table i; columns = columns i; order = record { digits = digits i }; is_unique = f.1 i }
+    λ i. record {
+      name = name i;
+      tree = tree i;
+      table = table i;
+      columns = columns i;
+      order = record { digits = digits i };
+      is_unique = f.1 i;
+    }
 
 index_itself : (form : IndexForm) → is_index form (index_as form) ≡ true
 index_itself form =
     ap₂ (λ s t. s && t) (text_itself form.name.now) (ap₂ (λ s t. s && t) (number_itself form.tree)
-    (ap₂ (λ s t. s && t) (number_itself form.table) (ap (λ s. s && true) (places_itself form.columns.now))))
+    (ap₂ (λ s t. s && t) (number_itself form.table)
+    (ap (λ s. s && true) (places_itself form.columns.now))))
 
-pub indexes_are_decided : (forms : List IndexForm) (xs wanted : List Index) (outcome : Bool) → map index_as forms ≡ wanted → outcome ≡ all_match is_index forms xs → (outcome ≡ true) ↔ (xs ≡ wanted)
+pub indexes_are_decided : (forms : List IndexForm) (xs wanted : List Index) (outcome : Bool)
+    → map index_as forms ≡ wanted → outcome ≡ all_match is_index forms xs
+    → (outcome ≡ true) ↔ (xs ≡ wanted)
 indexes_are_decided forms xs wanted outcome same h = (
   λ yes. all_as is_index index_as index_is forms xs (sym h ∙ yes) ∙ same,
-  λ e. h ∙ ap (all_match is_index forms) (e ∙ sym same) ∙ all_itself is_index index_as index_itself forms,
+  λ e. h ∙ ap (all_match is_index forms) (e ∙ sym same)
+      ∙ all_itself is_index index_as index_itself forms,
 )

@@ -8,6 +8,7 @@ ghost use Rattle.store_schema.specs.StoredSchema.{ClassifiesSchema};
 ghost use Rattle.store_schema.specs.internal.MetaCursor.{IsNextMeta, IsOnlyNumber, meta_cursor};
 ghost use Rattle.store_schema.specs.internal.StatedNumber.{IsNumberStated};
 ghost use Rattle.store_tables.specs.Meta.{meta_listed};
+ghost use Rattle.sqlite.specs.Files.{IsCleanLeft};
 ghost use Rattle.sqlite_exec.specs.Calls.{OnlyReads};
 ghost use Rattle.sqlite_trees.specs.View.{IsClean, IsQuiet};
 ghost use Rattle.std.specs.Prelude.{◌≡◌, IfErr, IfOk, IsSome, OnOk, map};
@@ -204,6 +205,9 @@ pub type FileRefusal<S> = (OpenFault, Option<Leftover<FileFrom<S>>>);
 pub fn fault_of_leftover<S: Start>(alloc: Global, left: &mut Leftover<FileFrom<S>>) -> OpenFault
     ensures fault { IsFaultOfLeftover ClassifiesSchema left.old left.new result }
     ensures keeps_store { HasNoStore left.new → HasNoStore left.old }
+
+    // No fault of the disk is forgotten.
+    ensures clean { IsCleanLeft left.new → IsCleanLeft left.old }
 {
     match left {
         Leftover::Files(_) | Leftover::Unopened(_) => OpenFault::NotOurs,
@@ -221,6 +225,9 @@ pub fn fault_of_first_leftover<S: Start>(
 ) -> OpenFault
     ensures fault { IsFaultOfLeftover ClassifiesFirstSchema left.old left.new result }
     ensures keeps_store { HasNoStore left.new → HasNoStore left.old }
+
+    // No fault of the disk is forgotten.
+    ensures clean { IsCleanLeft left.new → IsCleanLeft left.old }
 {
     match left {
         Leftover::Files(_) | Leftover::Unopened(_) => OpenFault::NotOurs,

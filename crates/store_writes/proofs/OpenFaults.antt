@@ -13,12 +13,15 @@ use Rattle.store_tables.specs.Tables.{book_schema}
 use Rattle.store_tables.proofs.FailureLemmas.{IsWhole, outside_of}
 use Rattle.store_tables.proofs.Texts.{formats_of}
 
-commit_is : (formats_of (understood book_schema (codes "COMMIT")) ≡ []) × IsWhole (codes "COMMIT") 0 (understood book_schema (codes "COMMIT"))
+commit_is : (formats_of (understood book_schema (codes "COMMIT")) ≡ [])
+    × IsWhole (codes "COMMIT") 0 (understood book_schema (codes "COMMIT"))
 unfolding understood everything
 commit_is = (refl, (refl, refl))
 
 -- the text is a statement
-states : (s : State) (sql : List ℕ) (params : Row) (e : Error) → formats_of (understood s.now.schema sql) ≡ [] → IsWhole sql (length params) (understood s.now.schema sql) → IsNoStatement s sql params e → ⊥
+states : (s : State) (sql : List ℕ) (params : Row) (e : Error)
+    → formats_of (understood s.now.schema sql) ≡ []
+    → IsWhole sql (length params) (understood s.now.schema sql) → IsNoStatement s sql params e → ⊥
 states s sql params e still whole (inl h) = subst (IsWhole sql (length params)) h.1 whole
 states s sql params e still whole (inr h) =
     let full = subst (IsWhole sql (length params)) h.1 whole in
@@ -29,9 +32,13 @@ states s sql params e still whole (inr h) =
       | inr (inr clock) ↦ absurd (clock.0 none)
     ]
 
-pub prepare_fails : (old new : State) (e : Error) → old.now.schema ≡ book_schema → IsNotRun old new (codes "COMMIT") [] e → e ≢ SqliteFailure OutOfMemory → HasOutsideCause old new
+pub prepare_fails : (old new : State) (e : Error) → old.now.schema ≡ book_schema
+    → IsNotRun old new (codes "COMMIT") [] e → e ≢ SqliteFailure OutOfMemory
+    → HasOutsideCause old new
 unfolding IsNotRun
 prepare_fails old new e has (inl h) room =
-    absurd (states old (codes "COMMIT") [] e (subst (λ s. formats_of (understood s (codes "COMMIT")) ≡ []) (sym has) commit_is.0)
-    (subst (λ s. IsWhole (codes "COMMIT") 0 (understood s (codes "COMMIT"))) (sym has) commit_is.1) h.0)
+    absurd (states old (codes "COMMIT") [] e (subst (λ s. formats_of (understood s (codes "COMMIT"))
+    ≡ []) (sym has) commit_is.0)
+    (subst (λ s. IsWhole (codes "COMMIT") 0 (understood s (codes "COMMIT"))) (sym has) commit_is.1)
+    h.0)
 prepare_fails old new e has (inr h) room = outside_of old new h.0 e h.1 h.2 room

@@ -18,23 +18,39 @@ use Rattle.store_writes.specs.TableChanges.{HasBookRow, HoldsChange}
 use Rattle.store_writes.proofs.ForgetLemmas.{writes_table}
 use Rattle.store_writes.proofs.HeldLemmas.{row_remains}
 
-module _ (old mid new : State) (rows : TableRows) (name : List ℕ) (header : HeaderRow) (uid : List ℕ) (text : Option (List ℕ)) (change : Change) where
-  pub row_put : HasBookRow old.now rows name header → IsRowOfChange uid text change → PutsRow mid.now.trees (pos header.id) uid (pos (header.number + 1)) text rows.members → WritesOnly 4 old mid
-      → HasBooks new (with_book_numbers (pos header.id) (numbers_row (header.number + 1) header.horizon (counts_after_change change header.counts)) rows.books) → WritesOnly 2 mid new
-      → HoldsInTx new (λ db. HoldsChange db rows (pos header.id) (finite.insert (books_of rows) name (book_with_row (row_book rows (line_row name header)) uid change)))
+module _ (old mid new : State) (rows : TableRows) (name : List ℕ) (header : HeaderRow) (uid :
+    List ℕ) (text : Option (List ℕ)) (change : Change) where
+  pub row_put : HasBookRow old.now rows name header → IsRowOfChange uid text change
+      → PutsRow mid.now.trees (pos header.id) uid (pos (header.number + 1)) text rows.members
+      → WritesOnly 4 old mid
+      → HasBooks new (with_book_numbers (pos header.id) (numbers_row (header.number + 1)
+      header.horizon (counts_after_change change header.counts)) rows.books)
+      → WritesOnly 2 mid new
+      → HoldsInTx new (λ db. HoldsChange db rows (pos header.id) (finite.insert (books_of rows) name
+      (book_with_row (row_book rows (line_row name header)) uid change)))
   row_put line is put first books second =
-      let one = put_held old.now mid.now rows (line_row name header) uid (pos (header.number + 1)) text line.holds line.sound line.there is.legal refl is.canonical put (writes_table 4 old mid first) in
+      let one = put_held old.now mid.now rows (line_row name header) uid (pos (header.number + 1))
+      text line.holds line.sound line.there is.legal refl is.canonical put
+      (writes_table 4 old mid first) in
       let with_it = put_rows one.id (pos header.id) uid (pos (header.number + 1)) text rows in
-      let numbers = numbers_row (header.number + 1) header.horizon (counts_after_change change header.counts) in
-      let two = renumbering_held mid.now new.now with_it (pos header.id) numbers one.holds one.within.sound (naturals_row (header.number + 1) header.horizon (counts_after_change change header.counts)) books (writes_table 2 mid new second) in
+      let numbers = numbers_row (header.number + 1) header.horizon
+      (counts_after_change change header.counts) in
+      let two = renumbering_held mid.now new.now with_it (pos header.id) numbers one.holds
+      one.within.sound (naturals_row (header.number + 1) header.horizon
+      (counts_after_change change header.counts)) books (writes_table 2 mid new second) in
       record {
         holds = record {
           rows_after = renumbered_rows (pos header.id) numbers with_it;
           holds = two.holds;
           sound = two.sound;
-          books_are = changes_one rows with_it (line_row name header) numbers line.sound line.there one.within
-              ∙ ap (finite.insert (books_of rows) name) (put_is_row rows name header one.id uid text change line.sound is.card);
-          others = λ b there apart. (row_remains (pos header.id) numbers rows.books b there apart, one.within.others b apart);
+          books_are = changes_one rows with_it (line_row name header) numbers line.sound line.there
+              one.within
+              ∙ ap (finite.insert (books_of rows) name) (put_is_row rows name header one.id uid text
+              change line.sound is.card);
+          others = λ b there apart. (
+            row_remains (pos header.id) numbers rows.books b there apart,
+            one.within.others b apart,
+          );
         };
         inside = second.inside;
       }

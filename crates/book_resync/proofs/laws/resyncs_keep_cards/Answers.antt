@@ -1,5 +1,6 @@
 use Rattle.book_resync.proofs.AllBooksLemmas.{resyncs_change_each_book}
-use Rattle.book_resync.proofs.ResyncedLemmas.{resynced_rows_are_live, resyncs_keep_cards, resyncs_keep_versions}
+use Rattle.book_resync.proofs.ResyncedLemmas.{resynced_rows_are_live, resyncs_keep_cards}
+use Rattle.book_resync.proofs.ResyncedLemmas.{resyncs_keep_versions}
 use Rattle.book_resync.proofs.laws.resyncs_keep_cards.Goals as goal
 
 pub returns-clause-each : goal.returns-clause-each

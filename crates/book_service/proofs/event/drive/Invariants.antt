@@ -11,8 +11,13 @@ invariant-loop-event g l = record {
   count : length l.devices.items ≡ length l.fn.devices.items;
   limits : g.S.BookStore.model.limits l.store ≡ g.S.BookStore.model.limits l.fn.store;
   premise : g.S.BookStore.model.premise l.store → g.S.BookStore.model.premise l.fn.store;
-  faults : AllowedFaults g.S.BookStore.model.may_fault (take l.event-index l.events) l.replies.items;
-  ran : g.S.BookStore.model.premise l.store → (now : SystemState) → MatchesRows now (g.S.BookStore.model.limits l.fn.store) (g.S.BookStore.model.books l.fn.store) → now.devices ≡ l.fn.devices.items →
-      RanTo now (take l.event-index l.events) l.replies.items (g.S.BookStore.model.books l.store) l.devices.items;
-  ends : LeavesRun g.S.BookStore.model l.fn.store l.store (take l.event-index l.events) l.replies.items l.fn.devices.items l.devices.items;
+  faults : AllowedFaults g.S.BookStore.model.may_fault (take l.event-index l.events)
+      l.replies.items;
+  ran : g.S.BookStore.model.premise l.store → (now : SystemState)
+      → MatchesRows now (g.S.BookStore.model.limits l.fn.store)
+      (g.S.BookStore.model.books l.fn.store) → now.devices ≡ l.fn.devices.items →
+      RanTo now (take l.event-index l.events) l.replies.items (g.S.BookStore.model.books l.store)
+      l.devices.items;
+  ends : LeavesRun g.S.BookStore.model l.fn.store l.store (take l.event-index l.events)
+      l.replies.items l.fn.devices.items l.devices.items;
 }

@@ -1,4 +1,5 @@
-use Rattle.book_service.specs.Promise.{NextStateIsSound, HistoriesExtend, MovesTransferOneCard, DevicesStayConsistent, LastPagesComplete}
+use Rattle.book_service.specs.Promise.{NextStateIsSound, HistoriesExtend, MovesTransferOneCard}
+use Rattle.book_service.specs.Promise.{DevicesStayConsistent, LastPagesComplete}
 use Rattle.book_service.proofs.LifeLemmas.{in_lives, lives_are_runs, parts_are_runs}
 use Rattle.book_service.proofs.lives.lives_keep_the_promise.Goals as goal
 

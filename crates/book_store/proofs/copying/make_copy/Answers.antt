@@ -6,4 +6,6 @@ pub returns-in-Ok-clause-crash : goal.returns-in-Ok-clause-crash
 returns-in-Ok-clause-crash g c =
     let e = c.open_copy.ensures in
     both c.open_copy.result _ _ _ (λ copy shows survives order.
-    copied_whole (state g.T.Store c.args.target) (state g.T.Store c.write_tables.new.conn) (state g.T.Store copy.conn) c.in-Ok.ensures.crash (survives order) (shows order)) e.shows e.survives
+    copied_whole (state g.T.Store c.args.target) (state g.T.Store c.write_tables.new.conn)
+    (state g.T.Store copy.conn) c.in-Ok.ensures.crash (survives order) (shows order)) e.shows
+    e.survives

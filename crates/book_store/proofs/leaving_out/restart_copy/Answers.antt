@@ -9,5 +9,7 @@ returns-in_ok-files-in-Ok-clause-restarted g c clean =
     let now = c.resync.new.self in record {
       after = stored_books (file_state now.conn);
       alone = c.in_ok-files-in-Ok.ensures.alone clean;
-      resynced = is_resync was.limits c.args.pairs c.in-Ok.books (stored_books (file_state was.conn)) (stored_books (file_state now.conn)) c.requires.some (c.in-Ok.ensures.changes.matches_step (c.in_ok-files-in-Ok.ensures.was_open clean));
+      resynced = is_resync was.limits c.args.pairs c.in-Ok.books
+          (stored_books (file_state was.conn)) (stored_books (file_state now.conn)) c.requires.some
+          (c.in-Ok.ensures.changes.matches_step (c.in_ok-files-in-Ok.ensures.was_open clean));
     }

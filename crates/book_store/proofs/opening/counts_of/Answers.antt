@@ -11,8 +11,12 @@ loop-count-init c books all = c.new-counts.ensures.right books
 pub loop-count-preserved : goal.loop-count-preserved
 loop-count-preserved c books all =
     let count = c.count-item.result in
-    let is = all_at (IsCountOf books) c.args.found.now c.loop-count.count-index count all c.loop-count-test.true c.count-item.is in
+    let is = all_at (IsCountOf books) c.args.found.now c.loop-count.count-index count all
+    c.loop-count-test.true c.count-item.is in
     let named : c.as_str.result.now ≡ string_bytes count.book = search rules in
-    right_counted c.loop-count.counts c.set.new.self books (string_bytes count.book) is.book (c.loop-count.invariant books all) is.listed
-    (subst (λ n. IsWritten c.loop-count.counts c.set.new.self (string_bytes count.book) n) (sym is.counted)
-    (subst (λ name. IsWritten c.loop-count.counts c.set.new.self name count.tombstones) named c.set.ensures))
+    right_counted c.loop-count.counts c.set.new.self books (string_bytes count.book) is.book
+    (c.loop-count.invariant books all) is.listed
+    (subst (λ n. IsWritten c.loop-count.counts c.set.new.self (string_bytes count.book) n)
+    (sym is.counted)
+    (subst (λ name. IsWritten c.loop-count.counts c.set.new.self name count.tombstones) named
+    c.set.ensures))

@@ -2,7 +2,9 @@ use Rattle.database_files.proofs.RestartLemmas.{clean_in_files, left_in_files}
 use Rattle.database_files.proofs.runs.into_files.Goals as goal
 
 pub returns-clause-leaves : goal.returns-clause-leaves
-returns-clause-leaves g c = left_in_files c.into_store.result _ c.close.result c.close.ensures c.into_store.ensures.numbered c.into_store.ensures.sound c.into_store.ensures.quiet.outcomes
+returns-clause-leaves g c = left_in_files c.into_store.result _ c.close.result c.close.ensures
+    c.into_store.ensures.numbered c.into_store.ensures.sound c.into_store.ensures.quiet.outcomes
 
 pub returns-clause-clean : goal.returns-clause-clean
-returns-clause-clean g c = clean_in_files c.args.connection c.into_store.result c.close.result c.close.ensures c.into_store.ensures.quiet
+returns-clause-clean g c = clean_in_files c.args.connection c.into_store.result c.close.result
+    c.close.ensures c.into_store.ensures.quiet

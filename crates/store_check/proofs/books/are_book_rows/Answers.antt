@@ -6,5 +6,6 @@ use Rattle.store_check.proofs.books.are_book_rows.Goals as goal
 pub returns : goal.returns
 returns c =
     let is : c.is_none.result ≡ is_none c.first_bad_book.result = search rules in
-    none_bad _ c.first_bad_book.result c.is_none.result is (c.first_bad_book.ensures.good) (c.first_bad_book.ensures.bad)
+    none_bad _ c.first_bad_book.result c.is_none.result is (c.first_bad_book.ensures.good)
+    (c.first_bad_book.ensures.bad)
     (λ found bad. not_every IsBookRow c.args.rows.now found.now bad.0 bad.1)

@@ -5,4 +5,5 @@ use Rattle.store_check.proofs.books.book_with_id.Given as goal
 
 -- the remaining rows decide
 abbrev pub invariant-loop-book : goal.invariant-loop-book
-invariant-loop-book l = find (has_id l.id) (map decode_book (drop l.book-index l.books)) ≡ find (has_id l.id) (map decode_book l.books)
+invariant-loop-book l = find (has_id l.id) (map decode_book (drop l.book-index l.books))
+    ≡ find (has_id l.id) (map decode_book l.books)

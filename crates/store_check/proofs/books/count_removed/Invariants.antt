@@ -6,6 +6,7 @@ use Rattle.store_check.proofs.books.count_removed.Given as goal
 -- the rows so far are counted
 abbrev pub invariant-loop-member : goal.invariant-loop-member
 invariant-loop-member l = record {
-  so_far : l.count ≡ length (filter (is_removed_above l.id l.horizon) (map load_member (take l.member-index l.members)));
+  so_far : l.count ≡ length (filter (is_removed_above l.id l.horizon)
+      (map load_member (take l.member-index l.members)));
   fits : l.count ≤ l.member-index;
 }

@@ -5,4 +5,5 @@ use Rattle.store_check.proofs.books.keep_of.Given as goal
 
 -- the remaining rows decide
 abbrev pub invariant-loop-keep : goal.invariant-loop-keep
-invariant-loop-keep l = keep_of_book l.id (map decode_keep (drop l.keep-index l.keeps)) ≡ keep_of_book l.id (map decode_keep l.keeps)
+invariant-loop-keep l = keep_of_book l.id (map decode_keep (drop l.keep-index l.keeps))
+    ≡ keep_of_book l.id (map decode_keep l.keeps)

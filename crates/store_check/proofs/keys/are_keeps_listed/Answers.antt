@@ -8,5 +8,7 @@ use Rattle.store_check.proofs.keys.are_keeps_listed.Goals as goal
 pub returns : goal.returns
 returns c =
     let is : c.is_none.result ≡ is_none c.first_unlisted_keep.result = search rules in
-    none_bad _ c.first_unlisted_keep.result c.is_none.result is (c.first_unlisted_keep.ensures.good) (c.first_unlisted_keep.ensures.bad)
-    (λ found bad. not_all (λ (k : KeepRow). HasBookId (map decode_book c.args.books.now) k.book) decode_keep c.args.keeps.now found.now bad.0 bad.1)
+    none_bad _ c.first_unlisted_keep.result c.is_none.result is (c.first_unlisted_keep.ensures.good)
+    (c.first_unlisted_keep.ensures.bad)
+    (λ found bad. not_all (λ (k : KeepRow). HasBookId (map decode_book c.args.books.now) k.book)
+    decode_keep c.args.keeps.now found.now bad.0 bad.1)

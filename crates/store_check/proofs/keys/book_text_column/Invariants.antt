@@ -4,4 +4,5 @@ use Rattle.store_check.proofs.keys.book_text_column.Given as goal
 
 -- the keys of the rows so far
 abbrev pub invariant-loop-row : goal.invariant-loop-row
-invariant-loop-row l = map (λ (key : ℤ × Bor (List ℕ)). (key.0, key.1.now)) l.keys.items ≡ map (book_and_text l.at) (take l.row-index l.rows)
+invariant-loop-row l = map (λ (key : ℤ × Bor (List ℕ)). (key.0, key.1.now)) l.keys.items
+    ≡ map (book_and_text l.at) (take l.row-index l.rows)

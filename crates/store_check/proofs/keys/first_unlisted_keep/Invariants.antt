@@ -10,5 +10,8 @@ use Rattle.store_check.proofs.keys.first_unlisted_keep.Given as goal
 -- the remaining rows decide, and are rows of the list
 abbrev pub invariant-loop-keep : goal.invariant-loop-keep
 invariant-loop-keep l =
-    (AllByRecursion (λ (k : KeepRow). HasBookId (map decode_book l.books) k.book) (map decode_keep (drop l.keep-index l.keeps)) → AllByRecursion (λ (k : KeepRow). HasBookId (map decode_book l.books) k.book) (map decode_keep l.keeps))
+    (AllByRecursion (λ (k : KeepRow). HasBookId (map decode_book l.books) k.book)
+    (map decode_keep (drop l.keep-index l.keeps))
+    → AllByRecursion (λ (k : KeepRow). HasBookId (map decode_book l.books) k.book)
+    (map decode_keep l.keeps))
     × ((r : Row) → Has (drop l.keep-index l.keeps) r → Has l.keeps r)

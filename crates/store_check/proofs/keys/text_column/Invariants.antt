@@ -4,4 +4,5 @@ use Rattle.store_check.proofs.keys.text_column.Given as goal
 
 -- the keys of the rows so far
 abbrev pub invariant-loop-row : goal.invariant-loop-row
-invariant-loop-row l = map (λ (key : Bor (List ℕ)). key.now) l.keys.items ≡ map (text_cell l.at) (take l.row-index l.rows)
+invariant-loop-row l = map (λ (key : Bor (List ℕ)). key.now) l.keys.items ≡ map (text_cell l.at)
+    (take l.row-index l.rows)

@@ -4,7 +4,8 @@ use Rattle.store_check.proofs.names.is_uid_text.Goals as goal
 
 pub returns-in-Ok : goal.returns-in-Ok
 returns-in-Ok c =
-    let legal : c.is_uid.result ≡ is_uid c.args.octets.now = c.is_uid.ensures ∙ ap is_uid c.in-Ok.ensures.cases.0 in
+    let legal : c.is_uid.result ≡ is_uid c.args.octets.now = c.is_uid.ensures
+    ∙ ap is_uid c.in-Ok.ensures.cases.0 in
     (λ t. record { utf8 = c.in-Ok.ensures.cases.1; legal = sym legal ∙ t }, λ h. legal ∙ h.legal)
 
 pub returns-in-Err : goal.returns-in-Err

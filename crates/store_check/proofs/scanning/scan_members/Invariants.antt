@@ -15,4 +15,6 @@ invariant-rows g l =
     let old = state g.S.Store l.fn.conn in
     let now = state g.S.Store l.rows.conn.now in
     (l.rows.conn.ghost_name ≡ l.initial.rows.conn.ghost_name) × OnlyReads old now
-    × (HasCleanDisk now → old.now.schema ≡ book_schema → (given : List Row) × HasGiven g.S.Store scan_text [] l.rows.conn.now given × IsUnchanged old now × HasTaken l.fn.tallies l.tallies l.last given)
+    × (HasCleanDisk now → old.now.schema ≡ book_schema → (given : List Row)
+    × HasGiven g.S.Store scan_text [] l.rows.conn.now given × IsUnchanged old now
+    × HasTaken l.fn.tallies l.tallies l.last given)

@@ -4,4 +4,5 @@ use Rattle.store_check.proofs.tallies.search_tally.Given as goal
 
 -- the remaining books decide
 abbrev pub invariant-loop-place : goal.invariant-loop-place
-invariant-loop-place l = find (has_book l.id) (drop l.place l.tallies) ≡ find (has_book l.id) l.tallies
+invariant-loop-place l = find (has_book l.id) (drop l.place l.tallies) ≡ find (has_book l.id)
+    l.tallies

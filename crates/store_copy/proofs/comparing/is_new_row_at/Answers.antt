@@ -10,5 +10,8 @@ returns-clause-next c = λ yes so_far h.
     let place = c.args.place in
     let low : place < length rows = search rules in
     let same = c.index-rows-place.is ∙ get_or_default rows place _ [] low in
-    subst (HaveNewIds c.args.at c.args.columns c.args.left.now (so_far ++ c.args.found.now ∷ [])) (sym (take_more rows place [] low))
-    (one_more c.args.at c.args.columns c.args.left.now so_far (take place rows) c.args.found.now (get_or rows place []) h (subst (HasNewId c.args.at c.args.columns c.args.left.now c.args.found.now) same (c.has_new_id.ensures yes)))
+    subst (HaveNewIds c.args.at c.args.columns c.args.left.now (so_far ++ c.args.found.now ∷ []))
+    (sym (take_more rows place [] low))
+    (one_more c.args.at c.args.columns c.args.left.now so_far (take place rows) c.args.found.now
+    (get_or rows place []) h (subst (HasNewId c.args.at c.args.columns c.args.left.now
+    c.args.found.now) same (c.has_new_id.ensures yes)))

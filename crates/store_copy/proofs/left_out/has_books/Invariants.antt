@@ -6,4 +6,5 @@ use Rattle.store_copy.proofs.left_out.has_books.Given as goal
 
 -- each name so far is that of a book
 abbrev pub invariant-loop-i : goal.invariant-loop-i
-invariant-loop-i l = AllByRecursion (λ name. list_any (has_name name) (map decode_book l.rows.others.books.items) ≡ true) (take l.i l.names)
+invariant-loop-i l = AllByRecursion (λ name. list_any (has_name name)
+    (map decode_book l.rows.others.books.items) ≡ true) (take l.i l.names)

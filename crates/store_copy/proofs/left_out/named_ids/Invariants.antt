@@ -5,4 +5,5 @@ use Rattle.store_copy.proofs.left_out.named_ids.Given as goal
 
 -- the ids so far
 abbrev pub invariant-loop-book : goal.invariant-loop-book
-invariant-loop-book l = l.ids.items ≡ named_ids l.names (map decode_book (take l.book-index l.books))
+invariant-loop-book l = l.ids.items ≡ named_ids l.names
+    (map decode_book (take l.book-index l.books))

@@ -10,5 +10,6 @@ loop-i-preserved c =
     let made = c.greater_number-greatest in
     let books = c.args.books.now in
     let same = c.index-books-i.is ∙ get_or_default books c.loop-i.i _ [] c.loop-i-test.true in
-    bound_more books c.loop-i.i [] _ made.result c.loop-i-test.true c.loop-i.invariant made.ensures.other
+    bound_more books c.loop-i.i [] _ made.result c.loop-i-test.true c.loop-i.invariant
+    made.ensures.other
     (subst (λ row. natural (int_cell 2 row) ≤ made.result) same made.ensures.own)

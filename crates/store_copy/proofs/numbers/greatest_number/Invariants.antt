@@ -6,4 +6,5 @@ use Rattle.store_copy.proofs.numbers.greatest_number.Given as goal
 
 -- the greatest number so far
 abbrev pub invariant-loop-i : goal.invariant-loop-i
-invariant-loop-i l = AllByRecursion (λ book. natural book.numbers.number ≤ l.greatest) (map decode_book (take l.i l.books))
+invariant-loop-i l = AllByRecursion (λ book. natural book.numbers.number ≤ l.greatest)
+    (map decode_book (take l.i l.books))

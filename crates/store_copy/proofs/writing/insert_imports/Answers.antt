@@ -11,5 +11,6 @@ loop-row-preserved g c =
     let first = c.loop-row.invariant in
     record {
       same_reference = c.insert_import_row.ensures.same_reference ∙ first.same_reference;
-      survives = survives_then old mid new _ _ (λ _. ⊥) (λ _ db none. none) (λ _ db none. none) first.survives c.insert_import_row.ensures.survives;
+      survives = survives_then old mid new _ _ (λ _. ⊥) (λ _ db none. none) (λ _ db none. none)
+          first.survives c.insert_import_row.ensures.survives;
     }

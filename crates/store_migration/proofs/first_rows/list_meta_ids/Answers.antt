@@ -1,13 +1,22 @@
 use Rattle.std.proofs.Common.{refl}
 use Rattle.sqlite.specs.Held.{state}
-use Rattle.store_migration.proofs.FirstLemmas.{ids_text, ids_terms, ids_is, first_unchanged, lists_first, reads_first}
+use Rattle.store_migration.proofs.FirstLemmas.{ids_text, ids_terms, ids_is, first_unchanged}
+use Rattle.store_migration.proofs.FirstLemmas.{lists_first, reads_first}
 use Rattle.store_migration.proofs.first_rows.list_meta_ids.Goals as goal
 
 pub returns-clause-lists : goal.returns-clause-lists
-returns-clause-lists g c clean has = lists_first ids_text 0 ids_terms _ ids_is (state g.S.Store c.args.conn.now) (state g.S.Store c.query_all.new.self) (λ _. refl) c.query_all.result has (c.query_all.ensures.ok clean)
+returns-clause-lists g c clean has =
+    lists_first ids_text 0 ids_terms _ ids_is (state g.S.Store c.args.conn.now)
+    (state g.S.Store c.query_all.new.self) (λ _. refl) c.query_all.result has
+    (c.query_all.ensures.ok clean)
 
 pub returns-clause-unchanged : goal.returns-clause-unchanged
-returns-clause-unchanged g c clean has = first_unchanged ids_text 0 ids_terms _ ids_is (state g.S.Store c.args.conn.now) (state g.S.Store c.query_all.new.self) c.query_all.result has (c.query_all.ensures.ok clean)
+returns-clause-unchanged g c clean has =
+    first_unchanged ids_text 0 ids_terms _ ids_is (state g.S.Store c.args.conn.now)
+    (state g.S.Store c.query_all.new.self) c.query_all.result has (c.query_all.ensures.ok clean)
 
 pub returns-clause-reads_only : goal.returns-clause-reads_only
-returns-clause-reads_only g c = reads_first ids_text 0 ids_terms _ ids_is (state g.S.Store c.args.conn.now) (state g.S.Store c.query_all.new.self) c.query_all.result c.query_all.ensures.ok c.query_all.ensures.err c.query_all.ensures.mode c.query_all.ensures.survives
+returns-clause-reads_only g c = reads_first ids_text 0 ids_terms _ ids_is
+    (state g.S.Store c.args.conn.now) (state g.S.Store c.query_all.new.self) c.query_all.result
+    c.query_all.ensures.ok c.query_all.ensures.err c.query_all.ensures.mode
+    c.query_all.ensures.survives

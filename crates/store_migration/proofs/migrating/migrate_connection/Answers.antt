@@ -19,11 +19,17 @@ returns-in-Ok-clause-migrated g c clean =
     let new = state g.S.Store c.commit_keeps.new.conn in
     let keeps = c.in_ok-keeps.keeps.items in
     let limits = c.standard.ensures in
-    let plan_migration = λ (clean : HasCleanDisk mid). subst (λ l. IsMigrationPlan l old.now keeps) limits (c.in_ok-keeps.ensures.planned clean) in
-    let early : HasCleanDisk new → HasCleanDisk mid = clean_before _ mid new c.commit_keeps.ensures.survives in
-    let first = first_with max_limits old mid new keeps c.in_ok-keeps.ensures.unchanged plan_migration (early clean) in
-    let done = c.in-Ok.ensures.atomic (plan_migration (early clean)).numbered.id (plan_migration (early clean)).keep_rows clean first (c.as_slice.ensures.value ∙ (plan_migration (early clean)).returned) in
-    is_migrated max_limits old mid new keeps c.in_ok-keeps.ensures.unchanged plan_migration (early clean) new.now done.0
+    let plan_migration = λ (clean : HasCleanDisk mid). subst (λ l. IsMigrationPlan l old.now keeps)
+    limits (c.in_ok-keeps.ensures.planned clean) in
+    let early : HasCleanDisk new → HasCleanDisk mid =
+    clean_before _ mid new c.commit_keeps.ensures.survives in
+    let first = first_with max_limits old mid new keeps c.in_ok-keeps.ensures.unchanged
+    plan_migration (early clean) in
+    let done = c.in-Ok.ensures.atomic (plan_migration (early clean)).numbered.id
+    (plan_migration (early clean)).keep_rows clean first (c.as_slice.ensures.value
+    ∙ (plan_migration (early clean)).returned) in
+    is_migrated max_limits old mid new keeps c.in_ok-keeps.ensures.unchanged plan_migration
+    (early clean) new.now done.0
 
 pub returns-in-Ok-clause-well_formed : goal.returns-in-Ok-clause-well_formed
 returns-in-Ok-clause-well_formed g c clean =
@@ -32,11 +38,17 @@ returns-in-Ok-clause-well_formed g c clean =
     let new = state g.S.Store c.commit_keeps.new.conn in
     let keeps = c.in_ok-keeps.keeps.items in
     let limits = c.standard.ensures in
-    let plan_migration = λ (clean : HasCleanDisk mid). subst (λ l. IsMigrationPlan l old.now keeps) limits (c.in_ok-keeps.ensures.planned clean) in
-    let early : HasCleanDisk new → HasCleanDisk mid = clean_before _ mid new c.commit_keeps.ensures.survives in
-    let first = first_with max_limits old mid new keeps c.in_ok-keeps.ensures.unchanged plan_migration (early clean) in
-    let done = c.in-Ok.ensures.atomic (plan_migration (early clean)).numbered.id (plan_migration (early clean)).keep_rows clean first (c.as_slice.ensures.value ∙ (plan_migration (early clean)).returned) in
-    (plan_migration (early clean)).makes_well_formed new.now (is_migrated max_limits old mid new keeps c.in_ok-keeps.ensures.unchanged plan_migration (early clean) new.now done.0)
+    let plan_migration = λ (clean : HasCleanDisk mid). subst (λ l. IsMigrationPlan l old.now keeps)
+    limits (c.in_ok-keeps.ensures.planned clean) in
+    let early : HasCleanDisk new → HasCleanDisk mid =
+    clean_before _ mid new c.commit_keeps.ensures.survives in
+    let first = first_with max_limits old mid new keeps c.in_ok-keeps.ensures.unchanged
+    plan_migration (early clean) in
+    let done = c.in-Ok.ensures.atomic (plan_migration (early clean)).numbered.id
+    (plan_migration (early clean)).keep_rows clean first (c.as_slice.ensures.value
+    ∙ (plan_migration (early clean)).returned) in
+    (plan_migration (early clean)).makes_well_formed new.now (is_migrated max_limits old mid new
+    keeps c.in_ok-keeps.ensures.unchanged plan_migration (early clean) new.now done.0)
 
 pub returns-in-Ok-clause-committed : goal.returns-in-Ok-clause-committed
 returns-in-Ok-clause-committed g c clean =
@@ -45,10 +57,15 @@ returns-in-Ok-clause-committed g c clean =
     let new = state g.S.Store c.commit_keeps.new.conn in
     let keeps = c.in_ok-keeps.keeps.items in
     let limits = c.standard.ensures in
-    let plan_migration = λ (clean : HasCleanDisk mid). subst (λ l. IsMigrationPlan l old.now keeps) limits (c.in_ok-keeps.ensures.planned clean) in
-    let early : HasCleanDisk new → HasCleanDisk mid = clean_before _ mid new c.commit_keeps.ensures.survives in
-    let first = first_with max_limits old mid new keeps c.in_ok-keeps.ensures.unchanged plan_migration (early clean) in
-    let done = c.in-Ok.ensures.atomic (plan_migration (early clean)).numbered.id (plan_migration (early clean)).keep_rows clean first (c.as_slice.ensures.value ∙ (plan_migration (early clean)).returned) in
+    let plan_migration = λ (clean : HasCleanDisk mid). subst (λ l. IsMigrationPlan l old.now keeps)
+    limits (c.in_ok-keeps.ensures.planned clean) in
+    let early : HasCleanDisk new → HasCleanDisk mid =
+    clean_before _ mid new c.commit_keeps.ensures.survives in
+    let first = first_with max_limits old mid new keeps c.in_ok-keeps.ensures.unchanged
+    plan_migration (early clean) in
+    let done = c.in-Ok.ensures.atomic (plan_migration (early clean)).numbered.id
+    (plan_migration (early clean)).keep_rows clean first (c.as_slice.ensures.value
+    ∙ (plan_migration (early clean)).returned) in
     done.1
 
 pub returns-in-Ok-clause-crash : goal.returns-in-Ok-clause-crash
@@ -58,10 +75,16 @@ returns-in-Ok-clause-crash g c =
     let new = state g.S.Store c.commit_keeps.new.conn in
     let keeps = c.in_ok-keeps.keeps.items in
     let limits = c.standard.ensures in
-    let plan_migration = λ (clean : HasCleanDisk mid). subst (λ l. IsMigrationPlan l old.now keeps) limits (c.in_ok-keeps.ensures.planned clean) in
-    let early : HasCleanDisk new → HasCleanDisk mid = clean_before _ mid new c.commit_keeps.ensures.survives in
-    survives_migration max_limits old mid new keeps c.in_ok-keeps.ensures.unchanged plan_migration early c.plan_migration.ensures.changes_nothing.survives c.commit_keeps.ensures.survives
-    (λ clean. c.commit_keeps.ensures.crash (plan_migration clean).numbered.id (plan_migration clean).keep_rows (first_with max_limits old mid new keeps c.in_ok-keeps.ensures.unchanged plan_migration clean) (c.as_slice.ensures.value ∙ (plan_migration clean).returned))
+    let plan_migration = λ (clean : HasCleanDisk mid). subst (λ l. IsMigrationPlan l old.now keeps)
+    limits (c.in_ok-keeps.ensures.planned clean) in
+    let early : HasCleanDisk new → HasCleanDisk mid =
+    clean_before _ mid new c.commit_keeps.ensures.survives in
+    survives_migration max_limits old mid new keeps c.in_ok-keeps.ensures.unchanged plan_migration
+    early c.plan_migration.ensures.changes_nothing.survives c.commit_keeps.ensures.survives
+    (λ clean. c.commit_keeps.ensures.crash (plan_migration clean).numbered.id
+    (plan_migration clean).keep_rows (first_with max_limits old mid new keeps
+    c.in_ok-keeps.ensures.unchanged plan_migration clean) (c.as_slice.ensures.value
+    ∙ (plan_migration clean).returned))
 
 pub returns-clause-crash : goal.returns-clause-crash
 returns-clause-crash g c =
@@ -70,7 +93,13 @@ returns-clause-crash g c =
     let new = state g.S.Store c.commit_keeps.new.conn in
     let keeps = c.in_ok-keeps.keeps.items in
     let limits = c.standard.ensures in
-    let plan_migration = λ (clean : HasCleanDisk mid). subst (λ l. IsMigrationPlan l old.now keeps) limits (c.in_ok-keeps.ensures.planned clean) in
-    let early : HasCleanDisk new → HasCleanDisk mid = clean_before _ mid new c.commit_keeps.ensures.survives in
-    survives_migration max_limits old mid new keeps c.in_ok-keeps.ensures.unchanged plan_migration early c.plan_migration.ensures.changes_nothing.survives c.commit_keeps.ensures.survives
-    (λ clean. c.commit_keeps.ensures.crash (plan_migration clean).numbered.id (plan_migration clean).keep_rows (first_with max_limits old mid new keeps c.in_ok-keeps.ensures.unchanged plan_migration clean) (c.as_slice.ensures.value ∙ (plan_migration clean).returned))
+    let plan_migration = λ (clean : HasCleanDisk mid). subst (λ l. IsMigrationPlan l old.now keeps)
+    limits (c.in_ok-keeps.ensures.planned clean) in
+    let early : HasCleanDisk new → HasCleanDisk mid =
+    clean_before _ mid new c.commit_keeps.ensures.survives in
+    survives_migration max_limits old mid new keeps c.in_ok-keeps.ensures.unchanged plan_migration
+    early c.plan_migration.ensures.changes_nothing.survives c.commit_keeps.ensures.survives
+    (λ clean. c.commit_keeps.ensures.crash (plan_migration clean).numbered.id
+    (plan_migration clean).keep_rows (first_with max_limits old mid new keeps
+    c.in_ok-keeps.ensures.unchanged plan_migration clean) (c.as_slice.ensures.value
+    ∙ (plan_migration clean).returned))

@@ -14,8 +14,12 @@ returns-in-Ok-clause-planned g c clean first =
     let new = state g.S.Store c.list_first_rows.new.conn in
     let rows = c.in-Ok.rows in
     let early = clean_before _ mid new c.list_first_rows.ensures.reads_only.survives clean in
-    let listed = over_then old mid new (λ (db : Database). AreListedFirstRows db rows.books.items rows.members.items rows.imports.items) c.in_ok-check_meta_id.ensures.unchanged c.list_first_rows.ensures.reads_only c.in-Ok.ensures.lists clean first.schema in
-    keeps_planned old.now rows.books.items rows.members.items rows.imports.items listed c.args.limits well_stored_held first (c.in_ok-check_meta_id.ensures.has_id early first.schema first) c.compute_keeps.result c.compute_keeps.ensures
+    let listed = over_then old mid new (λ (db : Database). AreListedFirstRows db rows.books.items
+    rows.members.items rows.imports.items) c.in_ok-check_meta_id.ensures.unchanged
+    c.list_first_rows.ensures.reads_only c.in-Ok.ensures.lists clean first.schema in
+    keeps_planned old.now rows.books.items rows.members.items rows.imports.items listed
+    c.args.limits well_stored_held first (c.in_ok-check_meta_id.ensures.has_id early
+    first.schema first) c.compute_keeps.result c.compute_keeps.ensures
 
 pub returns-in-Ok-clause-refusal : goal.returns-in-Ok-clause-refusal
 returns-in-Ok-clause-refusal g c clean first =
@@ -23,13 +27,20 @@ returns-in-Ok-clause-refusal g c clean first =
     let mid = state g.S.Store c.check_meta_id.new.conn in
     let new = state g.S.Store c.list_first_rows.new.conn in
     let rows = c.in-Ok.rows in
-    let listed = over_then old mid new (λ (db : Database). AreListedFirstRows db rows.books.items rows.members.items rows.imports.items) c.in_ok-check_meta_id.ensures.unchanged c.list_first_rows.ensures.reads_only c.in-Ok.ensures.lists clean first.schema in
-    keeps_refused old.now rows.books.items rows.members.items rows.imports.items listed c.args.limits well_stored_held first c.compute_keeps.result c.compute_keeps.ensures
+    let listed = over_then old mid new (λ (db : Database). AreListedFirstRows db rows.books.items
+    rows.members.items rows.imports.items) c.in_ok-check_meta_id.ensures.unchanged
+    c.list_first_rows.ensures.reads_only c.in-Ok.ensures.lists clean first.schema in
+    keeps_refused old.now rows.books.items rows.members.items rows.imports.items listed
+    c.args.limits well_stored_held first c.compute_keeps.result c.compute_keeps.ensures
 
 pub returns-in-Ok-clause-reads_only : goal.returns-in-Ok-clause-reads_only
 returns-in-Ok-clause-reads_only g c =
-    reads_then (state g.S.Store c.args.conn.now) (state g.S.Store c.check_meta_id.new.conn) (state g.S.Store c.list_first_rows.new.conn) c.in_ok-check_meta_id.ensures.unchanged c.check_meta_id.ensures.reads_only c.list_first_rows.ensures.reads_only
+    reads_then (state g.S.Store c.args.conn.now) (state g.S.Store c.check_meta_id.new.conn)
+    (state g.S.Store c.list_first_rows.new.conn) c.in_ok-check_meta_id.ensures.unchanged
+    c.check_meta_id.ensures.reads_only c.list_first_rows.ensures.reads_only
 
 pub returns-in-Err-clause-reads_only : goal.returns-in-Err-clause-reads_only
 returns-in-Err-clause-reads_only g c =
-    reads_then (state g.S.Store c.args.conn.now) (state g.S.Store c.check_meta_id.new.conn) (state g.S.Store c.list_first_rows.new.conn) c.in_ok-check_meta_id.ensures.unchanged c.check_meta_id.ensures.reads_only c.list_first_rows.ensures.reads_only
+    reads_then (state g.S.Store c.args.conn.now) (state g.S.Store c.check_meta_id.new.conn)
+    (state g.S.Store c.list_first_rows.new.conn) c.in_ok-check_meta_id.ensures.unchanged
+    c.check_meta_id.ensures.reads_only c.list_first_rows.ensures.reads_only

@@ -6,10 +6,14 @@ use Rattle.store_schema.proofs.leftover.check_found_first_schema.Goals as goal
 
 pub returns-in-Ok-clause-answers : goal.returns-in-Ok-clause-answers
 returns-in-Ok-clause-answers g c clean =
-    let loaded : IsClean (g.S.Store.view c.load_schema.new.store) = omega (arith, clean, c.check_listed_first_schema.ensures.quiet.clean) in
-    schema_found ClassifiesFirstSchema (g.S.Store.recovers c.args.store.now) (g.S.Store.view c.load_schema.new.store).trees c.in-Ok.schema c.check_listed_first_schema.result (λ db h. h) (λ db h. h) (c.in-Ok.ensures.loads loaded)
+    let loaded : IsClean (g.S.Store.view c.load_schema.new.store) =
+    omega (arith, clean, c.check_listed_first_schema.ensures.quiet.clean) in
+    schema_found ClassifiesFirstSchema (g.S.Store.recovers c.args.store.now)
+    (g.S.Store.view c.load_schema.new.store).trees c.in-Ok.schema
+    c.check_listed_first_schema.result (λ db h. h) (λ db h. h) (c.in-Ok.ensures.loads loaded)
     (c.check_listed_first_schema.ensures.answers clean)
 
 pub returns-in-Err-clause-answers : goal.returns-in-Err-clause-answers
 returns-in-Err-clause-answers g c clean =
-    no_schema_found ClassifiesFirstSchema (g.S.Store.recovers c.args.store.now) (g.S.Store.view c.load_schema.new.store).trees c.in-Err.fault (c.in-Err.ensures.loads clean)
+    no_schema_found ClassifiesFirstSchema (g.S.Store.recovers c.args.store.now)
+    (g.S.Store.view c.load_schema.new.store).trees c.in-Err.fault (c.in-Err.ensures.loads clean)

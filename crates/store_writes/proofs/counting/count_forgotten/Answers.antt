@@ -8,10 +8,12 @@ use Rattle.store_writes.proofs.counting.count_forgotten.Goals as goal
 
 pub returns-then-dropped-gt0 : goal.returns-then-dropped-gt0
 returns-then-dropped-gt0 c books before upto right at rises dropped =
-    subst (λ counts. AreCountsOf counts (finite.insert books c.args.name.now (book_after_forget before upto))) (sym c.clear.ensures)
+    subst (λ counts. AreCountsOf counts (finite.insert books c.args.name.now
+    (book_after_forget before upto))) (sym c.clear.ensures)
     (right_cleared c.args.counts.now books c.args.name.now (book_after_forget before upto) right)
 
 pub returns-else-dropped-gt0 : goal.returns-else-dropped-gt0
 returns-else-dropped-gt0 c books before upto right at rises dropped =
     let none : c.args.dropped ≡ 0 = search rules in
-    right_same c.args.counts.now books c.args.name.now before (book_after_forget before upto) right at (none_forgotten before upto rises (sym dropped ∙ none))
+    right_same c.args.counts.now books c.args.name.now before (book_after_forget before upto) right
+    at (none_forgotten before upto rises (sym dropped ∙ none))

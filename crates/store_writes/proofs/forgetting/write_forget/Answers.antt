@@ -18,13 +18,19 @@ module _ (g : given.Over) (c : After-commit_forget g) where
   last_is : to_z w64 (of_z w64 c.in_ok-last.last) ≡ pos c.args.upto
   last_is = back c.in_ok-last.last c.args.upto c.in_ok-last.ensures.ok c.in_ok-last.ensures.fits
 
-  columns : AreHeaderColumns (record c.args.header { horizon = c.args.upto }) (to_z w64 (of_z w64 c.in_ok-id.id)) c.in_ok-numbers.numbers
-  columns = record { id_is = back_of c.in_ok-id.id c.id.result c.args.header.id c.in_ok-id.ensures.ok c.in_ok-id.ensures.fits c.id.ensures; numbers = search rules }
+  columns : AreHeaderColumns (record c.args.header { horizon = c.args.upto })
+      (to_z w64 (of_z w64 c.in_ok-id.id)) c.in_ok-numbers.numbers
+  columns = record {
+    id_is = back_of c.in_ok-id.id c.id.result c.args.header.id
+        c.in_ok-id.ensures.ok c.in_ok-id.ensures.fits c.id.ensures;
+    numbers = search rules;
+  }
 
 pub returns-in-Ok-clause-atomic : goal.returns-in-Ok-clause-atomic
 returns-in-Ok-clause-atomic g c rows name clean line =
     let p = (goal.at.returns-in-Ok-clause-atomic g c).After-commit_forget in
-    c.in-Ok.ensures.atomic c.args.header c.args.upto (last_is g p) (columns g p) rows name clean line
+    c.in-Ok.ensures.atomic c.args.header c.args.upto (last_is g p) (columns g p) rows name clean
+    line
 
 pub returns-in-Ok-clause-crash : goal.returns-in-Ok-clause-crash
 returns-in-Ok-clause-crash g c rows name line =
@@ -34,7 +40,8 @@ returns-in-Ok-clause-crash g c rows name line =
 pub returns-in-Err-clause-atomic : goal.returns-in-Err-clause-atomic
 returns-in-Err-clause-atomic g c rows name clean line =
     let p = (goal.at.returns-in-Err-clause-atomic g c).After-commit_forget in
-    c.in-Err.ensures.atomic c.args.header c.args.upto (last_is g p) (columns g p) rows name clean line
+    c.in-Err.ensures.atomic c.args.header c.args.upto (last_is g p) (columns g p) rows name clean
+    line
 
 pub returns-in-Err-clause-crash : goal.returns-in-Err-clause-crash
 returns-in-Err-clause-crash g c rows name line =
@@ -61,12 +68,15 @@ returns-in_err-numbers-clause-store_fault g c low rows name clean holds accept f
     let fits = (header_fits rows name c.args.header accept there).number in
     let number = c.number.ensures in
     let sum = c.counts.ensures.sum in
-    memory_cause c.from_residual-in_err-numbers.result c.in_err-numbers.field-0.0 _ c.from_residual-in_err-numbers.ensures.1
-    (c.in_err-numbers.ensures.memory (omega (arith, fits, number)) (omega (arith, fits, low)) (omega (arith, fits, sum)))
+    memory_cause c.from_residual-in_err-numbers.result c.in_err-numbers.field-0.0 _
+    c.from_residual-in_err-numbers.ensures.1
+    (c.in_err-numbers.ensures.memory (omega (arith, fits, number)) (omega (arith, fits, low))
+    (omega (arith, fits, sum)))
 
 pub returns-in-Err-clause-store_fault : goal.returns-in-Err-clause-store_fault
 returns-in-Err-clause-store_fault g c low rows name clean holds accept free there =
     let p = (goal.at.returns-in-Err-clause-store_fault g c).After-commit_forget in
     let db = (state g.S.Store c.args.conn.now).now in
     error_faults c.in-Err.error c.fault_of.result _ c.fault_of.ensures.value
-    (c.in-Err.ensures.fails_from_outside c.args.header c.args.upto (last_is g p) (columns g p) rows name (accepts_header db rows name c.args.header holds accept there) clean holds.schema)
+    (c.in-Err.ensures.fails_from_outside c.args.header c.args.upto (last_is g p) (columns g p) rows
+    name (accepts_header db rows name c.args.header holds accept there) clean holds.schema)

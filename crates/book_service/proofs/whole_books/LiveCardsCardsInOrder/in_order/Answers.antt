@@ -6,5 +6,7 @@ use Rattle.book_service.proofs.whole_books.LiveCardsCardsInOrder.in_order.Goals 
 
 pub returns : goal.returns
 returns c =
-    let all : map deref_pair c.loop-stored.yielded ≡ c.args.self.now.stored.entries = search (rules, iter_end) in
-    c.loop-stored.invariant ∙ ap (map (λ e. e.1.card)) all ∙ sym (values-lines c.args.self.now.stored c.iter-stored-items.ensures.ordered)
+    let all : map deref_pair c.loop-stored.yielded ≡ c.args.self.now.stored.entries =
+    search (rules, iter_end) in
+    c.loop-stored.invariant ∙ ap (map (λ e. e.1.card)) all
+    ∙ sym (values-lines c.args.self.now.stored c.iter-stored-items.ensures.ordered)

@@ -14,13 +14,25 @@ use Rattle.book_store.proofs.calls.SqlStoreBookStore.get.Goals as goal
 pub returns : goal.returns
 returns g c =
     let old : StoreView _ = record { conn = c.self.inside.conn; limits = c.self.inside.limits } in
-    let mid : StoreView _ = record { conn = c.stored_of_book-answer.new.conn; limits = c.self.inside.limits } in
-    let new : StoreView _ = record { conn = c.answer_if_open.new.conn; limits = c.self.inside.limits } in
-    let query = λ (limits : Bounds) (books : Books). get_step books c.args.book.now c.args.uid.now in
+    let mid : StoreView _ = record {
+      conn = c.stored_of_book-answer.new.conn;
+      limits = c.self.inside.limits;
+    } in
+    let new : StoreView _ = record {
+      conn = c.answer_if_open.new.conn;
+      limits = c.self.inside.limits;
+    } in
+    let query = λ (limits : Bounds) (books : Books). get_step books c.args.book.now
+    c.args.uid.now in
     record {
-      reads = subst (λ (v : StoreView _). ReadsStore g.S.Store IsExactly v new c.answer_if_open.result query) c.self.view_is
-          (tested_reads_store g.S.Store IsExactly old mid new c.stored_of_book-answer.result c.answer_if_open.result query c.self.invariant.0 (λ (trees : Trees) up may. g.met.S.Store.settled c.answer_if_open.new.conn.store trees up may) refl
-          c.stored_of_book-answer.ensures.reads_only c.stored_of_book-answer.ensures.store_fault c.answer_if_open.ensures.reads_only c.answer_if_open.ensures.stands c.answer_if_open.ensures.opened c.stored_of_book-answer.ensures.answers);
+      reads = subst (λ (v : StoreView _). ReadsStore g.S.Store IsExactly v new
+          c.answer_if_open.result query) c.self.view_is
+          (tested_reads_store g.S.Store IsExactly old mid new c.stored_of_book-answer.result
+          c.answer_if_open.result query c.self.invariant.0 (λ (trees : Trees) up may.
+          g.met.S.Store.settled c.answer_if_open.new.conn.store trees up may) refl
+          c.stored_of_book-answer.ensures.reads_only c.stored_of_book-answer.ensures.store_fault
+          c.answer_if_open.ensures.reads_only c.answer_if_open.ensures.stands
+          c.answer_if_open.ensures.opened c.stored_of_book-answer.ensures.answers);
     }
 
 pub invariant_of-self : goal.invariant_of-self
@@ -28,7 +40,11 @@ invariant_of-self g c =
     let old = state g.S.Store c.self.inside.conn in
     let mid = state g.S.Store c.stored_of_book-answer.new.conn in
     let new = state g.S.Store c.answer_if_open.new.conn in
-    let stored = still_store old mid c.self.inside.limits c.self.invariant.0 c.stored_of_book-answer.ensures.reads_only in (
+    let stored = still_store old mid c.self.inside.limits c.self.invariant.0
+    c.stored_of_book-answer.ensures.reads_only in (
       still_store mid new c.self.inside.limits stored c.answer_if_open.ensures.reads_only,
-      still_counts mid new c.self.inside.limits c.self.inside.counts stored c.answer_if_open.ensures.reads_only (still_counts old mid c.self.inside.limits c.self.inside.counts c.self.invariant.0 c.stored_of_book-answer.ensures.reads_only c.self.invariant.1),
+      still_counts mid new c.self.inside.limits c.self.inside.counts stored
+          c.answer_if_open.ensures.reads_only (still_counts old mid c.self.inside.limits
+          c.self.inside.counts c.self.invariant.0 c.stored_of_book-answer.ensures.reads_only
+          c.self.invariant.1),
     )

@@ -30,26 +30,42 @@ module _ (g : given.Over) (c : After-outcome_if_open g) where
   new = record { conn = c.outcome_if_open.new.conn; limits = c.self.inside.limits }
 
   abbrev step : Bounds → Books → Result (ImportTally × Books) Refusal
-  step = λ (limits : Bounds) (books : Books). import_step limits books c.args.book.now c.args.key.now c.args.cards.now
+  step = λ (limits : Bounds) (books : Books). import_step limits books c.args.book.now
+      c.args.key.now c.args.cards.now
 
-  keeps : AreWithin c.self.inside.limits max_limits → (books : Books) → IsWellFormed max_limits books → LeavesWellFormed max_limits (step c.self.inside.limits books)
-  keeps = (λ fits books well. importing_keeps_form c.self.inside.limits max_limits books c.args.book.now c.args.key.now c.args.cards.now fits well)
+  keeps : AreWithin c.self.inside.limits max_limits → (books : Books)
+      → IsWellFormed max_limits books → LeavesWellFormed max_limits
+      (step c.self.inside.limits books)
+  keeps = (λ fits books well. importing_keeps_form c.self.inside.limits max_limits books
+      c.args.book.now c.args.key.now c.args.cards.now fits well)
 
   alone : LeavesCommitted (state g.S.Store c.outcome_if_open.new.conn)
   alone trees up may = g.met.S.Store.settled c.outcome_if_open.new.conn.store trees up may
 
-  counts : KeepsCounts (state g.S.Store c.self.inside.conn) (state g.S.Store c.import_in_book-outcome.new.conn) c.self.inside.counts c.import_in_book-outcome.new.counts
+  counts : KeepsCounts (state g.S.Store c.self.inside.conn)
+      (state g.S.Store c.import_in_book-outcome.new.conn) c.self.inside.counts
+      c.import_in_book-outcome.new.counts
   counts = c.import_in_book-outcome.ensures.counts
 
   changes : ChangesStore g.S.Store old new c.outcome_if_open.result step
   changes =
-      tested_changes_store g.S.Store old mid new c.self.inside.counts c.import_in_book-outcome.new.counts c.import_in_book-outcome.result c.outcome_if_open.result step c.self.invariant.0 c.self.invariant.1 alone refl keeps c.import_in_book-outcome.ensures.changes c.import_in_book-outcome.ensures.crash counts
-      c.outcome_if_open.ensures.reads_only c.outcome_if_open.ensures.stands c.outcome_if_open.ensures.done c.outcome_if_open.ensures.opened c.import_in_book-outcome.ensures.store_fault
+      tested_changes_store g.S.Store old mid new c.self.inside.counts
+      c.import_in_book-outcome.new.counts c.import_in_book-outcome.result
+      c.outcome_if_open.result step c.self.invariant.0 c.self.invariant.1 alone refl keeps
+      c.import_in_book-outcome.ensures.changes c.import_in_book-outcome.ensures.crash counts
+      c.outcome_if_open.ensures.reads_only c.outcome_if_open.ensures.stands
+      c.outcome_if_open.ensures.done c.outcome_if_open.ensures.opened
+      c.import_in_book-outcome.ensures.store_fault
 
-  stored : IsStore (state g.S.Store c.outcome_if_open.new.conn) c.self.inside.limits × HoldCounts (state g.S.Store c.outcome_if_open.new.conn) c.import_in_book-outcome.new.counts
+  stored : IsStore (state g.S.Store c.outcome_if_open.new.conn) c.self.inside.limits
+      × HoldCounts (state g.S.Store c.outcome_if_open.new.conn) c.import_in_book-outcome.new.counts
   stored =
-      still_stored g.S.Store old mid new c.self.inside.counts c.import_in_book-outcome.new.counts c.import_in_book-outcome.result c.outcome_if_open.result step c.self.invariant.0 c.self.invariant.1 alone refl keeps c.import_in_book-outcome.ensures.changes c.import_in_book-outcome.ensures.crash counts
-      c.outcome_if_open.ensures.reads_only c.outcome_if_open.ensures.stands c.outcome_if_open.ensures.done c.outcome_if_open.ensures.opened
+      still_stored g.S.Store old mid new c.self.inside.counts c.import_in_book-outcome.new.counts
+      c.import_in_book-outcome.result c.outcome_if_open.result step c.self.invariant.0
+      c.self.invariant.1 alone refl keeps c.import_in_book-outcome.ensures.changes
+      c.import_in_book-outcome.ensures.crash counts
+      c.outcome_if_open.ensures.reads_only c.outcome_if_open.ensures.stands
+      c.outcome_if_open.ensures.done c.outcome_if_open.ensures.opened
 
 -- ---- the clauses
 
@@ -57,7 +73,8 @@ pub returns : goal.returns
 returns g c =
     let p = (goal.at.returns g c).After-outcome_if_open in
     record {
-      changes = subst (λ (v : StoreView _). ChangesStore g.S.Store v (new g p) c.outcome_if_open.result (step g p)) c.self.view_is (changes g p);
+      changes = subst (λ (v : StoreView _). ChangesStore g.S.Store v (new g p)
+          c.outcome_if_open.result (step g p)) c.self.view_is (changes g p);
     }
 
 pub invariant_of-self : goal.invariant_of-self

@@ -8,15 +8,22 @@ use Rattle.book_store.proofs.files.SqlStore+FileStore+FileFrom+S.create_from.Goa
 pub returns-in-Ok-try_adopt_new-clause-found : goal.returns-in-Ok-try_adopt_new-clause-found
 returns-in-Ok-try_adopt_new-clause-found g c =
     let e = c.in-Ok-try_adopt_new.ensures in
-    created_start file_state _ c.in-Ok.connection c.in-Ok-try_adopt_new.store.conn c.in-Ok.ensures.found e.premise e.was_empty e.crash
+    created_start file_state _ c.in-Ok.connection c.in-Ok-try_adopt_new.store.conn
+    c.in-Ok.ensures.found e.premise e.was_empty e.crash
 
 pub returns-in-Err-try_adopt_new-clause-fault : goal.returns-in-Err-try_adopt_new-clause-fault
-returns-in-Err-try_adopt_new-clause-fault g c = refused_kind c.in-Ok.connection c.in-Err-try_adopt_new.conn c.in-Err-try_adopt_new.fault c.in-Err-try_adopt_new.ensures.refused
+returns-in-Err-try_adopt_new-clause-fault g c =
+    refused_kind c.in-Ok.connection c.in-Err-try_adopt_new.conn c.in-Err-try_adopt_new.fault
+    c.in-Err-try_adopt_new.ensures.refused
 
 pub returns-in-Err-try_adopt_new-clause-refused : goal.returns-in-Err-try_adopt_new-clause-refused
 returns-in-Err-try_adopt_new-clause-refused g c =
-    created_fault (image_at g.S.Start) c.in-Ok.connection c.in-Err-try_adopt_new.conn c.into_store.result c.in-Ok.ensures.opened c.in-Ok.ensures.found c.into_store.ensures.quiet c.in-Err-try_adopt_new.fault c.in-Err-try_adopt_new.ensures.refused
+    created_fault (image_at g.S.Start) c.in-Ok.connection c.in-Err-try_adopt_new.conn
+    c.into_store.result c.in-Ok.ensures.opened c.in-Ok.ensures.found c.into_store.ensures.quiet
+    c.in-Err-try_adopt_new.fault c.in-Err-try_adopt_new.ensures.refused
 
 pub returns-in-Err-clause-refused : goal.returns-in-Err-clause-refused
 returns-in-Err-clause-refused g c =
-    c.creation_refusal.ensures.refused (image_at g.S.Start) (fails_over _ _ (image_at g.S.Start) c.in-Err.error c.in-Err.left c.in-Err.ensures.cause (λ files log db. seen_alike g.S.Start.log g.S.Start.db log.0 log.1 db.0 db.1))
+    c.creation_refusal.ensures.refused (image_at g.S.Start) (fails_over _ _ (image_at g.S.Start)
+    c.in-Err.error c.in-Err.left c.in-Err.ensures.cause (λ files log db. seen_alike
+    g.S.Start.log g.S.Start.db log.0 log.1 db.0 db.1))

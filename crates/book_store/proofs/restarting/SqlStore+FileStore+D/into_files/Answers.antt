@@ -9,10 +9,16 @@ use Rattle.book_store.proofs.restarting.SqlStore+FileStore+D.into_files.Goals as
 
 pub returns-clause-books : goal.returns-clause-books
 returns-clause-books g c =
-    subst (λ k. IsOpenOnHonestDisk (file_state k) → LeaveOneOf g.D.Disk c.into_files.result (TreesHold (stored_books (file_state k)))) c.into_connection.ensures.same_connection
-    (left_books c.into_connection.result c.args.self.limits c.into_files.result c.stores_survive_crashes.ensures c.into_connection.ensures.is_store c.into_files.ensures.leaves)
+    subst (λ k. IsOpenOnHonestDisk (file_state k)
+    → LeaveOneOf g.D.Disk c.into_files.result (TreesHold (stored_books (file_state k))))
+    c.into_connection.ensures.same_connection
+    (left_books c.into_connection.result c.args.self.limits c.into_files.result
+    c.stores_survive_crashes.ensures c.into_connection.ensures.is_store
+    c.into_files.ensures.leaves)
 
 pub returns-clause-leaves : goal.returns-clause-leaves
 returns-clause-leaves g c =
-    subst (λ k. LeaveOneOf g.D.Disk c.into_files.result (LeftTrees (file_state k))) c.into_connection.ensures.same_connection
-    (left_stores c.into_connection.result c.args.self.limits c.into_files.result c.into_connection.ensures.is_store c.into_files.ensures.clean c.into_files.ensures.leaves)
+    subst (λ k. LeaveOneOf g.D.Disk c.into_files.result (LeftTrees (file_state k)))
+    c.into_connection.ensures.same_connection
+    (left_stores c.into_connection.result c.args.self.limits c.into_files.result
+    c.into_connection.ensures.is_store c.into_files.ensures.clean c.into_files.ensures.leaves)

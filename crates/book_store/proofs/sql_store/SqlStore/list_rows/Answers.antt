@@ -19,56 +19,82 @@ use Rattle.book_store.proofs.sql_store.SqlStore.list_rows.Goals as goal
 pub invariant_of-self : goal.invariant_of-self
 invariant_of-self g c =
     let old = state g.S.Store c.self.inside.conn in
-    let new = state g.S.Store c.list_tables.new.conn in
-    (still_store old new c.self.inside.limits c.self.invariant.0 c.list_tables.ensures.reads_only, still_counts old new c.self.inside.limits c.self.inside.counts c.self.invariant.0 c.list_tables.ensures.reads_only c.self.invariant.1)
+    let new = state g.S.Store c.list_tables.new.conn in (
+      still_store old new c.self.inside.limits c.self.invariant.0 c.list_tables.ensures.reads_only,
+      still_counts old new c.self.inside.limits c.self.inside.counts c.self.invariant.0
+          c.list_tables.ensures.reads_only c.self.invariant.1,
+    )
 
 pub returns-clause-terms : goal.returns-clause-terms
 returns-clause-terms g c =
-    let new : StoreView _ = record { conn = c.list_tables.new.conn; limits = c.self.inside.limits } in
+    let new : StoreView _ = record {
+      conn = c.list_tables.new.conn;
+      limits = c.self.inside.limits;
+    } in
     subst (λ (v : StoreView _). KeepsTerms (table_model g.S.Store) v new) c.self.view_is (record {
-      premise = read_before (state g.S.Store c.self.inside.conn) (state g.S.Store c.list_tables.new.conn) c.list_tables.ensures.reads_only;
+      premise = read_before (state g.S.Store c.self.inside.conn)
+          (state g.S.Store c.list_tables.new.conn) c.list_tables.ensures.reads_only;
       limits = refl;
       range = c.self.invariant.0.range;
     })
 
 pub returns-clause-keeps_books : goal.returns-clause-keeps_books
 returns-clause-keeps_books g c =
-    let new : StoreView _ = record { conn = c.list_tables.new.conn; limits = c.self.inside.limits } in
+    let new : StoreView _ = record {
+      conn = c.list_tables.new.conn;
+      limits = c.self.inside.limits;
+    } in
     subst (λ (v : StoreView _). KeepsBooks (table_model g.S.Store) v new) c.self.view_is
-    (still_books (state g.S.Store c.self.inside.conn) (state g.S.Store c.list_tables.new.conn) c.self.inside.limits c.self.invariant.0 c.list_tables.ensures.reads_only)
+    (still_books (state g.S.Store c.self.inside.conn) (state g.S.Store c.list_tables.new.conn)
+    c.self.inside.limits c.self.invariant.0 c.list_tables.ensures.reads_only)
 
 pub returns-clause-reads_only : goal.returns-clause-reads_only
 returns-clause-reads_only g c =
-    subst (λ (v : StoreView _). OnlyReads (state g.S.Store v.conn) (state g.S.Store c.list_tables.new.conn)) c.self.view_is c.list_tables.ensures.reads_only
+    subst (λ (v : StoreView _). OnlyReads (state g.S.Store v.conn)
+    (state g.S.Store c.list_tables.new.conn)) c.self.view_is c.list_tables.ensures.reads_only
 
 pub returns-in-Err-clause-terms : goal.returns-in-Err-clause-terms
 returns-in-Err-clause-terms g c =
-    let new : StoreView _ = record { conn = c.list_tables.new.conn; limits = c.self.inside.limits } in
+    let new : StoreView _ = record {
+      conn = c.list_tables.new.conn;
+      limits = c.self.inside.limits;
+    } in
     subst (λ (v : StoreView _). KeepsTerms (table_model g.S.Store) v new) c.self.view_is (record {
-      premise = read_before (state g.S.Store c.self.inside.conn) (state g.S.Store c.list_tables.new.conn) c.list_tables.ensures.reads_only;
+      premise = read_before (state g.S.Store c.self.inside.conn)
+          (state g.S.Store c.list_tables.new.conn) c.list_tables.ensures.reads_only;
       limits = refl;
       range = c.self.invariant.0.range;
     })
 
 pub returns-in-Err-clause-keeps_books : goal.returns-in-Err-clause-keeps_books
 returns-in-Err-clause-keeps_books g c =
-    let new : StoreView _ = record { conn = c.list_tables.new.conn; limits = c.self.inside.limits } in
+    let new : StoreView _ = record {
+      conn = c.list_tables.new.conn;
+      limits = c.self.inside.limits;
+    } in
     subst (λ (v : StoreView _). KeepsBooks (table_model g.S.Store) v new) c.self.view_is
-    (still_books (state g.S.Store c.self.inside.conn) (state g.S.Store c.list_tables.new.conn) c.self.inside.limits c.self.invariant.0 c.list_tables.ensures.reads_only)
+    (still_books (state g.S.Store c.self.inside.conn) (state g.S.Store c.list_tables.new.conn)
+    c.self.inside.limits c.self.invariant.0 c.list_tables.ensures.reads_only)
 
 pub returns-in-Err-clause-reads_only : goal.returns-in-Err-clause-reads_only
 returns-in-Err-clause-reads_only g c =
-    subst (λ (v : StoreView _). OnlyReads (state g.S.Store v.conn) (state g.S.Store c.list_tables.new.conn)) c.self.view_is c.list_tables.ensures.reads_only
+    subst (λ (v : StoreView _). OnlyReads (state g.S.Store v.conn)
+    (state g.S.Store c.list_tables.new.conn)) c.self.view_is c.list_tables.ensures.reads_only
 
 pub invariant_of-self-2 : goal.invariant_of-self-2
 invariant_of-self-2 g c =
     let old = state g.S.Store c.self.inside.conn in
-    let new = state g.S.Store c.list_tables.new.conn in
-    (still_store old new c.self.inside.limits c.self.invariant.0 c.list_tables.ensures.reads_only, still_counts old new c.self.inside.limits c.self.inside.counts c.self.invariant.0 c.list_tables.ensures.reads_only c.self.invariant.1)
+    let new = state g.S.Store c.list_tables.new.conn in (
+      still_store old new c.self.inside.limits c.self.invariant.0 c.list_tables.ensures.reads_only,
+      still_counts old new c.self.inside.limits c.self.inside.counts c.self.invariant.0
+          c.list_tables.ensures.reads_only c.self.invariant.1,
+    )
 
 pub returns-clause-lists : goal.returns-clause-lists
 returns-clause-lists g c =
     let old = state g.S.Store c.self.inside.conn in
     let new = state g.S.Store c.list_tables.new.conn in
-    subst (λ (v : StoreView _). IsOpenOnHonestDisk new → AreStoreRows (state g.S.Store v.conn) c.in-Ok.rows) c.self.view_is
-    (listed_rows old new c.self.inside.limits c.in-Ok.rows c.self.invariant.0 c.list_tables.ensures.reads_only c.in-Ok.ensures.lists)
+    subst (λ (v : StoreView _). IsOpenOnHonestDisk new
+    → AreStoreRows (state g.S.Store v.conn) c.in-Ok.rows) c.self.view_is
+    (listed_rows old new c.self.inside.limits c.in-Ok.rows c.self.invariant.0
+    c.list_tables.ensures.reads_only c.in-Ok.ensures.lists)

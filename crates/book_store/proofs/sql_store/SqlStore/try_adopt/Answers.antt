@@ -9,7 +9,8 @@ use Rattle.store_schema.specs.StoredSchema.{ChangesNothing}
 use Rattle.store_check.specs.OpenResults.{IsOpenResult, max_limits}
 use Rattle.store_check.specs.TombstoneCounts.{IsCountOf}
 use Rattle.book_model.specs.WellFormed.{IsWellFormed}
-use Rattle.book_store.proofs.AdoptLemmas.{adopted_before, adopted_books, adopts_nothing, closed_from_outside, early, error_result}
+use Rattle.book_store.proofs.AdoptLemmas.{adopted_before, adopted_books, adopts_nothing}
+use Rattle.book_store.proofs.AdoptLemmas.{closed_from_outside, early, error_result}
 use Rattle.book_store.proofs.CountLemmas.{opened_counts, opened_formed, opened_leaves, opened_sound}
 use Rattle.book_store.proofs.sql_store.SqlStore.try_adopt.Given as given
 use Rattle.book_store.proofs.sql_store.SqlStore.try_adopt.Goals as goal
@@ -28,7 +29,8 @@ module _ (g : given.Over) (c : After-check_still_open g) where
   new = state g.S.Store c.check_still_open.new.conn
 
   earlier : HasCleanDisk new → HasCleanDisk mid
-  earlier = early old mid new c.count_tombstones.ensures.changes_nothing c.check_still_open.ensures.reads_only c.assert_no_pending_writes.ensures
+  earlier = early old mid new c.count_tombstones.ensures.changes_nothing
+      c.check_still_open.ensures.reads_only c.assert_no_pending_writes.ensures
 
   -- the tables that were tested, by the limits of the test
   formed : HasCleanDisk mid → HoldsWellFormed c.standard.result old.now
@@ -36,7 +38,9 @@ module _ (g : given.Over) (c : After-check_still_open g) where
 
   left : ChangesNothing old new
   left =
-      adopts_nothing old mid new c.count_tombstones.ensures.changes_nothing c.check_still_open.ensures.reads_only c.assert_no_pending_writes.ensures (λ clean. (formed clean).holds.schema)
+      adopts_nothing old mid new c.count_tombstones.ensures.changes_nothing
+      c.check_still_open.ensures.reads_only c.assert_no_pending_writes.ensures
+      (λ clean. (formed clean).holds.schema)
 
 -- ---- the clauses
 
@@ -46,11 +50,14 @@ returns-in-Err-clause-refused g c =
     let limits = c.standard.ensures in
     record {
       left_unchanged = c.count_tombstones.ensures.changes_nothing;
-      right_fault = λ clean. subst (λ b. IsOpenResult b old.now (Err c.in-Err.fault)) limits (c.in-Err.ensures.answers clean);
-      from_outside = λ clean held. c.in-Err.ensures.opens clean (subst (λ b. HoldsWellFormed b old.now) (sym limits) held);
+      right_fault = λ clean. subst (λ b. IsOpenResult b old.now (Err c.in-Err.fault)) limits
+          (c.in-Err.ensures.answers clean);
+      from_outside = λ clean held. c.in-Err.ensures.opens clean
+          (subst (λ b. HoldsWellFormed b old.now) (sym limits) held);
     }
 
-pub returns-in-Err-check_still_open-clause-refused : goal.returns-in-Err-check_still_open-clause-refused
+pub returns-in-Err-check_still_open-clause-refused :
+    goal.returns-in-Err-check_still_open-clause-refused
 returns-in-Err-check_still_open-clause-refused g c =
     let p = (goal.at.returns-in-Err-check_still_open-clause-refused g c).After-check_still_open in
     let fault = c.in-Err-check_still_open.fault in
@@ -59,14 +66,17 @@ returns-in-Err-check_still_open-clause-refused g c =
       left_unchanged = left g p;
       right_fault = λ clean. error_result max_limits (old g p).now fault kind;
       from_outside = λ clean held.
-          closed_from_outside (old g p) (mid g p) (new g p) c.count_tombstones.ensures.changes_nothing c.check_still_open.ensures.reads_only c.assert_no_pending_writes.ensures fault kind held.holds.schema
+          closed_from_outside (old g p) (mid g p) (new g p)
+          c.count_tombstones.ensures.changes_nothing c.check_still_open.ensures.reads_only
+          c.assert_no_pending_writes.ensures fault kind held.holds.schema
           (λ has. c.in-Err-check_still_open.ensures.from_outside clean has) clean;
     }
 
 pub returns-clause-well_formed : goal.returns-clause-well_formed
 returns-clause-well_formed g c order =
     let p = (goal.at.returns-clause-well_formed g c).After-check_still_open in
-    subst (λ b. HoldsWellFormed b (old g p).now) c.standard.ensures (formed g p (earlier g p order.0))
+    subst (λ b. HoldsWellFormed b (old g p).now) c.standard.ensures
+    (formed g p (earlier g p order.0))
 
 pub returns-clause-books : goal.returns-clause-books
 returns-clause-books g c order =
@@ -91,12 +101,22 @@ invariant_of-result g c =
       record {
         settled = (left g p).mode c.requires;
         stays_sound = opened_sound _ (old g p) (new g p) (left g p) settled tables;
-        stays_well_formed = λ order. subst (λ b. IsWellFormed b (stored_books (new g p))) limits (opened_formed _ (old g p) (new g p) (left g p) settled tables order);
+        stays_well_formed = λ order. subst (λ b. IsWellFormed b (stored_books (new g p))) limits
+            (opened_formed _ (old g p) (new g p) (left g p) settled tables order);
         leaves_stores = λ clean trees may.
-            let it = opened_leaves _ (old g p) (new g p) (λ (trees : Trees) up may. g.met.S.Store.settled c.args.connection.store trees up may) (left g p) settled tables (λ honest. c.in-Ok.ensures.was_open (earlier g p honest)) clean trees may in
-            record { books = it.0; holds = it.1; well_formed = subst (λ b. IsWellFormed b it.0) limits it.2 };
+            let it = opened_leaves _ (old g p) (new g p) (λ (trees : Trees) up may.
+            g.met.S.Store.settled c.args.connection.store trees up may) (left g p) settled
+            tables (λ honest. c.in-Ok.ensures.was_open (earlier g p honest)) clean trees may in
+            record {
+              books = it.0;
+              holds = it.1;
+              well_formed = subst (λ b. IsWellFormed b it.0) limits it.2;
+            };
         range = search rules;
       },
       opened_counts (old g p) (new g p) c.counts_of.result (left g p) settled (λ clean.
-          c.counts_of.ensures (stored_books (old g p)) (subst (AllByRecursion (IsCountOf (stored_books (old g p)))) (sym c.as_slice.ensures.value) (c.in-Ok.ensures.answers (earlier g p clean)).1.each_count)),
+          c.counts_of.ensures (stored_books (old g p))
+          (subst (AllByRecursion (IsCountOf (stored_books (old g p))))
+          (sym c.as_slice.ensures.value)
+          (c.in-Ok.ensures.answers (earlier g p clean)).1.each_count)),
     )

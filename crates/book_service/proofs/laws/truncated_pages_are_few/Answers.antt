@@ -1,5 +1,0 @@
-use Rattle.book_service.proofs.PageCountLemmas.{truncated_pages_are_few}
-use Rattle.book_service.proofs.laws.truncated_pages_are_few.Goals as goal
-
-pub returns : goal.returns
-returns c = truncated_pages_are_few c.calls_extend_histories.ensures c.due_members_are_counted.ensures.fewer c.due_members_are_counted.ensures.none c.rows_are_per_book.ensures
