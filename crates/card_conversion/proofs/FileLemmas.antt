@@ -10,7 +10,11 @@ use Rattle.card_conversion.specs.declared.course.Course.{Course}
 use Rattle.card_conversion.specs.declared.ledger.Summary.{Summary}
 
 -- what is known of the octets that a reader gives is known of the file, where its octets are known
-pub of_file : {A : Type 0} (writes : List Line → A → A → Type 0) (text : List ℕ → List ℕ) (file given : Option (List ℕ)) (before after : A) (summary : Summary) → IfSome file (λ octets. given ≡ Some (text octets)) → ConvertsAll writes given before after summary → ConvertsAll writes (option_map text file) before after summary
+pub of_file : {A : Type 0} (writes : List Line → A → A → Type 0) (text : List ℕ
+    → List ℕ) (file given : Option (List ℕ)) (before after : A) (summary : Summary)
+    → IfSome file (λ octets. given ≡ Some (text octets))
+    → ConvertsAll writes given before after summary
+    → ConvertsAll writes (option_map text file) before after summary
 of_file writes text None given before after summary same converts = record {
   entries = converts.entries;
   accounts = record {
@@ -25,7 +29,8 @@ of_file writes text None given before after summary same converts = record {
 of_file writes text (Some octets) given before after summary same converts = record {
   entries = converts.entries;
   accounts = record {
-    whole = subst (λ input. IfSome input (λ os. os ≡ octets_of converts.entries)) same converts.accounts.whole;
+    whole = subst (λ input. IfSome input (λ os. os ≡ octets_of converts.entries)) same
+        converts.accounts.whole;
     fates = converts.accounts.fates;
     distinct = converts.accounts.distinct;
     cards = converts.accounts.cards;
@@ -35,8 +40,13 @@ of_file writes text (Some octets) given before after summary same converts = rec
 }
 
 -- the same of one more file
-pub of_more_file : {A : Type 0} (writes : List Line → A → A → Type 0) (text : List ℕ → List ℕ) (file given : Option (List ℕ)) (uids : List (List ℕ)) (old new : Course) (before after : A) → IfSome file (λ octets. given ≡ Some (text octets)) → ConvertsPieces writes given uids old new before after → ConvertsPieces writes (option_map text file) uids old new before after
-of_more_file writes text None given uids old new before after same converts = record { entries = converts.entries; whole = tt; part = converts.part }
+pub of_more_file : {A : Type 0} (writes : List Line → A → A → Type 0) (text : List ℕ
+    → List ℕ) (file given : Option (List ℕ)) (uids : List (List ℕ)) (old new : Course)
+    (before after : A) → IfSome file (λ octets. given ≡ Some (text octets))
+    → ConvertsPieces writes given uids old new before after
+    → ConvertsPieces writes (option_map text file) uids old new before after
+of_more_file writes text None given uids old new before after same converts =
+    record { entries = converts.entries; whole = tt; part = converts.part }
 of_more_file writes text (Some octets) given uids old new before after same converts = record {
   entries = converts.entries;
   whole = subst (λ input. IfSome input (λ os. os ≡ octets_of converts.entries)) same converts.whole;

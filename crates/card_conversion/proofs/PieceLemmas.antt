@@ -1,16 +1,21 @@
 -- What a reader of pieces has left after it read and passed octets.
-use Rattle.std.proofs.Common.{◌≡◌, [], ◌++◌, ◌+◌, ℕ, List, Option, Some, None, take, drop, refl, sym, ap, ◌∙◌, append_assoc}
+use Rattle.std.proofs.Common.{◌≡◌, [], ◌++◌, ◌+◌, ℕ, List, Option, Some, None, take, drop, refl}
+use Rattle.std.proofs.Common.{sym, ap, ◌∙◌, append_assoc}
 use Rattle.std.proofs.lemmas.List.{take-append-drop, drop-drop}
 use Rattle.std.specs.Io.KnownBytes.{Consumes, IsAtEnd, prepend_known}
 
 -- what was read comes after what was unread
-pub read_on : (unread chunk : List ℕ) (a b : Option (List ℕ)) → Consumes a b chunk → Consumes (prepend_known unread a) (prepend_known (unread ++ chunk) b) []
+pub read_on : (unread chunk : List ℕ) (a b : Option (List ℕ)) → Consumes a b chunk
+    → Consumes (prepend_known unread a) (prepend_known (unread ++ chunk) b) []
 read_on unread chunk None b p = tt
 read_on unread chunk (Some x) None p = absurd p
-read_on unread chunk (Some x) (Some y) p = ap (λ z. unread ++ z) p ∙ sym (append_assoc unread chunk y)
+read_on unread chunk (Some x) (Some y) p = ap (λ z. unread ++ z) p
+    ∙ sym (append_assoc unread chunk y)
 
 -- the front of what was unread is passed
-pub passes : (octets : List ℕ) (start len : ℕ) (rest : Option (List ℕ)) → Consumes (prepend_known (drop start octets) rest) (prepend_known (drop (start + len) octets) rest) (take len (drop start octets))
+pub passes : (octets : List ℕ) (start len : ℕ) (rest : Option (List ℕ))
+    → Consumes (prepend_known (drop start octets) rest) (prepend_known (drop (start + len) octets)
+    rest) (take len (drop start octets))
 passes octets start len None = tt
 passes octets start len (Some xs) =
     ap (λ ys. ys ++ xs) (sym (take-append-drop len (drop start octets)))
@@ -27,6 +32,7 @@ no_more (Some x) None c p q = absurd p
 no_more (Some x) (Some y) None p q = absurd q
 no_more (Some x) (Some y) (Some z) p q = p ∙ q
 
-pub ends : (unread : List ℕ) (a : Option (List ℕ)) → unread ≡ [] → IsAtEnd a → IsAtEnd (prepend_known unread a)
+pub ends : (unread : List ℕ) (a : Option (List ℕ)) → unread ≡ [] → IsAtEnd a
+    → IsAtEnd (prepend_known unread a)
 ends unread None e at_end = tt
 ends unread (Some x) e at_end = rw (e, at_end) refl

@@ -1,5 +1,7 @@
 -- Rows of any cards with different UIDs are read back.
-use Rattle.std.proofs.Common.{◌≡◌, ◌≢◌, ◌+◌, ◌∷◌, ◌++◌, [], ℕ, suc, List, true, false, map, length, get_or, drop, codes, IsUtf8, refl, sym, ap, subst, ◌∙◌, arith, inl, inr, append_assoc}
+use Rattle.std.proofs.Common.{◌≡◌, ◌≢◌, ◌+◌, ◌∷◌, ◌++◌, [], ℕ, suc, List, true, false, map, length}
+use Rattle.std.proofs.Common.{get_or, drop, codes, IsUtf8, refl, sym, ap, subst, ◌∙◌, arith, inl}
+use Rattle.std.proofs.Common.{inr, append_assoc}
 use Rattle.std.specs.List.{AllByRecursion, AllPairs}
 use Rattle.std.proofs.lemmas.List.{drop_at, length-append}
 use Rattle.std.proofs.Math.Seq.{get_or-append_seam}
@@ -25,20 +27,30 @@ after_colon : (front value : List ℕ) → IsUtf8 (front ++ 58 ∷ value) → Is
 after_colon front value u =
     let whole = front ++ 58 ∷ value in
     let at : get_or whole (length front) 0 ≡ 58 = get_or-append_seam front 58 value 0 in
-    let small : length whole ≡ length front + suc (length value) = length-append front (58 ∷ value) in
-    let rest : drop (length front + 1) whole ≡ value = ap (drop (length front + 1)) (sym (append_assoc front (58 ∷ []) value)) ∙ drop_at (front ++ 58 ∷ []) value (length front + 1) (length-append front (58 ∷ [])) in
-    subst IsUtf8 rest (IsUtf8-drop whole (length front + 1) u (IsCharBoundary-after_ascii whole (length front) u (omega (arith, small)) (omega (arith, at))))
+    let small : length whole ≡ length front + suc (length value) =
+    length-append front (58 ∷ value) in
+    let rest : drop (length front + 1) whole ≡ value =
+    ap (drop (length front + 1)) (sym (append_assoc front (58 ∷ []) value))
+    ∙ drop_at (front ++ 58 ∷ []) value (length front + 1) (length-append front (58 ∷ [])) in
+    subst IsUtf8 rest (IsUtf8-drop whole (length front + 1) u (IsCharBoundary-after_ascii whole
+    (length front) u (omega (arith, small)) (omega (arith, at))))
 
-in_front : (line : Line) → line_text line ≡ group_text line.group ++ (line.name ++ params_text line.params) ++ 58 ∷ line.value
-in_front line = sym (append_assoc (group_text line.group) (line.name ++ params_text line.params) (58 ∷ line.value) ∙ ap (λ rest. group_text line.group ++ rest) (append_assoc line.name (params_text line.params) (58 ∷ line.value)))
+in_front : (line : Line) → line_text line ≡ group_text line.group
+    ++ (line.name ++ params_text line.params) ++ 58 ∷ line.value
+in_front line = sym (append_assoc (group_text line.group) (line.name ++ params_text line.params)
+    (58 ∷ line.value) ∙ ap (λ rest. group_text line.group ++ rest)
+    (append_assoc line.name (params_text line.params) (58 ∷ line.value)))
 
 value_utf8 : (line : Line) → IsUtf8 (line_text line) → IsUtf8 line.value
-value_utf8 line u = after_colon (group_text line.group ++ (line.name ++ params_text line.params)) line.value (subst IsUtf8 (in_front line) u)
+value_utf8 line u = after_colon (group_text line.group ++ (line.name ++ params_text line.params))
+    line.value (subst IsUtf8 (in_front line) u)
 
-uid_here : (line : Line) (lines : List Line) → line_is_named (codes "UID") line ≡ true → uid_of (line ∷ lines) ≡ line.value
+uid_here : (line : Line) (lines : List Line) → line_is_named (codes "UID") line ≡ true
+    → uid_of (line ∷ lines) ≡ line.value
 uid_here line lines e = rw e refl
 
-uid_later : (line : Line) (lines : List Line) → line_is_named (codes "UID") line ≡ false → uid_of (line ∷ lines) ≡ uid_of lines
+uid_later : (line : Line) (lines : List Line) → line_is_named (codes "UID") line ≡ false
+    → uid_of (line ∷ lines) ≡ uid_of lines
 uid_later line lines e = rw e refl
 
 uid_utf8 : (lines : List Line) → AllByRecursion IsProperLine lines → IsUtf8 (uid_of lines)
@@ -51,7 +63,8 @@ uid_utf8 (line ∷ lines) all = elim (cases_Bool (line_is_named (codes "UID") li
 -- ---- cards
 
 module _ (spells : (lines : List Line) → IsCard lines → Spells (canonical_text lines) lines) where
-  row_represents : (card : List Line) → IsCard card → RowRepresents form.Cards (card_row form.Cards card) card
+  row_represents : (card : List Line) → IsCard card
+      → RowRepresents form.Cards (card_row form.Cards card) card
   unfolding AllText
   row_represents card is = record {
     fields = refl;
@@ -59,11 +72,13 @@ module _ (spells : (lines : List Line) → IsCard lines → Spells (canonical_te
     holds = record { text = spells card is; uid = inr refl };
   }
 
-  each_represents : (cards : List (List Line)) → AllByRecursion IsCard cards → RowsRepresentEach form.Cards (map (card_row form.Cards) cards) cards
+  each_represents : (cards : List (List Line)) → AllByRecursion IsCard cards
+      → RowsRepresentEach form.Cards (map (card_row form.Cards) cards) cards
   each_represents [] all = tt
   each_represents (card ∷ cards) all = (row_represents card all.0, each_represents cards all.1)
 
-  pub cards_read_back : (cards : List (List Line)) → AllByRecursion IsCard cards → AllPairs (λ a b. a ≢ b) (map uid_of cards) → TextHasCards (csv_text form.Cards cards) cards
+  pub cards_read_back : (cards : List (List Line)) → AllByRecursion IsCard cards
+      → AllPairs (λ a b. a ≢ b) (map uid_of cards) → TextHasCards (csv_text form.Cards cards) cards
   cards_read_back cards all distinct = record {
     kind = form.Cards;
     rows = map (card_row form.Cards) cards;
@@ -72,5 +87,7 @@ module _ (spells : (lines : List Line) → IsCard lines → Spells (canonical_te
   }
 
 -- the rows after the header, one after another
-pub rows_in_turn : (cards : List (List Line)) → csv_text form.Cards cards ≡ header_row_text ++ flat_map card_row_text cards
-rows_in_turn cards = ap (λ rows. header_row_text ++ rows) (flat_map-map (row_text default_writer) (card_row form.Cards) cards)
+pub rows_in_turn : (cards : List (List Line)) → csv_text form.Cards cards ≡ header_row_text
+    ++ flat_map card_row_text cards
+rows_in_turn cards = ap (λ rows. header_row_text ++ rows) (flat_map-map (row_text default_writer)
+    (card_row form.Cards) cards)

@@ -1,5 +1,6 @@
 //! Goes over the physical lines of a piece, and over the lines of its card.
 
+use import_text::is_encoded_as;
 use vcard_text::Line;
 
 /// The physical lines of a piece from one on.
@@ -16,6 +17,12 @@ fn split_line(octets: &[u8]) -> (&[u8], &[u8]) {
         Some(place) => (&octets[..place], &octets[place + 1..]),
         None => (octets, &[]),
     }
+}
+
+/// A physical line without the carriage returns at its end, of which it may have two.
+pub(crate) fn without_returns(line: &[u8]) -> &[u8] {
+    let line = line.strip_suffix(b"\r").unwrap_or(line);
+    line.strip_suffix(b"\r").unwrap_or(line)
 }
 
 impl<'a> PieceLines<'a> {
@@ -38,13 +45,20 @@ impl<'a> PieceLines<'a> {
         split_line(self.rest).0
     }
 
-    /// The line that the cursor is at, with the physical lines that it is folded to.
+    /// The line that the cursor is at, with the physical lines that it is folded to, also by the
+    /// equals signs of quoted-printable.
     pub(crate) fn line_on(&self) -> &'a [u8] {
         let mut len: usize = 0;
+        let mut is_head = true;
+        let mut is_quoted = false;
+        let mut is_open = false;
         for line in self.rest.split(|octet| *octet == b'\n') {
-            if len > 0 && !is_folded(line) {
+            if len > 0 && !is_open && !is_folded(line) {
                 break;
             }
+            is_quoted = is_quoted || is_head && is_encoded_as(line, b"QUOTED-PRINTABLE");
+            is_head = is_head && !line.contains(&b':');
+            is_open = is_quoted && without_returns(line).ends_with(b"=");
             len = len.saturating_add(line.len()).saturating_add(1);
         }
         self.rest.get(..len.saturating_sub(1)).unwrap_or(self.rest)

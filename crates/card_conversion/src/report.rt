@@ -5,7 +5,7 @@ use crate::change_words::{Reported, Said, change_words};
 use crate::fate::Fate;
 use crate::fault::ConversionFault;
 use crate::form_changes::FormKind;
-use crate::guesses::is_guessed_line;
+use crate::guesses::{guess_words, guessed_lines};
 use crate::line_cursor::longest_line;
 use crate::line_names::name_of;
 use crate::media_sink::MediaDelivery;
@@ -66,20 +66,6 @@ fn keeps_aside(change: &Change) -> bool {
     matches!(change.kind, ChangeKind::KeptAside | ChangeKind::Unreadable)
 }
 
-/// Counts the line of a change if it is read as Windows-1252. Each such line has a change, since it
-/// isn't what its octets spell. One that was added has no octets.
-fn count_guess<E: Write, T: Write>(
-    alloc: Global,
-    at: &Reported<'_>,
-    change: &Change,
-    report: &mut Report<E, T>,
-) -> Result<(), NoMemory> {
-    if change.kind != ChangeKind::Added && is_guessed_line(alloc, at.piece.line_on())? {
-        report.count_guessed_line();
-    }
-    Ok(())
-}
-
 /// Reports one change of a card: a change of form is counted, and one of content is a part of the
 /// card's line.
 fn report_change<E: Write, T: Write>(
@@ -92,7 +78,6 @@ fn report_change<E: Write, T: Write>(
 ) -> Result<(), ConversionFault> {
     let octets = at.piece.go_to(change.place);
     let name = name_of(alloc, octets)?;
-    count_guess(alloc, at, change, report)?;
     let (said, words) = change_words(alloc, at, name.as_str(), octets, change.kind)?;
     let line = place.line.saturating_add(change.place as u64);
     let card = place.card;
@@ -187,8 +172,25 @@ fn report_unended<E: Write, T: Write>(
     report_loss(alloc, place, words, parts, report)
 }
 
+/// Reports how many lines of a card were read as Windows-1252, if there are some.
+fn report_guesses<E: Write, T: Write>(
+    alloc: Global,
+    place: Place,
+    piece: &[u8],
+    changes: &[Change],
+    report: &mut Report<E, T>,
+) -> Result<(), ConversionFault> {
+    let count = guessed_lines(alloc, piece, changes)?;
+    if count == 0 {
+        return Ok(());
+    }
+    report.count_guessed_lines(count);
+    let words = guess_words(alloc, count, "line")?;
+    report.list_line(alloc, card_line(alloc, place, words.as_str())?.as_str())
+}
+
 /// Tells the parts of a card, if there are some.
-fn tell_parts<E: Write, T: Write>(
+fn report_parts<E: Write, T: Write>(
     alloc: Global,
     place: Place,
     parts: &Parts,
@@ -200,7 +202,7 @@ fn tell_parts<E: Write, T: Write>(
     let card = place.card;
     let text = parts.text(alloc)?;
     let text = text.as_str();
-    report.tell(
+    report.write_line(
         alloc,
         parts.weight,
         format!(in alloc; "card {card}, {text}")?.as_str(),
@@ -228,7 +230,8 @@ fn report_changes<E: Write, T: Write>(
     }
     report_lost(alloc, place, lines, parts, report)?;
     report_unended(alloc, place, piece, parts, report)?;
-    tell_parts(alloc, place, parts, report)
+    report_guesses(alloc, place, piece, changes, report)?;
+    report_parts(alloc, place, parts, report)
 }
 
 /// Reports a card that was written under its own UID.
@@ -292,7 +295,7 @@ fn report_repeated<E: Write, T: Write>(
         &mut parts,
         report,
     )?;
-    tell_parts(alloc, place, &parts, report)
+    report_parts(alloc, place, &parts, report)
 }
 
 /// Reports a card that isn't carried, with the reason in words.
@@ -304,7 +307,7 @@ fn report_refused<E: Write, T: Write>(
 ) -> Result<(), ConversionFault> {
     let words = format!(in alloc; "not carried: {why}")?;
     let line = card_line(alloc, place, words.as_str())?;
-    report.tell_all(alloc, Weight::NotCarried, line.as_str())
+    report.write_to_both(alloc, Weight::NotCarried, line.as_str())
 }
 
 /// Reports a card that would be too long, and which of its lines is the longest.
@@ -330,7 +333,7 @@ fn report_other<E: Write, T: Write>(
 ) -> Result<(), ConversionFault> {
     let line = place.line;
     let text = format!(in alloc; "line {line}: not carried: no card begins here")?;
-    report.tell_all(alloc, Weight::NotCarried, text.as_str())
+    report.write_to_both(alloc, Weight::NotCarried, text.as_str())
 }
 
 /// Reports what became of a piece at the place. `fields` are those of its row, and `media` says

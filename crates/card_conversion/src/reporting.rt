@@ -1,7 +1,8 @@
 //! `Report`: what is said of a conversion, and where.
 
 use crate::fault::ConversionFault;
-use crate::form_changes::{FormChanges, FormKind, counted};
+use crate::form_changes::{FormChanges, FormKind};
+use crate::guesses::guess_words;
 use crate::ledger::Summary;
 use crate::media_sink::MediaDelivery;
 use base_types::{NoMemory, Text};
@@ -63,6 +64,10 @@ pub struct Report<E, T> {
     guessed_cells: u64,
     /// The number of such lines of cards.
     guessed_lines: u64,
+    /// Whether the lines of the file that is converted end with a carriage return alone.
+    are_returns: bool,
+    /// Whether something was read as Windows-1252 of a file whose lines do.
+    are_guessed_returns: bool,
     /// The number of cards of which a line or a cell is kept aside.
     aside: u64,
     /// The number of pictures and sounds that were written beside their cards.
@@ -96,6 +101,8 @@ impl<E: Write, T: Write> Report<E, T> {
             forms: FormChanges::new(alloc),
             guessed_cells: 0,
             guessed_lines: 0,
+            are_returns: false,
+            are_guessed_returns: false,
             aside: 0,
             media: 0,
             lost_media: 0,
@@ -107,6 +114,12 @@ impl<E: Write, T: Write> Report<E, T> {
     pub fn set_source(&mut self, alloc: Global, name: &str) -> Result<(), NoMemory> {
         self.source = format!(in alloc; "{name}: ")?;
         Ok(())
+    }
+
+    /// Says whether the lines of the file that is converted from now on end with a carriage return
+    /// alone, as those of programs of Mac OS did.
+    pub fn set_line_ends(&mut self, are_returns: bool) {
+        self.are_returns = are_returns;
     }
 
     /// What stands before each line.
@@ -134,7 +147,7 @@ impl<E: Write, T: Write> Report<E, T> {
     }
 
     /// Writes a line to the reader alone, and keeps it if it is the first of its weight.
-    pub(crate) fn tell(
+    pub(crate) fn write_line(
         &mut self,
         alloc: Global,
         weight: Weight,
@@ -154,13 +167,13 @@ impl<E: Write, T: Write> Report<E, T> {
     }
 
     /// Writes a line to the reader and to the file.
-    pub(crate) fn tell_all(
+    pub(crate) fn write_to_both(
         &mut self,
         alloc: Global,
         weight: Weight,
         line: &str,
     ) -> Result<(), ConversionFault> {
-        self.tell(alloc, weight, line)?;
+        self.write_line(alloc, weight, line)?;
         self.list_line(alloc, line)
     }
 
@@ -187,11 +200,19 @@ impl<E: Write, T: Write> Report<E, T> {
     /// Counts cells that were read as Windows-1252.
     pub(crate) fn count_guessed_cells(&mut self, count: u64) {
         self.guessed_cells = self.guessed_cells.saturating_add(count);
+        self.note_returns();
     }
 
-    /// Counts a line of a card that was read as Windows-1252.
-    pub(crate) fn count_guessed_line(&mut self) {
-        self.guessed_lines = self.guessed_lines.saturating_add(1);
+    /// Counts lines of a card that were read as Windows-1252.
+    pub(crate) fn count_guessed_lines(&mut self, count: u64) {
+        self.guessed_lines = self.guessed_lines.saturating_add(count);
+        self.note_returns();
+    }
+
+    /// Remembers that something was read as Windows-1252 where lines end with a carriage return
+    /// alone, if they do.
+    fn note_returns(&mut self) {
+        self.are_guessed_returns = self.are_guessed_returns || self.are_returns;
     }
 
     /// Counts a card of which something is kept aside.
@@ -230,16 +251,20 @@ impl<E: Write, T: Write> Report<E, T> {
         Ok(text)
     }
 
-    /// The lines that say how much was read as Windows-1252.
+    /// The lines that say how much was read as Windows-1252, and that it may be Mac Roman if lines
+    /// end as those of a Mac did.
     fn guessed_text(&self, alloc: Global) -> Result<String, NoMemory> {
         let mut text = guessed_line(alloc, self.guessed_cells, "cell")?;
         text.push_str(guessed_line(alloc, self.guessed_lines, "line")?.as_str())?;
+        if self.are_guessed_returns {
+            text.push_str(MAC_ROMAN_WORDS)?;
+        }
         Ok(text)
     }
 
     /// Writes the end: the numbers of changes of form and of what was read as Windows-1252, the line
-    /// to look at first, and the numbers of cards and of pictures and sounds beside them. `files` is the number of files of cards or
-    /// rows that were made, if the conversion made files.
+    /// to look at first, and the numbers of cards and of pictures and sounds beside them. `files` is
+    /// the number of files of cards or rows that were made, if the conversion made files.
     pub fn finish(
         &mut self,
         alloc: Global,
@@ -279,14 +304,20 @@ fn media_things(count: u64) -> &'static str {
     }
 }
 
+/// What is said where something was read as Windows-1252 of a file whose lines end with a carriage
+/// return alone.
+const MAC_ROMAN_WORDS: &str =
+    "lines end with CR alone, so the letters may be Mac Roman: if a name is \
+     wrong, convert with --charset macintosh\n";
+
 /// The line that says how many things were read as Windows-1252. Empty for none.
 fn guessed_line(alloc: Global, count: u64, thing: &str) -> Result<String, NoMemory> {
     if count == 0 {
         return Ok(String::new(alloc));
     }
-    let things = counted(alloc, count, thing)?;
-    let are = if count == 1 { "isn't" } else { "aren't" };
-    Ok(format!(in alloc; "read as Windows-1252: {things} that {are} UTF-8\n")?)
+    let words = guess_words(alloc, count, thing)?;
+    let words = words.as_str();
+    Ok(format!(in alloc; "{words}\n")?)
 }
 
 /// The front of the last line of the report.

@@ -23,7 +23,7 @@ use std::io::{Read, Write};
 
 /// Gives the pictures and sounds to their sink that the card of a piece is carried without, and
 /// reports what became of the piece. `fields` are those of its row.
-fn tell_piece<P: MediaSink, E: Write, T: Write>(
+fn report_one_piece<P: MediaSink, E: Write, T: Write>(
     alloc: Global,
     place: Place,
     piece: &[u8],
@@ -70,7 +70,7 @@ pub(crate) fn convert_piece<O: CardSink, P: MediaSink, E: Write, T: Write>(
         × PutsOfFate P.takes piece.now fate all media.old media.new) }
 {
     let fate = take_piece(alloc, uids, place.card, piece, sink)?;
-    match tell_piece(alloc, place, piece, &fate, fields, media, report) {
+    match report_one_piece(alloc, place, piece, &fate, fields, media, report) {
         Ok(()) => Ok(fate),
         Err(fault) => {
             drop(fate);

@@ -13,7 +13,7 @@ use crate::row_files::RowFiles;
 use crate::several::{check_more, content_text, convert_all, text_above};
 use base_types::Text;
 use card_conversion::laws::{written_cards_differ, written_rows_are_read};
-use card_conversion::{ConversionFault, Report, RowsSink, Summary};
+use card_conversion::{ConversionFault, Report, RowsSink, Summary, ends_with_returns};
 use contact_columns::left_out_columns;
 use std::alloc::Global;
 use std::fs;
@@ -68,7 +68,7 @@ fn wanted_report<F: Files>(
 }
 
 /// Tells once which columns are left out.
-fn tell_left_out<E: Write, T: Write>(
+fn report_left_out<E: Write, T: Write>(
     alloc: Global,
     wanted: ConvertOptions<'_>,
     report: &mut Report<E, T>,
@@ -87,7 +87,7 @@ fn tell_left_out<E: Write, T: Write>(
 
 /// Writes the end of the report. `files` is the number of files that were made, if the cards went
 /// to files.
-fn tell_end<E: Write, T: Write>(
+fn report_end<E: Write, T: Write>(
     alloc: Global,
     wanted: ConvertOptions<'_>,
     summary: Summary,
@@ -114,7 +114,7 @@ fn convert_to_row_files<F: Files, R: Read + Drop, E: Write>(
     let octets_max = wanted.octets.unwrap_or(OCTETS_MAX);
     let mut sink = RowFiles::new(files, front, rows_max, octets_max);
     let summary = convert_all(alloc, files, wanted, content, text, &mut sink, report)?;
-    tell_end(alloc, wanted, summary, Some(sink.count), report)?;
+    report_end(alloc, wanted, summary, Some(sink.count), report)?;
     Ok(summary)
 }
 
@@ -130,7 +130,7 @@ fn convert_to_card_files<F: Files, R: Read + Drop, E: Write>(
 ) -> Result<Summary, ConvertStop> {
     let mut sink = CardFiles { files, folder };
     let summary = convert_all(alloc, files, wanted, content, text, &mut sink, report)?;
-    tell_end(alloc, wanted, summary, Some(summary.written), report)?;
+    report_end(alloc, wanted, summary, Some(summary.written), report)?;
     Ok(summary)
 }
 
@@ -155,7 +155,7 @@ fn convert_to_writer<F: Files, R: Read + Drop, W: Write, E: Write>(
         return Err(stop_of(alloc, ConversionFault::from(fault), wanted.file));
     }
     let summary = convert_all(alloc, files, wanted, content, text, rows, report)?;
-    tell_end(alloc, wanted, summary, None, report)?;
+    report_end(alloc, wanted, summary, None, report)?;
     Ok(summary)
 }
 
@@ -202,8 +202,9 @@ fn convert_text<F: Files, R: Read + Drop, W: Write, E: Write>(
     let content = with_dates(alloc, files, wanted, content)?;
     check_more(alloc, files, wanted)?;
     report.set_file(wanted_report(alloc, files, wanted)?);
-    tell_left_out(alloc, wanted, report)?;
+    report_left_out(alloc, wanted, report)?;
     let above = text_above(alloc, content, head.as_slice())?;
+    report.set_line_ends(ends_with_returns(head.as_slice()));
     let text = content_text(above.as_slice(), head.as_slice(), content, reader);
     convert_opened(alloc, files, wanted, content, text, rows, report)
 }

@@ -138,6 +138,7 @@ fn convert_next<F: Files, O: CardSink, E: Write>(
     let (head, content) = read_content(alloc, wanted, &mut reader)?;
     let content = with_dates(alloc, files, wanted, content)?;
     let above = text_above(alloc, content, head.as_slice())?;
+    report.set_line_ends(ends_with_returns(head.as_slice()));
     let text = content_text(above.as_slice(), head.as_slice(), content, reader);
     convert_content::<F, _, O, E>(alloc, files, course, wanted, content, text, sink, report)
 }

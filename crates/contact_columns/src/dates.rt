@@ -111,8 +111,9 @@ fn days_of(month: u8) -> u8 {
     }
 }
 
-/// The date of these numbers, if there is one.
+/// The date of these numbers, if there is one. A year of zeros is none.
 fn valid_date(year: Option<u16>, month: u8, day: u8) -> Option<Date> {
+    let year = if year == Some(0) { None } else { year };
     if day > 0 && day <= days_of(month) {
         Some(Date { year, month, day })
     } else {

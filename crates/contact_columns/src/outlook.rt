@@ -19,7 +19,8 @@ fn net_meaning<'a>(name: &str, key: &'a str) -> Option<Meaning<'a>> {
 /// The types of the telephones in a column (RFC 6350, section 6.4.1).
 fn phone_types(name: &str) -> Option<&'static str> {
     match name {
-        "Business Phone" | "Business Phone 2" | "Company Main Phone" => Some("work"),
+        "Business Phone" | "Business Phone 2" => Some("work"),
+        "Company Main Phone" => Some("work,x-main"),
         "Home Phone" | "Home Phone 2" => Some("home"),
         "Mobile Phone" => Some("cell"),
         "Business Fax" => Some("work,fax"),
@@ -33,7 +34,8 @@ fn phone_types(name: &str) -> Option<&'static str> {
         "ISDN" => Some("x-isdn"),
         "Radio Phone" => Some("x-radio"),
         "Telex" => Some("x-telex"),
-        "Other Phone" | "Primary Phone" => Some(""),
+        "Primary Phone" => Some("x-primary"),
+        "Other Phone" => Some(""),
         _ => None,
     }
 }

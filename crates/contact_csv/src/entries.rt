@@ -109,10 +109,44 @@ fn mail_separator(cell: &str) -> &'static str {
     " ::: "
 }
 
+/// The least digits of a telephone number that is looked for beside another in a cell.
+const NUMBER_DIGITS_MIN: usize = 5;
+
+/// Whether the text has as many digits as a telephone number.
+fn has_number(text: &str) -> bool {
+    let octets = text.as_bytes();
+    octets.iter().filter(|octet| octet.is_ascii_digit()).count() >= NUMBER_DIGITS_MIN
+}
+
+/// Whether the text begins as a whole telephone number, and not as the end of one.
+fn begins_number(text: &str) -> bool {
+    let text = text.trim_start();
+    text.starts_with("+") || text.starts_with("0") || text.starts_with("(")
+}
+
+/// Whether the separator has a telephone number before it and after it.
+fn separates_numbers(cell: &str, separator: &str) -> bool {
+    match cell.split_once(separator) {
+        Some((first, rest)) => has_number(first) && begins_number(rest) && has_number(rest),
+        None => false,
+    }
+}
+
+/// What separates several telephone numbers in a cell that people have filled.
+fn number_separator(cell: &str) -> &'static str {
+    for separator in [";", "\n", " / "] {
+        if separates_numbers(cell, separator) {
+            return separator;
+        }
+    }
+    " ::: "
+}
+
 /// What separates several values in a cell of the property; empty if a cell has one value.
 fn separator_of(property: &str, cell: &str) -> &'static str {
     match property {
         "EMAIL" if !cell.contains(" ::: ") => mail_separator(cell),
+        "TEL" if !cell.contains(" ::: ") => number_separator(cell),
         "EMAIL" | "TEL" | "URL" | "RELATED" => " ::: ",
         "CATEGORIES" if cell.contains(" ::: ") => " ::: ",
         "CATEGORIES" => ";",
@@ -197,8 +231,14 @@ fn push_parts(
         set_value(alloc, &mut line, cell, made.dates)?;
         return made.push(alloc, line);
     }
+    let is_trimmed = property == "TEL" && separator != " ::: ";
     for part in cell.split(separator) {
-        push_part(alloc, made, model, part)?;
+        push_part(
+            alloc,
+            made,
+            model,
+            if is_trimmed { part.trim() } else { part },
+        )?;
     }
     Ok(())
 }

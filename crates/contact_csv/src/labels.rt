@@ -18,6 +18,18 @@ pub(crate) fn label_types(label: &str) -> &'static [&'static str]
         &["home", "fax"]
     } else if label.eq_ignore_ascii_case("work fax") {
         &["work", "fax"]
+    } else if label.eq_ignore_ascii_case("fax") {
+        &["fax"]
+    } else if label.eq_ignore_ascii_case("other fax") {
+        &["fax"]
+    } else if label.eq_ignore_ascii_case("cell") {
+        &["cell"]
+    } else if label.eq_ignore_ascii_case("mobil") {
+        &["cell"]
+    } else if label.eq_ignore_ascii_case("privat") {
+        &["home"]
+    } else if label.eq_ignore_ascii_case("arbeit") {
+        &["work"]
     } else if label.eq_ignore_ascii_case("spouse") {
         &["spouse"]
     } else if label.eq_ignore_ascii_case("child") {

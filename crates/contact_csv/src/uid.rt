@@ -143,32 +143,32 @@ fn identifier_uid(alloc: Global, column: &Column, text: &str) -> Result<Option<S
     Ok(None)
 }
 
-/// The UID that the first cell gives that may be one, in a column of UIDs.
-fn first_given(
+/// The UID that a cell gives: itself in a column of UIDs, or with `by_identifier` the one that tells
+/// its row apart.
+fn cell_own_uid(
     alloc: Global,
-    columns: &[Column],
-    extra: &Column,
-    cells: &[Text],
+    column: &Column,
+    text: &str,
+    by_identifier: bool,
 ) -> Result<Option<String>, NoMemory>
-    requires { extra.now ≡ extra_column }
     ensures { IfOk result (λ own. IfSome own
-        (λ uid. IsRowUid columns.now cells.now (string_bytes uid))) }
+        (λ uid. IsOwnUid column.now text.now (string_bytes uid))) }
 {
-    for place in 0..cells.len() {
-        let column = column_at(columns, place, extra);
-        if let Some(uid) = given_uid(alloc, column, cells[place].as_str())? {
-            return Ok(Some(uid));
-        }
+    if by_identifier {
+        identifier_uid(alloc, column, text)
+    } else {
+        given_uid(alloc, column, text)
     }
-    Ok(None)
 }
 
-/// The UID of the first cell that tells the row apart, if it has a value.
-fn first_identifier(
+/// The UID of the first cell that gives one: in a column of UIDs, or with `by_identifier` in one
+/// that tells rows apart.
+fn first_own_uid(
     alloc: Global,
     columns: &[Column],
     extra: &Column,
     cells: &[Text],
+    by_identifier: bool,
 ) -> Result<Option<String>, NoMemory>
     requires { extra.now ≡ extra_column }
     ensures { IfOk result (λ own. IfSome own
@@ -176,7 +176,7 @@ fn first_identifier(
 {
     for place in 0..cells.len() {
         let column = column_at(columns, place, extra);
-        if let Some(uid) = identifier_uid(alloc, column, cells[place].as_str())? {
+        if let Some(uid) = cell_own_uid(alloc, column, cells[place].as_str(), by_identifier)? {
             return Ok(Some(uid));
         }
     }
@@ -195,9 +195,9 @@ pub(crate) fn own_uid(
     ensures { IfOk result (λ own. IfSome own
         (λ uid. IsRowUid columns.now cells.now (string_bytes uid))) }
 {
-    match first_given(alloc, columns, extra, cells)? {
+    match first_own_uid(alloc, columns, extra, cells, false)? {
         Some(uid) => Ok(Some(uid)),
-        None => first_identifier(alloc, columns, extra, cells),
+        None => first_own_uid(alloc, columns, extra, cells, true),
     }
 }
 

@@ -7,11 +7,13 @@ use Rattle.convert_posts.specs.declared.part.CardRow.{CardRow}
 use Rattle.convert_posts.specs.declared.part.Part.{Part}
 use Rattle.convert_posts.specs.declared.part.ReportLine.{ReportLine}
 
-line_values_have_none : (lines : List ReportLine) → items_have_float (items_of (map line_value lines)) ≡ false
+line_values_have_none : (lines : List ReportLine)
+    → items_have_float (items_of (map line_value lines)) ≡ false
 line_values_have_none [] = refl
 line_values_have_none (line ∷ lines) = line_values_have_none lines
 
-row_values_have_none : (rows : List CardRow) → items_have_float (items_of (map row_value rows)) ≡ false
+row_values_have_none : (rows : List CardRow) → items_have_float (items_of (map row_value rows))
+    ≡ false
 row_values_have_none [] = refl
 row_values_have_none (row ∷ rows) = row_values_have_none rows
 

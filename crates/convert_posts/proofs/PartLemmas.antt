@@ -8,14 +8,18 @@ use Rattle.convert_posts.specs.declared.part.Kind.TheVariants.{Cards, Rows}
 use Rattle.convert_posts.specs.declared.part.Part.{Part}
 
 module _ (body : List ℕ) (taken : ℕ) (summary : Summary) (rows : List CardRow) (part : Part)
-    (within : taken ≤ length body) (taken_is : part.taken ≡ taken) (counts : part.summary ≡ summary) (cards : part.rows ≡ rows) where
-  pub cards_are_part : (returns : Bool) → part.kind ≡ Cards → IsOfPieces (Some (with_line_feeds returns (take taken body))) summary rows → IsPart body part
+    (within : taken ≤ length body) (taken_is : part.taken ≡ taken) (counts : part.summary ≡ summary)
+    (cards : part.rows ≡ rows) where
+  pub cards_are_part : (returns : Bool) → part.kind ≡ Cards
+      → IsOfPieces (Some (with_line_feeds returns (take taken body))) summary rows
+      → IsPart body part
   cards_are_part returns kind pieces = record {
     within = rw taken_is within;
     converted = of_cards returns kind (rw (taken_is, counts, cards) pieces);
   }
 
-  pub export_is_part : (text : List ℕ) → part.kind ≡ Rows → IsOfPieces (Some text) summary rows → IsPart body part
+  pub export_is_part : (text : List ℕ) → part.kind ≡ Rows → IsOfPieces (Some text) summary rows
+      → IsPart body part
   export_is_part text kind pieces = record {
     within = rw taken_is within;
     converted = of_export text kind (rw (counts, cards) pieces);

@@ -57,13 +57,13 @@ fn order_of(dates: Dates) -> DateOrder {
 
 /// The lines above the header that are told with a part: all with the first part, which begins with
 /// them, and none with a later one.
-fn lines_told<'a>(asked: &Asked, header: &'a Header<'_>) -> &'a [AboveLine] {
+fn reported_lines<'a>(asked: &Asked, header: &'a Header<'_>) -> &'a [AboveLine] {
     if asked.line > 1 { &[] } else { &header.above }
 }
 
 /// Whether lines above the header are told with a part.
-fn tells_lines(asked: &Asked, header: &Header<'_>) -> bool {
-    let lines = lines_told(asked, header);
+fn reports_lines(asked: &Asked, header: &Header<'_>) -> bool {
+    let lines = reported_lines(asked, header);
     lines.iter().any(|line| *line != AboveLine::Blank)
 }
 
@@ -125,7 +125,7 @@ fn convert_contacts_in(
         return Ok(None);
     };
     let columns = mapped_columns(alloc, contacts.columns(), header)?;
-    let above = lines_told(asked, &header);
+    let above = reported_lines(asked, &header);
     match convert_rows(alloc, above, contacts, origin, starts)? {
         Some(converted) => Ok(Some(Contacts {
             converted,
@@ -276,7 +276,7 @@ pub(crate) fn contacts_part(
     ensures { IfOk result (λ done. IfSome done (IsPart body.now)) }
 {
     let rows = cut_body(alloc, body, header, asked.more)?;
-    if rows.cut.passed.is_some() && tells_lines(asked, &header) {
+    if rows.cut.passed.is_some() && reports_lines(asked, &header) {
         return header_part(alloc, asked, body, header, &rows);
     }
     if asked.more && rows.cut.is_empty() {

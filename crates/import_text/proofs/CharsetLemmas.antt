@@ -1,11 +1,15 @@
 -- Texts of octets in a character set: one more character.
-use Rattle.std.proofs.Common.{◌≡◌, ℕ, ◌<◌, ◌+◌, List, [], ◌∷◌, ◌++◌, length, take, map, get_or, sym, ap, ◌∙◌}
+use Rattle.std.proofs.Common.{◌≡◌, ℕ, ◌<◌, ◌+◌, List, [], ◌∷◌, ◌++◌, length, take, map, get_or, sym}
+use Rattle.std.proofs.Common.{ap, ◌∙◌}
 use Rattle.std.specs.Char.{encode_utf8}
 use Rattle.std.specs.Str.{encode_utf8_all}
 use Rattle.std.proofs.lemmas.List.{take_more, append-nil, map-append}
 use Rattle.std.proofs.lemmas.Str.{encodes-append}
 
-pub one_more : (char : ℕ → ℕ) (octets : List ℕ) (index : ℕ) (text : List ℕ) (c : ℕ) → index < length octets → c ≡ char (get_or octets index 0) → text ≡ encode_utf8_all (map char (take index octets)) → text ++ encode_utf8 c ≡ encode_utf8_all (map char (take (index + 1) octets))
+pub one_more : (char : ℕ → ℕ) (octets : List ℕ) (index : ℕ) (text : List ℕ) (c : ℕ)
+    → index < length octets → c ≡ char (get_or octets index 0)
+    → text ≡ encode_utf8_all (map char (take index octets))
+    → text ++ encode_utf8 c ≡ encode_utf8_all (map char (take (index + 1) octets))
 one_more char octets index text c within is so_far =
     let before = map char (take index octets) in
     let next = char (get_or octets index 0) in

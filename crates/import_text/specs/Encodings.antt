@@ -47,3 +47,7 @@ damaged_text octets =
 -- octets that are UTF-8 are the text
 unfoldable pub text_of : List ℕ → List ℕ
 text_of octets = if is_utf8 octets then octets else damaged_text octets
+
+-- The octets aren't UTF-8, and `text_of` takes them for Windows-1252.
+abbrev pub is_guessed : List ℕ → Bool
+is_guessed octets = not (is_utf8 octets) && not (is_mostly_read (utf8_lossy octets))

@@ -8,6 +8,7 @@ use crate::iso_tables::{
     ISO_8859_2, ISO_8859_3, ISO_8859_4, ISO_8859_5, ISO_8859_6, ISO_8859_7, ISO_8859_8,
     ISO_8859_10, ISO_8859_13, ISO_8859_14, ISO_8859_15, ISO_8859_16, KOI8_R, KOI8_U,
 };
+use crate::mac_tables::MAC_ROMAN;
 use crate::windows_tables::{
     WINDOWS_874, WINDOWS_1250, WINDOWS_1251, WINDOWS_1253, WINDOWS_1254, WINDOWS_1255,
     WINDOWS_1256, WINDOWS_1257, WINDOWS_1258,
@@ -26,7 +27,7 @@ pub struct Charset {
 }
 
 /// Each character set with its names, in lower case and without hyphens and the like.
-const CHARSETS: [(&str, u8, &[char]); 24] = [
+const CHARSETS: [(&str, u8, &[char]); 25] = [
     ("iso88591 latin1 l1 windows1252 cp1252", 128, &WINDOWS_1252),
     ("iso88592 latin2 l2", 160, &ISO_8859_2),
     ("iso88593 latin3 l3", 160, &ISO_8859_3),
@@ -51,6 +52,11 @@ const CHARSETS: [(&str, u8, &[char]); 24] = [
     ("windows1256 cp1256", 128, &WINDOWS_1256),
     ("windows1257 cp1257", 128, &WINDOWS_1257),
     ("windows1258 cp1258", 128, &WINDOWS_1258),
+    (
+        "macintosh macroman xmacroman mac csmacintosh",
+        128,
+        &MAC_ROMAN,
+    ),
 ];
 
 /// The letters, in lower case, and the digits of a name.

@@ -1,9 +1,10 @@
 //! Octets as text: UTF-8 where they are, if only in part, and otherwise Windows-1252, which extends
 //! Latin-1 (ISO/IEC 8859-1).
 ghost use Rattle.std.specs.Prelude.{◌≡◌, IfOk, count_by, map, string_bytes};
-ghost use Rattle.std.specs.Str.{chars, encode_utf8_all};
-ghost use Rattle.import_text.specs.Encodings.{damaged_text, is_lost, is_mostly_read, is_wide};
-ghost use Rattle.import_text.specs.Encodings.{windows_char, text_of};
+ghost use Rattle.std.specs.Str.{chars, encode_utf8_all, is_utf8};
+ghost use Rattle.std.specs.Str.Lossy.{utf8_lossy};
+ghost use Rattle.import_text.specs.Encodings.{damaged_text, is_guessed, is_lost, is_mostly_read};
+ghost use Rattle.import_text.specs.Encodings.{is_wide, windows_char, text_of};
 
 use crate::charsets::{Charset, read_charset};
 use base_types::NoMemory;
@@ -66,6 +67,34 @@ fn is_mostly_read(text: &str) -> bool
     ensures { result ≡ is_mostly_read text.now }
 {
     count_lost(text) < count_wide(text)
+}
+
+fn is_utf8(octets: &[u8]) -> bool
+    ensures { result ≡ is_utf8 octets.now }
+{
+    match str::from_utf8(octets) {
+        Ok(_) => true,
+        Err(_) => false,
+    }
+}
+
+/// Whether more characters of the text of the octets aren't ASCII than are lost.
+fn are_mostly_read(alloc: Global, octets: &[u8]) -> Result<bool, NoMemory>
+    ensures { IfOk result (λ mostly. mostly ≡ is_mostly_read (utf8_lossy octets.now)) }
+{
+    let text = String::from_utf8_lossy(alloc, octets)?;
+    Ok(is_mostly_read(text.as_str()))
+}
+
+/// Whether the octets aren't UTF-8, and `read_text` takes them for Windows-1252. The only `Err` is
+/// out of memory.
+pub fn is_guessed(alloc: Global, octets: &[u8]) -> Result<bool, NoMemory>
+    ensures { IfOk result (λ guessed. guessed ≡ is_guessed octets.now) }
+{
+    if is_utf8(octets) {
+        return Ok(false);
+    }
+    Ok(!are_mostly_read(alloc, octets)?)
 }
 
 /// The text of octets that aren't UTF-8: that of UTF-8 which was damaged, or of Windows-1252.

@@ -9,6 +9,7 @@ mod filling;
 mod iso_tables;
 mod line_head;
 mod lines;
+mod mac_tables;
 mod octets;
 mod pieces;
 mod quoted_printable;
@@ -22,7 +23,7 @@ mod windows_tables;
 mod words;
 
 pub use charsets::{Charset, charset_named, read_charset};
-pub use encodings::{read_text, read_windows1252};
+pub use encodings::{is_guessed, read_text, read_windows1252};
 pub use filling::{fill, joined};
 pub use line_head::is_encoded_as;
 pub use lines::{Folding, read_raw_lines};

@@ -10,9 +10,13 @@ use Rattle.vcard_import.specs.Delimiters.{is_delimiter}
 use Rattle.vcard_import.specs.Labels.{fits}
 use Rattle.vcard_import.specs.LeftOut.{may_go}
 
-more : (raws : List RawLine) (raw : RawLine) (line : List Line) (change : List Change) → BecomeCard (raw ∷ []) line change → (card : List Line) (changes : List Change) → BecomeCard raws card changes → BecomeCard (raws ++ raw ∷ []) (card ++ line) (changes ++ change)
+more : (raws : List RawLine) (raw : RawLine) (line : List Line) (change : List Change)
+    → BecomeCard (raw ∷ []) line change → (card : List Line) (changes : List Change)
+    → BecomeCard raws card changes → BecomeCard (raws ++ raw ∷ []) (card ++ line)
+    (changes ++ change)
 more [] raw line change last card changes b = rw (b.0, b.1) last
-more (first ∷ raws) raw line change last card changes (inl b) = inl (b.0, more raws raw line change last card changes b.1)
+more (first ∷ raws) raw line change last card changes (inl b) =
+    inl (b.0, more raws raw line change last card changes b.1)
 more (first ∷ raws) raw line change last card changes (inr (inl k)) = inr (inl (record {
   line = k.line;
   others = k.others ++ line;
@@ -41,21 +45,57 @@ more (first ∷ raws) raw line change last card changes (inr (inr (inl k))) = in
   rest = more raws raw line change last k.others k.more k.rest;
 })))
 
-pub left_out : (raws : List RawLine) (raw : RawLine) (card : List Line) (changes : List Change) → is_delimiter raw.octets ≡ true → BecomeCard raws card changes → BecomeCard (raws ++ raw ∷ []) card changes
+pub left_out : (raws : List RawLine) (raw : RawLine) (card : List Line) (changes : List Change)
+    → is_delimiter raw.octets ≡ true → BecomeCard raws card changes
+    → BecomeCard (raws ++ raw ∷ []) card changes
 left_out raws raw card changes d b =
     subst (λ c. BecomeCard (raws ++ raw ∷ []) c changes) (append-nil card)
     (subst (λ c. BecomeCard (raws ++ raw ∷ []) (card ++ []) c) (append-nil changes)
     (more raws raw [] [] (inl (d, (refl, refl))) card changes b))
 
-pub kept : (raws : List RawLine) (raw : RawLine) (card : List Line) (changes : List Change) (line : Line) → AreLine raw.octets line → BecomeCard raws card changes → BecomeCard (raws ++ raw ∷ []) (card ++ line ∷ []) changes
-kept raws raw card changes line same b = subst (λ c. BecomeCard (raws ++ raw ∷ []) (card ++ line ∷ []) c) (append-nil changes)
-    (more raws raw (line ∷ []) [] (inr (inl (record { line = line; others = []; card_is = refl; same = same; rest = (refl, refl) }))) card changes b)
+pub kept : (raws : List RawLine) (raw : RawLine) (card : List Line) (changes : List Change) (line :
+    Line) → AreLine raw.octets line → BecomeCard raws card changes
+    → BecomeCard (raws ++ raw ∷ []) (card ++ line ∷ []) changes
+kept raws raw card changes line same b =
+    subst (λ c. BecomeCard (raws ++ raw ∷ []) (card ++ line ∷ []) c) (append-nil changes)
+    (more raws raw (line ∷ []) [] (inr (inl (record {
+      line = line;
+      others = [];
+      card_is = refl;
+      same = same;
+      rest = (refl, refl);
+    }))) card changes b)
 
-pub changed : (raws : List RawLine) (raw : RawLine) (card : List Line) (changes : List Change) (line : Line) (change : Change) → (AreLine raw.octets line → ⊥) → change.place ≡ raw.place → fits change.kind line ≡ true → BecomeCard raws card changes → BecomeCard (raws ++ raw ∷ []) (card ++ line ∷ []) (changes ++ change ∷ [])
+pub changed : (raws : List RawLine) (raw : RawLine) (card : List Line) (changes : List Change)
+    (line : Line) (change : Change) → (AreLine raw.octets line → ⊥) → change.place ≡ raw.place
+    → fits change.kind line ≡ true → BecomeCard raws card changes
+    → BecomeCard (raws ++ raw ∷ []) (card ++ line ∷ []) (changes ++ change ∷ [])
 changed raws raw card changes line change differs place kind b =
-    more raws raw (line ∷ []) (change ∷ []) (inr (inr (inl (record { line = line; others = []; card_is = refl; differs = differs; change = change; more = []; changes_are = refl; place = place; kind = kind; rest = (refl, refl) })))) card changes b
+    more raws raw (line ∷ []) (change ∷ [])
+    (inr (inr (inl (record {
+      line = line;
+      others = [];
+      card_is = refl;
+      differs = differs;
+      change = change;
+      more = [];
+      changes_are = refl;
+      place = place;
+      kind = kind;
+      rest = (refl, refl);
+    })))) card changes b
 
-pub gone : (raws : List RawLine) (raw : RawLine) (card : List Line) (changes : List Change) (change : Change) → change.place ≡ raw.place → may_go change.kind raw ≡ true → BecomeCard raws card changes → BecomeCard (raws ++ raw ∷ []) card (changes ++ change ∷ [])
+pub gone : (raws : List RawLine) (raw : RawLine) (card : List Line) (changes : List Change)
+    (change : Change) → change.place ≡ raw.place → may_go change.kind raw ≡ true
+    → BecomeCard raws card changes → BecomeCard (raws ++ raw ∷ []) card (changes ++ change ∷ [])
 gone raws raw card changes change place may b =
     subst (λ c. BecomeCard (raws ++ raw ∷ []) c (changes ++ change ∷ [])) (append-nil card)
-    (more raws raw [] (change ∷ []) (inr (inr (inr (record { change = change; more = []; changes_are = refl; place = place; may_go = may; rest = (refl, refl) })))) card changes b)
+    (more raws raw [] (change ∷ []) (inr
+    (inr (inr (record {
+      change = change;
+      more = [];
+      changes_are = refl;
+      place = place;
+      may_go = may;
+      rest = (refl, refl);
+    })))) card changes b)

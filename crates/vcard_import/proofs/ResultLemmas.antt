@@ -1,5 +1,6 @@
 -- Results that can't be equal, and cases of what a conversion is.
-use Rattle.std.proofs.Common.{◌≡◌, ◌≢◌, ◌⊎◌, Bool, true, false, List, [], ℕ, sym, ap, inr, Ok, Err, Result}
+use Rattle.std.proofs.Common.{◌≡◌, ◌≢◌, ◌⊎◌, Bool, true, false, List, [], ℕ, sym, ap, inr, Ok, Err}
+use Rattle.std.proofs.Common.{Result}
 use Rattle.std.specs.Prelude.{IfOk}
 use Rattle.std.proofs.lemmas.Bool.{false≢true}
 use Rattle.vcard_lines.specs.declared.fault.CardFault.{CardFault}
@@ -33,6 +34,9 @@ err_is_no_ok fault lines e = absurd (false≢true (ap tells_ok e))
 pub same_ok : (a b : List Line) → ok_lines a ≡ ok_lines b → a ≡ b
 same_ok a b e = ap lines_in e
 
-pub ok_either : (octets : List ℕ) (made : Result Conversion ImportFault) → IfOk made (λ m. IsConverted octets m.card m.changes) → IfOk made (λ m. (Spells octets m.card × (m.changes ≡ [])) ⊎ IsConverted octets m.card m.changes)
+pub ok_either : (octets : List ℕ) (made : Result Conversion ImportFault)
+    → IfOk made (λ m. IsConverted octets m.card m.changes)
+    → IfOk made (λ m. (Spells octets m.card × (m.changes ≡ []))
+    ⊎ IsConverted octets m.card m.changes)
 ok_either octets (Ok m) q = inr q
 ok_either octets (Err fault) q = tt

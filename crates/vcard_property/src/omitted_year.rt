@@ -1,5 +1,5 @@
 //! Dates without a year, as iOS writes them in vCard 3.0: the year is 1604 or any other, and the
-//! parameter `X-APPLE-OMIT-YEAR` says which.
+//! parameter `X-APPLE-OMIT-YEAR` says which. Other programs write a year of zeros.
 
 use crate::dates::{basic_date, has_basic_date};
 use crate::property::Property;
@@ -45,8 +45,21 @@ fn without_omitted_year(alloc: Global, params: Items<Param>) -> Result<Items<Par
     Ok(others)
 }
 
-/// Omits the year of a date if a parameter says that it is none, and then the parameter.
+/// The year that counts as none without a parameter.
+const NO_YEAR: &str = "0000";
+
+/// Omits a year of zeros.
+fn omit_zeros(alloc: Global, property: &mut Property) -> Result<(), NoMemory> {
+    if let Some(value) = date_without_year(alloc, property.value.as_str(), NO_YEAR)? {
+        property.value = value;
+    }
+    Ok(())
+}
+
+/// Omits the year of a date if it has only zeros; or if a parameter says that it is none, and then
+/// the parameter.
 pub(crate) fn omit_year(alloc: Global, property: &mut Property) -> Result<(), NoMemory> {
+    omit_zeros(alloc, property)?;
     let Some(year) = omitted_year(property.params.as_slice()) else {
         return Ok(());
     };

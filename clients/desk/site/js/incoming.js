@@ -21,7 +21,8 @@ export function isOfContent(text) {
 
 /** A line of the report without what is of one card alone: lines of one kind are counted. */
 export function kindOfLine(text) {
-  return text.replace(/(kept under|kept as text:|not carried:) .*$/s, "$1").replace(/:$/, "");
+  const front = /(kept under|kept as text:|not carried:|read as Windows-1252:) .*$/s;
+  return text.replace(front, "$1").replace(/:$/, "");
 }
 
 /** The words under a name: who it is, and how to reach them. */

@@ -253,9 +253,14 @@ test("10,000 cards of one number and name are looked through in time", async () 
 });
 
 test("lines of a report by kind", () => {
-  const lines = ["TEL rewritten", "kept under urn:uuid:1", "TEL rewritten", "kept under urn:2"];
+  const lines = ["TEL rewritten", "kept under urn:uuid:1", "TEL rewritten", "kept under urn:2",
+    "TEL rewritten", "read as Windows-1252: 1 line that isn't UTF-8",
+    "read as Windows-1252: 12 lines that aren't UTF-8",
+    "read as Windows-1252: 2 cells that aren't UTF-8", "kept under urn:3",
+    "read as Windows-1252: 1 cell that isn't UTF-8"];
   const counted = countLines(lines.map((text) => ({ text })));
-  assert.deepEqual(counted, [["TEL rewritten", 2], ["kept under", 2]]);
+  assert.deepEqual(counted, [["read as Windows-1252", 4], ["TEL rewritten", 3],
+    ["kept under", 3]]);
 });
 
 /** A desk that keeps nothing, and a book of the server. */

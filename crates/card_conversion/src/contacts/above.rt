@@ -48,7 +48,7 @@ fn report_notes<E: Write, T: Write>(
     } else {
         format!(in alloc; "line {number}: a line above the header isn't carried")?
     };
-    report.tell_all(alloc, Weight::Moved, text.as_str())
+    report.write_to_both(alloc, Weight::Moved, text.as_str())
 }
 
 /// Reports a line above the header that may be a person.
@@ -58,7 +58,7 @@ fn report_person<E: Write, T: Write>(
     report: &mut Report<E, T>,
 ) -> Result<(), ConversionFault> {
     let text = format!(in alloc; "line {number}: not carried: it is above the header")?;
-    report.tell_all(alloc, Weight::NotCarried, text.as_str())
+    report.write_to_both(alloc, Weight::NotCarried, text.as_str())
 }
 
 /// Reports the lines above the header: each one that may be a person, and the notes once, at the
@@ -69,15 +69,15 @@ pub(crate) fn report_above<E: Write, T: Write>(
     report: &mut Report<E, T>,
 ) -> Result<(), ConversionFault> {
     let notes = count_notes(lines);
-    let mut are_told = false;
+    let mut are_reported = false;
     let mut number: u64 = 0;
     for line in lines {
         number = number.saturating_add(1);
         match line {
             AboveLine::Row => report_person(alloc, number, report)?,
-            AboveLine::Note if !are_told => {
+            AboveLine::Note if !are_reported => {
                 report_notes(alloc, number, notes, report)?;
-                are_told = true;
+                are_reported = true;
             }
             _ => {}
         }

@@ -5,6 +5,7 @@ use crate::contacts::broken_lines::BrokenLines;
 use crate::contacts::fate::RowFate;
 use crate::fault::ConversionFault;
 use crate::form_changes::FormKind;
+use crate::guesses::guess_words;
 use crate::parts::{Parts, lost_words};
 use crate::reporting::{Report, Weight};
 use base_types::NoMemory;
@@ -157,7 +158,7 @@ fn report_card<E: Write, T: Write>(
         return Ok(());
     }
     let text = parts.text(alloc)?;
-    report.tell(
+    report.write_line(
         alloc,
         parts.weight,
         row_line(alloc, place, text.as_str())?.as_str(),
@@ -173,7 +174,7 @@ fn report_refused<E: Write, T: Write>(
 ) -> Result<(), ConversionFault> {
     let words = format!(in alloc; "not carried: {why}")?;
     let line = row_line(alloc, place, words.as_str())?;
-    report.tell_all(alloc, Weight::NotCarried, line.as_str())
+    report.write_to_both(alloc, Weight::NotCarried, line.as_str())
 }
 
 /// Lists a row of which a broken row before it speaks.
@@ -224,7 +225,7 @@ pub(crate) fn report_broken<E: Write, T: Write>(
         format!(in alloc; "not carried: {why}")?
     };
     let line = row_line(alloc, place, words.as_str())?;
-    report.tell(alloc, Weight::NotCarried, line.as_str())
+    report.write_line(alloc, Weight::NotCarried, line.as_str())
 }
 
 /// Reports a row that isn't converted. One without a value is no loss.
@@ -269,6 +270,21 @@ fn report_repeated<E: Write, T: Write>(
     report.count(alloc, FormKind::SameRow, "")?;
     let line = row_line(alloc, place, "an earlier row has the same cells")?;
     report.list_line(alloc, line.as_str())
+}
+
+/// Reports how many cells of a row were read as Windows-1252, if there are some.
+pub(crate) fn report_guesses<E: Write, T: Write>(
+    alloc: Global,
+    place: RowPlace,
+    count: u64,
+    report: &mut Report<E, T>,
+) -> Result<(), ConversionFault> {
+    if count == 0 {
+        return Ok(());
+    }
+    report.count_guessed_cells(count);
+    let words = guess_words(alloc, count, "cell")?;
+    report.list_line(alloc, row_line(alloc, place, words.as_str())?.as_str())
 }
 
 /// Reports what became of a row at the place. A broken row is told before the first row after it

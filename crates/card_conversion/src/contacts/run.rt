@@ -5,7 +5,7 @@ ghost use Rattle.card_conversion.specs.ContactAccounts.{ConvertsContacts};
 ghost use Rattle.card_conversion.specs.Courses.{ConvertsRows, Knows};
 
 use crate::contacts::broken_lines::BrokenLines;
-use crate::contacts::report::{RowPlace, report_broken, report_row};
+use crate::contacts::report::{RowPlace, report_broken, report_guesses, report_row};
 use crate::contacts::rows::{next_row, take_row};
 use crate::contacts::tally::count_row;
 use crate::course::Course;
@@ -39,7 +39,7 @@ pub fn convert_more_contacts<R: Read + Drop, O: CardSink, E: Write, T: Write>(
             report_broken(alloc, &mut broken, report)?;
             return Ok(());
         };
-        report.count_guessed_cells(guessed_cells(alloc, contacts.row())?);
+        let guessed = guessed_cells(alloc, contacts.row())?;
         let number = course.ledger.next_number();
         let fate = take_row(
             alloc,
@@ -57,6 +57,7 @@ pub fn convert_more_contacts<R: Read + Drop, O: CardSink, E: Write, T: Write>(
         };
         let columns = contacts.columns().columns.as_slice();
         report_row(alloc, place, columns, &fate, &mut broken, report)?;
+        report_guesses(alloc, place, guessed, report)?;
         count_row(&mut course.ledger.summary, &fate);
     }
     Err(ConversionFault::Input)

@@ -10,5 +10,6 @@ loop-octet-preserved c =
     let index = c.loop-octet.octet-index in
     let octet = get_or octets index 0 in
     rw c.line_end.ensures
-    (map_over_more line_end c.args.octets.now octets index octet c.loop-octet-test.true c.loop-octet.invariant
+    (map_over_more line_end c.args.octets.now octets index octet c.loop-octet-test.true
+    c.loop-octet.invariant
     (get_or_default octets index 0 octet (omega arith)))

@@ -9,4 +9,5 @@ abbrev pub invariant-loop-piece : goal.invariant-loop-piece
 invariant-loop-piece g l =
     HasEnded g.R.Read.remaining l.pieces
     × ((uids : List (List ℕ)) → Knows l.fn.course uids
-    → Progress g.O.CardSink.writes g.R.Read.remaining (g.R.Read.remaining l.fn.reader) uids (counts_of l.fn.course) l.fn.sink l.sink l.pieces l.course.uids (counts_of l.course))
+    → Progress g.O.CardSink.writes g.R.Read.remaining (g.R.Read.remaining l.fn.reader) uids
+    (counts_of l.fn.course) l.fn.sink l.sink l.pieces l.course.uids (counts_of l.course))

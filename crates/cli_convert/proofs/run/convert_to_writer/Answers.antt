@@ -7,6 +7,11 @@ use Rattle.cli_convert.proofs.run.convert_to_writer.Goals as goal
 
 pub returns : goal.returns
 returns g c =
-    let header : Appends (g.W.Write.contents c.args.rows.now.writer) (g.W.Write.contents c.start.new.self.writer) header_row_text = search rules in
-    printed (λ (sink : RowsSink g.row.W.Denot). g.W.Write.contents sink.writer) _ (g.W.Write.contents c.args.rows.now.writer) c.start.new.self c.convert_all.new.sink c.in_ok-summary.summary
-    header c.in_ok-summary.ensures c.written_rows_are_read.ensures.text c.written_rows_are_read.ensures.read c.written_cards_differ.ensures.rules c.written_cards_differ.ensures.distinct
+    let header : Appends (g.W.Write.contents c.args.rows.now.writer)
+    (g.W.Write.contents c.start.new.self.writer) header_row_text = search rules in
+    printed (λ (sink : RowsSink g.row.W.Denot). g.W.Write.contents sink.writer) _
+    (g.W.Write.contents c.args.rows.now.writer) c.start.new.self c.convert_all.new.sink
+    c.in_ok-summary.summary
+    header c.in_ok-summary.ensures c.written_rows_are_read.ensures.text
+    c.written_rows_are_read.ensures.read c.written_cards_differ.ensures.rules
+    c.written_cards_differ.ensures.distinct

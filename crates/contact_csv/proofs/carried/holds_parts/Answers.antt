@@ -7,13 +7,22 @@ use Rattle.contact_csv.proofs.carried.holds_parts.Goals as goal
 
 pub loop-part-preserved-then-not-is_void : goal.loop-part-preserved-then-not-is_void
 loop-part-preserved-then-not-is_void c =
-    let text : shadow (Utf8 c.in-Some.tail.now) = search rules in
-    (text, λ held. c.loop-part.invariant.1 (next_part c.loop-part.rest.now c.in-Some.part.now c.in-Some.tail.now c.in-Some.ensures (c.in_ok-holds_part.ensures c.if-not-branch.false) held))
+    let text : shadow (Utf8 c.in-Some.tail.now) = search rules in (
+      text,
+      λ held. c.loop-part.invariant.1 (next_part c.loop-part.rest.now c.in-Some.part.now
+          c.in-Some.tail.now c.in-Some.ensures (c.in_ok-holds_part.ensures c.if-not-branch.false)
+          held),
+    )
 
 pub loop-part-preserved : goal.loop-part-preserved
 loop-part-preserved c =
-    let text : shadow (Utf8 c.in-Some.tail.now) = search rules in
-    (text, λ held. c.loop-part.invariant.1 (next_part c.loop-part.rest.now c.in-Some.part.now c.in-Some.tail.now c.in-Some.ensures (c.in_ok-holds_part.ensures c.if-not-branch.false) held))
+    let text : shadow (Utf8 c.in-Some.tail.now) = search rules in (
+      text,
+      λ held. c.loop-part.invariant.1 (next_part c.loop-part.rest.now c.in-Some.part.now
+          c.in-Some.tail.now c.in-Some.ensures (c.in_ok-holds_part.ensures c.if-not-branch.false)
+          held),
+    )
 
 pub returns : goal.returns
-returns c = ok_then c.holds_part-2.result (λ holds held e. c.loop-part.invariant.1 (last_part c.loop-part.rest.now (held e))) c.holds_part-2.ensures
+returns c = ok_then c.holds_part-2.result (λ holds held e. c.loop-part.invariant.1
+    (last_part c.loop-part.rest.now (held e))) c.holds_part-2.ensures

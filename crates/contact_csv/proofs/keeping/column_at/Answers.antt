@@ -5,7 +5,8 @@ use Rattle.contact_csv.specs.Carrying.{extra_column}
 use Rattle.contact_csv.proofs.keeping.column_at.Goals as goal
 
 pub returns-then-place-columns : goal.returns-then-place-columns
-returns-then-place-columns c = c.index-columns-place.is ∙ get_or_default c.args.columns.now c.args.place _ extra_column c.if-place-columns.true
+returns-then-place-columns c = c.index-columns-place.is
+    ∙ get_or_default c.args.columns.now c.args.place _ extra_column c.if-place-columns.true
 
 pub returns : goal.returns
 returns c =

@@ -6,5 +6,7 @@ use Rattle.contact_csv.proofs.uid.cell_uid.Goals as goal
 
 pub returns : goal.returns
 returns c =
-    let octets : c.as_slice.result.now ≡ cell_octets c.args.column.now c.args.text.now = search rules in
-    subst (λ octets. IfOk c.derived_uid.result (λ uid. string_bytes uid ≡ derived_uid octets)) octets c.derived_uid.ensures
+    let octets : c.as_slice.result.now ≡ cell_octets c.args.column.now c.args.text.now =
+    search rules in
+    subst (λ octets. IfOk c.derived_uid.result (λ uid. string_bytes uid ≡ derived_uid octets))
+    octets c.derived_uid.ensures

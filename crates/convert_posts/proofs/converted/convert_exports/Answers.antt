@@ -7,6 +7,10 @@ use Rattle.convert_posts.proofs.converted.convert_exports.Goals as goal
 
 pub returns-in-Ok : goal.returns-in-Ok
 returns-in-Ok g c =
-    subst (λ (s : Summary). (text : List ℕ) × IsOfPieces (Some text) s c.convert_more_exports.new.sink.rows) (sym c.summary.ensures)
-    (texts_done (λ (list : RowList). list.rows) c.new-course.result c.convert_more_exports.new.course c.new-rows.result c.convert_more_exports.new.sink
-    c.written_cards_differ.ensures.rules c.written_cards_differ.ensures.distinct c.new-course.ensures.counts c.new-rows.ensures (c.in-Ok.ensures [] c.new-course.ensures.uids))
+    subst (λ (s : Summary). (text : List ℕ)
+    × IsOfPieces (Some text) s c.convert_more_exports.new.sink.rows) (sym c.summary.ensures)
+    (texts_done (λ (list : RowList). list.rows) c.new-course.result
+    c.convert_more_exports.new.course c.new-rows.result c.convert_more_exports.new.sink
+    c.written_cards_differ.ensures.rules c.written_cards_differ.ensures.distinct
+    c.new-course.ensures.counts c.new-rows.ensures
+    (c.in-Ok.ensures [] c.new-course.ensures.uids))

@@ -7,6 +7,11 @@ use Rattle.convert_posts.proofs.converted.convert_pieces.Goals as goal
 
 pub returns-in-Ok : goal.returns-in-Ok
 returns-in-Ok g c =
-    subst (λ (s : Summary). IsOfPieces (g.R.Read.remaining c.args.reader) s c.convert_more_cards.new.sink.rows) (sym c.summary.ensures)
-    (pieces_done (λ (list : RowList). list.rows) (g.R.Read.remaining c.args.reader) c.new-course.result c.convert_more_cards.new.course c.new-rows.result c.convert_more_cards.new.sink
-    c.written_cards_differ.ensures.rules c.written_cards_differ.ensures.distinct c.new-course.ensures.counts c.new-rows.ensures (c.in-Ok.ensures [] c.new-course.ensures.uids))
+    subst (λ (s : Summary). IsOfPieces (g.R.Read.remaining c.args.reader) s
+    c.convert_more_cards.new.sink.rows) (sym c.summary.ensures)
+    (pieces_done (λ (list : RowList). list.rows) (g.R.Read.remaining c.args.reader)
+    c.new-course.result c.convert_more_cards.new.course c.new-rows.result
+    c.convert_more_cards.new.sink
+    c.written_cards_differ.ensures.rules c.written_cards_differ.ensures.distinct
+    c.new-course.ensures.counts c.new-rows.ensures
+    (c.in-Ok.ensures [] c.new-course.ensures.uids))

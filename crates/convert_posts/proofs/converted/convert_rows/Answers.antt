@@ -9,6 +9,9 @@ use Rattle.convert_posts.proofs.converted.convert_rows.Goals as goal
 pub returns-in-Ok : goal.returns-in-Ok
 returns-in-Ok g c ready =
     let it = c.in-Ok.ensures ready [] c.new-course.ensures.uids in
-    subst (λ (s : Summary). IsOfContacts s c.convert_contacts_under.new.sink.rows) (sym c.summary.ensures)
-    (rows_done (λ (list : RowList). list.rows) (columns_of c.args.reader) _ c.new-course.result c.convert_contacts_under.new.course c.new-rows.result c.convert_contacts_under.new.sink
-    c.written_cards_differ.ensures.rules c.written_cards_differ.ensures.distinct c.new-course.ensures.counts c.new-rows.ensures it.part)
+    subst (λ (s : Summary). IsOfContacts s c.convert_contacts_under.new.sink.rows)
+    (sym c.summary.ensures)
+    (rows_done (λ (list : RowList). list.rows) (columns_of c.args.reader) _ c.new-course.result
+    c.convert_contacts_under.new.course c.new-rows.result c.convert_contacts_under.new.sink
+    c.written_cards_differ.ensures.rules c.written_cards_differ.ensures.distinct
+    c.new-course.ensures.counts c.new-rows.ensures it.part)

@@ -7,4 +7,5 @@ use Rattle.convert_posts.proofs.values.number_members.Given as goal
 
 -- the members so far are those of the rows so far
 abbrev pub invariant-loop-name : goal.invariant-loop-name
-invariant-loop-name l = members_view l.members.entries ≡ fold with_number no_members (map named_number (take l.name-index l.rows))
+invariant-loop-name l = members_view l.members.entries ≡ fold with_number no_members
+    (map named_number (take l.name-index l.rows))

@@ -17,5 +17,6 @@ returns-in-None c =
     let chars = c.args.charset.chars.now in
     let place = c.args.octet - c.args.charset.first in
     let high : nat_lt c.args.octet c.args.charset.first ≡ false = search rules in
-    let past : length chars ≤ place = subst (λ i. length chars ≤ i) c.from-2.ensures (search rules) in
+    let past : length chars ≤ place =
+    subst (λ i. length chars ≤ i) c.from-2.ensures (search rules) in
     rw high (c.from-in-None.ensures ∙ sym (get_or_past chars place c.args.octet past))

@@ -9,11 +9,14 @@ use Rattle.import_text.proofs.encodings.read_text.Goals as goal
 pub returns-in_ok-from_str-in-Ok : goal.returns-in_ok-from_str-in-Ok
 unfolding text_of
 returns-in_ok-from_str-in-Ok c =
-    let is : is_utf8 c.args.octets.now ≡ true = is_utf8-from_IsUtf8 c.args.octets.now c.in-Ok.ensures.cases.1 in
+    let is : is_utf8 c.args.octets.now ≡ true =
+    is_utf8-from_IsUtf8 c.args.octets.now c.in-Ok.ensures.cases.1 in
     rw is (c.in_ok-from_str-in-Ok.ensures.ok ∙ c.in-Ok.ensures.cases.0)
 
 pub returns-in-Err : goal.returns-in-Err
 unfolding text_of
 returns-in-Err c =
-    let not_utf8 : is_utf8 c.args.octets.now ≡ false = false_from_ne_true _ (λ e. c.in-Err.ensures.cases.0 (IsUtf8-from_is_utf8 c.args.octets.now e)) in
+    let not_utf8 : is_utf8 c.args.octets.now ≡ false =
+    false_from_ne_true _ (λ e. c.in-Err.ensures.cases.0 (IsUtf8-from_is_utf8 c.args.octets.now
+    e)) in
     rw not_utf8 c.read_damaged.ensures

@@ -7,4 +7,6 @@ use Rattle.import_text.proofs.lines.read_raw_lines.Given as goal
 -- what the head of the line so far says is known, and the lines so far and those of what is left
 -- are all lines
 abbrev pub invariant-loop-place : goal.invariant-loop-place
-invariant-loop-place l = (l.line.head ≡ head_of l.line.octets.items) × (l.lines.items ++ lines_from l.folding (raw_line l.line.place l.line.octets.items) l.place (texts (drop l.place l.piece-items)) ≡ raw_lines l.folding l.octets)
+invariant-loop-place l = (l.line.head ≡ head_of l.line.octets.items)
+    × (l.lines.items ++ lines_from l.folding (raw_line l.line.place l.line.octets.items) l.place
+    (texts (drop l.place l.piece-items)) ≡ raw_lines l.folding l.octets)

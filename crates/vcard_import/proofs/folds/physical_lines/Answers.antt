@@ -6,4 +6,9 @@ use Rattle.vcard_import.specs.Folds.{physical_line}
 use Rattle.vcard_import.proofs.folds.physical_lines.Goals as goal
 
 pub returns : goal.returns
-returns c = items_from_collect _ c.collect.ensures.ran (YieldsList-from_map _ physical_line (YieldsList-at c.map.ensures.source (YieldsList-from_slice_split _ _ c.args.octets.now c.split.ensures.rest c.split.ensures.done c.split.ensures.closure (λ x r q k. search (rules, tests)))) c.map.ensures.closure (λ x r q k. search (rules, tests)))
+returns c = items_from_collect _ c.collect.ensures.ran (YieldsList-from_map _ physical_line
+    (YieldsList-at c.map.ensures.source (YieldsList-from_slice_split _ _ c.args.octets.now
+    c.split.ensures.rest c.split.ensures.done c.split.ensures.closure (λ x r q k. search (
+      rules,
+      tests,
+    )))) c.map.ensures.closure (λ x r q k. search (rules, tests)))

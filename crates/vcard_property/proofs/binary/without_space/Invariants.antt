@@ -4,4 +4,5 @@ use Rattle.vcard_property.proofs.binary.without_space.Given as goal
 
 -- the octets so far, but for white space
 abbrev pub invariant-loop-octet : goal.invariant-loop-octet
-invariant-loop-octet l = l.octets.items ≡ filter (λ octet. not (is_ascii_whitespace octet)) (take l.octet-index l.text)
+invariant-loop-octet l = l.octets.items ≡ filter (λ octet. not (is_ascii_whitespace octet))
+    (take l.octet-index l.text)

@@ -15,5 +15,6 @@ returns-then-not-is_permitted_text c =
 pub returns : goal.returns
 returns c =
     let permitted : list_all is_permitted (line_text c.args.line.now) ≡ true = search rules in
-    tests_are_exact c.args.line.now true c.has_proper_parts.result (sym permitted) c.has_proper_parts.ensures
+    tests_are_exact c.args.line.now true c.has_proper_parts.result (sym permitted)
+    c.has_proper_parts.ensures
     (subst IsUtf8 c.in_ok-write_line.ensures (IsUtf8-string_bytes c.write_line.new.out))

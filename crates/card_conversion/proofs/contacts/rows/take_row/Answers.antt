@@ -9,5 +9,6 @@ returns-in-Ok g c =
     let same : c.args.row ≡ Ok c.in-Ok.conversion = search rules in
     let card : IsCard c.in-Ok.conversion.card = search rules in
     IfOk-weaker c.deliver_row.result _ _ (λ fate takes.
-    subst (λ row. TakesRow g.O.CardSink.writes row c.args.uids.now c.deliver_row.new.uids c.args.sink.now c.deliver_row.new.sink fate) (sym same) (takes card))
+    subst (λ row. TakesRow g.O.CardSink.writes row c.args.uids.now c.deliver_row.new.uids
+    c.args.sink.now c.deliver_row.new.sink fate) (sym same) (takes card))
     c.deliver_row.ensures

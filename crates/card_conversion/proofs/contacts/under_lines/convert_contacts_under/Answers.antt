@@ -9,5 +9,7 @@ returns g c = on_ok_weaker c.convert_more_contacts.result
     record {
       entries = it.entries;
       reads = it.reads;
-      part = under_lines g.O.CardSink.writes (columns_of c.args.reader) uids c.args.course.now _ c.convert_more_contacts.new.course c.args.sink.now c.convert_more_contacts.new.sink c.args.above.now it.entries c.count_above.ensures it.part;
+      part = under_lines g.O.CardSink.writes (columns_of c.args.reader) uids c.args.course.now _
+          c.convert_more_contacts.new.course c.args.sink.now c.convert_more_contacts.new.sink
+          c.args.above.now it.entries c.count_above.ensures it.part;
     }) c.convert_more_contacts.ensures

@@ -7,15 +7,25 @@ use Rattle.contact_csv.proofs.keeping.Kept.keep_cell.Goals as goal
 
 pub returns-then-branch : goal.returns-then-branch
 returns-then-branch c =
-    ok_then c.report_text.result (λ done reports. report_keeps c.args.column.now c.args.place c.args.text.now c.args.self.now c.report_text.new.self
-    (subst (λ lines. IsCarried c.args.column.now c.args.place c.args.text.now lines c.args.self.now.changes) c.as_slice-lines.ensures
-    (c.in_ok-is_carried.ensures c.if-branch.true c.args.place c.args.self.now.changes)) reports) c.report_text.ensures
+    ok_then c.report_text.result (λ done reports. report_keeps c.args.column.now c.args.place
+    c.args.text.now c.args.self.now c.report_text.new.self
+    (subst (λ lines. IsCarried c.args.column.now c.args.place c.args.text.now lines
+    c.args.self.now.changes) c.as_slice-lines.ensures
+    (c.in_ok-is_carried.ensures c.if-branch.true c.args.place c.args.self.now.changes)) reports)
+    c.report_text.ensures
 
 pub returns-then-is_dated : goal.returns-then-is_dated
 returns-then-is_dated c =
-    let column : is_date_column c.args.column.now.property ≡ true = subst (λ property. is_date_column property ≡ true) c.as_str.ensures (c.is_dated.ensures.column c.if-is_dated.true) in
-    let line : list_any (λ line. is_date_name line.name) c.args.self.now.lines ≡ true = subst (λ lines. list_any (λ line. is_date_name line.name) lines ≡ true) c.as_slice-lines.ensures (c.is_dated.ensures.line c.if-is_dated.true) in
-    ok_both c.report.result (date_keeps c.args.column.now c.args.place c.args.text.now c.args.self.now c.report.new.self column line) c.report.ensures.lines c.report.ensures.changes
+    let column : is_date_column c.args.column.now.property ≡ true =
+    subst (λ property. is_date_column property ≡ true) c.as_str.ensures
+    (c.is_dated.ensures.column c.if-is_dated.true) in
+    let line : list_any (λ line. is_date_name line.name) c.args.self.now.lines ≡ true =
+    subst (λ lines. list_any (λ line. is_date_name line.name) lines ≡ true)
+    c.as_slice-lines.ensures (c.is_dated.ensures.line c.if-is_dated.true) in
+    ok_both c.report.result (date_keeps c.args.column.now c.args.place c.args.text.now
+    c.args.self.now c.report.new.self column line) c.report.ensures.lines
+    c.report.ensures.changes
 
 pub returns : goal.returns
-returns c = ok_then c.keep_aside.result (λ done kept. aside_keeps c.args.column.now c.args.place c.args.text.now c.args.self.now c.keep_aside.new.self kept) c.keep_aside.ensures
+returns c = ok_then c.keep_aside.result (λ done kept. aside_keeps c.args.column.now c.args.place
+    c.args.text.now c.args.self.now c.keep_aside.new.self kept) c.keep_aside.ensures

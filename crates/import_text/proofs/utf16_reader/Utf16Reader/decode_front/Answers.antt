@@ -11,9 +11,16 @@ pub returns : goal.returns
 returns g c =
     let old = c.args.self.now in
     let rest = c.split_at.result.1.now in
-    let text : octets_left c.new.result ≡ utf16_octets old.is_big (take c.args.len (undecoded old)) =
-    c.new.ensures ∙ c.in_ok-text.ensures ∙ ap (utf16_octets old.is_big) (c.split_at.ensures.front ∙ ap (take c.args.len) c.undecoded.ensures) in
+    let text : octets_left c.new.result ≡ utf16_octets old.is_big
+    (take c.args.len (undecoded old)) =
+    c.new.ensures ∙ c.in_ok-text.ensures ∙ ap (utf16_octets old.is_big) (c.split_at.ensures.front
+    ∙ ap (take c.args.len) c.undecoded.ensures) in
     let held : take (length rest) c.in_ok-room.room.items ≡ drop c.args.len (undecoded old) =
-    ap (take (length rest)) c.in_ok-room.ensures ∙ take-append_seam rest _ ∙ c.split_at.ensures.back ∙ ap (drop c.args.len) c.undecoded.ensures in
-    subst (λ h. Keeps (units_left g.R.Read.remaining old) (option_map (λ more. octets_left c.new.result ++ utf16_octets old.is_big (h ++ more)) (g.R.Read.remaining old.reader))) (sym held)
-    (decoded old.is_big (octets_left old.text) (octets_left c.new.result) (undecoded old) (take c.args.len (undecoded old)) (drop c.args.len (undecoded old)) (g.R.Read.remaining old.reader) c.requires.given text c.requires.apart)
+    ap (take (length rest)) c.in_ok-room.ensures ∙ take-append_seam rest _ ∙ c.split_at.ensures.back
+    ∙ ap (drop c.args.len) c.undecoded.ensures in
+    subst (λ h. Keeps (units_left g.R.Read.remaining old)
+    (option_map (λ more. octets_left c.new.result ++ utf16_octets old.is_big (h ++ more))
+    (g.R.Read.remaining old.reader))) (sym held)
+    (decoded old.is_big (octets_left old.text) (octets_left c.new.result) (undecoded old)
+    (take c.args.len (undecoded old)) (drop c.args.len (undecoded old))
+    (g.R.Read.remaining old.reader) c.requires.given text c.requires.apart)
