@@ -1,5 +1,6 @@
 -- Texts as keys, and the finite maps from them.
-use Rattle.std.proofs.Common.{◌≡◌, ◌≢◌, ℕ, Bool, true, false, cond, List, Some, bytes_eq, refl, sym, ap, ◌∙◌, subst, ⊎_elim, is_eq, Ordering, Less, Equal, Greater}
+use Rattle.std.proofs.Common.{◌≡◌, ◌≢◌, ℕ, Bool, true, false, cond, List, Some, bytes_eq, refl, sym}
+use Rattle.std.proofs.Common.{ap, ◌∙◌, subst, ⊎_elim, is_eq, Ordering, Less, Equal, Greater}
 use Rattle.std.specs.Ordering.{eq_by_cmp}
 use Rattle.std.specs.Cmp.{IsTotalOrder, IsEquivalence, eq_by_cmp_equiv}
 use Rattle.std.specs.Cmp.Lexicographic.{nat_list_cmp_total}
@@ -45,23 +46,35 @@ module _ {X : Type 0} (m : finite.FinMap text_cmp X) where
   get-insert_here k v = get-insert text_total m k v k ∙ cond-true _ _ _ (same_self k)
 
   -- writes at two keys commute
-  pub insert-insert : (k name : List ℕ) (v w : X) → same name k ≡ false → finite.insert (finite.insert m name w) k v ≡ finite.insert (finite.insert m k v) name w
+  pub insert-insert : (k name : List ℕ) (v w : X) → same name k ≡ false
+      → finite.insert (finite.insert m name w) k v ≡ finite.insert (finite.insert m k v) name w
   insert-insert k name v w ne = same_map text_total exact_bytes _ _ (λ q.
-      get-insert text_total (finite.insert m name w) k v q ∙ ap (cond (same q k) (Some v)) (get-insert text_total m name w q)
-      ∙ turned q ∙ sym (get-insert text_total (finite.insert m k v) name w q ∙ ap (cond (same q name) (Some w)) (get-insert text_total m k v q)))
+      get-insert text_total (finite.insert m name w) k v q
+      ∙ ap (cond (same q k) (Some v)) (get-insert text_total m name w q)
+      ∙ turned q ∙ sym (get-insert text_total (finite.insert m k v) name w q
+      ∙ ap (cond (same q name) (Some w)) (get-insert text_total m k v q)))
     where
-      turned : (q : List ℕ) → cond (same q k) (Some v) (cond (same q name) (Some w) (finite.get m q)) ≡ cond (same q name) (Some w) (cond (same q k) (Some v) (finite.get m q))
+      turned : (q : List ℕ) → cond (same q k) (Some v) (cond (same q name) (Some w)
+          (finite.get m q)) ≡ cond (same q name) (Some w)
+          (cond (same q k) (Some v) (finite.get m q))
       turned q = ⊎_elim
-          (λ here. cond-true _ _ _ here ∙ sym (cond-false _ _ _ (not_both here) ∙ cond-true _ _ _ here))
-          (λ there. cond-false _ _ _ there ∙ ap (cond (same q name) (Some w)) (sym (cond-false _ _ _ there)))
+          (λ here. cond-true _ _ _ here ∙ sym (cond-false _ _ _ (not_both here)
+          ∙ cond-true _ _ _ here))
+          (λ there. cond-false _ _ _ there
+          ∙ ap (cond (same q name) (Some w)) (sym (cond-false _ _ _ there)))
           (cases_Bool (same q k))
         where
           not_both : same q k ≡ true → same q name ≡ false
-          not_both here = false_from_ne_true _ (λ e. both_ways _ ne (subst (λ (u : List ℕ). same u k ≡ true) (same-equal q name e) here))
+          not_both here = false_from_ne_true _
+              (λ e. both_ways _ ne (subst (λ (u : List ℕ). same u k ≡ true) (same-equal q name e)
+              here))
 
   -- of two writes at one key the last counts
-  pub insert_over : (k : List ℕ) (v w : X) → finite.insert (finite.insert m k v) k w ≡ finite.insert m k w
+  pub insert_over : (k : List ℕ) (v w : X) → finite.insert (finite.insert m k v) k w
+      ≡ finite.insert m k w
   insert_over k v w = same_map text_total exact_bytes _ _ (λ q.
-      get-insert text_total (finite.insert m k v) k w q ∙ ap (cond (same q k) (Some w)) (get-insert text_total m k v q)
-      ∙ elim (same q k) as (λ t. cond t (Some w) (cond t (Some v) (finite.get m q)) ≡ cond t (Some w) (finite.get m q)) [ true ↦ refl | false ↦ refl ]
+      get-insert text_total (finite.insert m k v) k w q
+      ∙ ap (cond (same q k) (Some w)) (get-insert text_total m k v q)
+      ∙ elim (same q k) as (λ t. cond t (Some w) (cond t (Some v) (finite.get m q))
+      ≡ cond t (Some w) (finite.get m q)) [ true ↦ refl | false ↦ refl ]
       ∙ sym (get-insert text_total m k w q))

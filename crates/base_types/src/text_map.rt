@@ -67,18 +67,6 @@ impl<V: Drop> TextMap<V> {
         whole
     }
 
-    /// The values, ordered by the octets of their keys.
-    pub fn into_values(self, alloc: Global) -> Result<Vec<V>, NoMemory>
-        ensures { IfOk result (λ values. values.items ≡ finite.values self) }
-    {
-        let TextMap { inner } = self;
-        let mut values = Vec::with_capacity(alloc, inner.len())?;
-        for (_, value) in inner {
-            values.push(value)?;
-        }
-        Ok(values)
-    }
-
     /// The number of entries.
     pub fn len(&self) -> usize
         ensures { result ≡ finite.len self.now }

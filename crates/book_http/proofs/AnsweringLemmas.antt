@@ -11,9 +11,16 @@ use Rattle.sync_core.specs.StoreModels.{StoreModel}
 
 module _ {S : Type 0} (model : StoreModel S) where
   -- a command was performed, and this is its reply
-  pub performed : (old new : S) (head : Head) (body octets : List ℕ) (command : Command) (r : Reply) → requested_command head.method head.target body ≡ Ok command → PerformsOnStore model old command r new → octets ≡ reply_octets r head.close → AnswersRequest model old head body octets new
+  pub performed : (old new : S) (head : Head) (body octets : List ℕ) (command : Command) (r : Reply)
+      → requested_command head.method head.target body ≡ Ok command
+      → PerformsOnStore model old command r new → octets ≡ reply_octets r head.close
+      → AnswersRequest model old head body octets new
   performed old new head body octets command r is did run_replies =
-      subst (λ wanted. AnswersCommand model old wanted head.close octets new) (sym is) (r, did, run_replies)
+      subst (λ wanted. AnswersCommand model old wanted head.close octets new) (sym is) (
+        r,
+        did,
+        run_replies,
+      )
 
 -- what holds holds where memory ran out
 pub on_err : {A E : Type 0} {P : Type 0} (result : Result A E) → P → OnErr result P

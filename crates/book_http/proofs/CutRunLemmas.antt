@@ -1,5 +1,6 @@
 -- However octets are cut, the same requests run.
-use Rattle.std.proofs.Common.{◌≡◌, ◌⊎◌, ℕ, Bool, true, false, List, [], ◌++◌, refl, sym, subst, inl, inr, Option, Some, None}
+use Rattle.std.proofs.Common.{◌≡◌, ◌⊎◌, ℕ, Bool, true, false, List, [], ◌++◌, refl, sym, subst, inl}
+use Rattle.std.proofs.Common.{inr, Option, Some, None}
 use Rattle.std.specs.List.{flat_map}
 use Rattle.std.proofs.lemmas.List.{append-nil}
 use Rattle.book_service.specs.Runs.{SystemState}
@@ -25,7 +26,8 @@ module _ {S : Type 0} (model : StoreModel S) (law : AreReadInOneWay) where
   abbrev EndAlike : List ℕ → List ℕ → List ℕ → Type 0
   EndAlike rest last other = ((last ≡ []) × (other ≡ [])) ⊎ (Refused rest last × Refused rest other)
 
-  end_alike : (ended : Bool) (rest last other : List ℕ) → Ends ended rest last → Ends ended rest other → EndAlike rest last other
+  end_alike : (ended : Bool) (rest last other : List ℕ) → Ends ended rest last
+      → Ends ended rest other → EndAlike rest last other
   end_alike ended rest last other (inl a) (inl b) = inl (a.1, b.1)
   end_alike ended rest last other (inl a) (inr b) = absurd (cc (a.0, b.0))
   end_alike ended rest last other (inr a) (inl b) = absurd (cc (a.0, b.0))
@@ -33,19 +35,25 @@ module _ {S : Type 0} (model : StoreModel S) (law : AreReadInOneWay) where
 
   module _ (now : SystemState) (octets replies others : List ℕ) (old new other : S) where
     abbrev All : S → List ℕ → Bool → List ℕ → Type 0
-    All end run_replies ended rest = HandlesAllRequests (ServiceStep model) head_fault_octets octets old run_replies end ended rest
+    All end run_replies ended rest = HandlesAllRequests (ServiceStep model) head_fault_octets octets
+        old run_replies end ended rest
 
     ran_alike : StartsAt model now old new → StartsAt model now old other
-        → (run_replies run_replies_too last last_too : List ℕ) (ended ended_too : Bool) (rest rest_too : List ℕ)
+        → (run_replies run_replies_too last last_too : List ℕ) (ended ended_too : Bool)
+        (rest rest_too : List ℕ)
         → All new run_replies ended rest → All other run_replies_too ended_too rest_too
         → replies ≡ run_replies ++ last → others ≡ run_replies_too ++ last_too
         → (ended_too ≡ ended → rest_too ≡ rest → EndAlike rest last last_too)
         → RanAlike model now octets replies others (model.books new) (model.books other)
-    ran_alike starts starts_too run_replies run_replies_too last last_too ended ended_too rest rest_too one two is is_too ends =
-        let same = determined octets two.requests one.requests ended_too ended rest_too rest two.requests_are one.requests_are in
-        let ran : RunsRequests now one.requests run_replies (model.books new) = requests_run model now old new one.requests run_replies starts one.handles in
+    ran_alike starts starts_too run_replies run_replies_too last last_too ended ended_too rest
+        rest_too one two is is_too ends =
+        let same = determined octets two.requests one.requests ended_too ended rest_too rest
+        two.requests_are one.requests_are in
+        let ran : RunsRequests now one.requests run_replies (model.books new) =
+        requests_run model now old new one.requests run_replies starts one.handles in
         let ran_too : RunsRequests now one.requests run_replies_too (model.books other) =
-        subst (λ (rs : List Request). RunsRequests now rs run_replies_too (model.books other)) same.0
+        subst (λ (rs : List Request). RunsRequests now rs run_replies_too (model.books other))
+        same.0
         (requests_run model now old other two.requests run_replies_too starts_too two.handles) in
         record {
           requests = one.requests;
@@ -56,7 +64,8 @@ module _ {S : Type 0} (model : StoreModel S) (law : AreReadInOneWay) where
           ran = ran;
           other_run_replies = run_replies_too;
           other_ran = ran_too;
-          alike = ran_once law now one.requests run_replies run_replies_too (model.books new) (model.books other) ran ran_too;
+          alike = ran_once law now one.requests run_replies run_replies_too (model.books new)
+              (model.books other) ran ran_too;
           last = last;
           replies_are = is;
           other_last = last_too;
@@ -70,18 +79,22 @@ module _ {S : Type 0} (model : StoreModel S) (law : AreReadInOneWay) where
         → FeedsSession (ServiceStep model) head_fault_octets octets old others other left
         → RanAlike model now octets replies others (model.books new) (model.books other)
     fed_alike starts starts_too (Some rest) (Some left) same fed fed_too =
-        ran_alike starts starts_too replies others [] [] false false rest left fed.0 fed_too.0 (sym (append-nil replies)) (sym (append-nil others))
+        ran_alike starts starts_too replies others [] [] false false rest left fed.0 fed_too.0
+        (sym (append-nil replies)) (sym (append-nil others))
         (λ _ _. inl (refl, refl))
     fed_alike starts starts_too (Some rest) None same fed fed_too = absurd (cc same)
     fed_alike starts starts_too None (Some left) same fed fed_too = absurd (cc same)
     fed_alike starts starts_too None None same (inr stop) stop_too = absurd (cc stop.screened_for)
-    fed_alike starts starts_too None None same (inl stop) (inr stop_too) = absurd (cc stop_too.screened_for)
+    fed_alike starts starts_too None None same (inl stop) (inr stop_too) =
+        absurd (cc stop_too.screened_for)
     fed_alike starts starts_too None None same (inl stop) (inl stop_too) =
-        ran_alike starts starts_too stop.answers stop_too.answers stop.last stop_too.last stop.ended stop_too.ended stop.rest stop_too.rest
+        ran_alike starts starts_too stop.answers stop_too.answers stop.last stop_too.last stop.ended
+        stop_too.ended stop.rest stop_too.rest
         stop.answered stop_too.answered stop.replies_are stop_too.replies_are
         (λ (ended : stop_too.ended ≡ stop.ended) (rest : stop_too.rest ≡ stop.rest).
         end_alike stop.ended stop.rest stop.last stop_too.last stop.why
-        (subst (λ (b : Bool). Ends b stop.rest stop_too.last) ended (subst (λ (r : List ℕ). Ends stop_too.ended r stop_too.last) rest stop_too.why)))
+        (subst (λ (b : Bool). Ends b stop.rest stop_too.last) ended
+        (subst (λ (r : List ℕ). Ends stop_too.ended r stop_too.last) rest stop_too.why)))
 
   abbrev pieces : List (List ℕ × List ℕ) → List ℕ
   pieces turns = flat_map (λ (turn : List ℕ × List ℕ). turn.0) turns
@@ -90,11 +103,20 @@ module _ {S : Type 0} (model : StoreModel S) (law : AreReadInOneWay) where
   answers turns = flat_map (λ (turn : List ℕ × List ℕ). turn.1) turns
 
   pub cuts_run_alike : CutsRunAlike model
-  cuts_run_alike now old new other turns others session left starts starts_too takes takes_too same =
-      let fed : FeedsSession (ServiceStep model) head_fault_octets (pieces turns) old (answers turns) new session =
+  cuts_run_alike now old new other turns others session left starts starts_too takes takes_too
+      same =
+      let fed : FeedsSession (ServiceStep model) head_fault_octets (pieces turns) old
+      (answers turns) new session =
       pieces_are_fed (ServiceStep model) head_fault_octets turns old new session takes in
-      let fed_too : FeedsSession (ServiceStep model) head_fault_octets (pieces turns) old (answers others) other left =
-      subst (λ t. FeedsSession (ServiceStep model) head_fault_octets t old (answers others) other left) (sym same)
+      let fed_too : FeedsSession (ServiceStep model) head_fault_octets (pieces turns) old
+      (answers others) other left =
+      subst (λ t. FeedsSession (ServiceStep model) head_fault_octets t old (answers others) other
+      left) (sym same)
       (pieces_are_fed (ServiceStep model) head_fault_octets others old other left takes_too) in
-      let held : session ≡ left = cuts_agree (ServiceStep model) head_fault_octets (λ now head. refl) (pieces turns) old new other (answers turns) (answers others) session left fed fed_too in
-      (held, fed_alike now (pieces turns) (answers turns) (answers others) old new other starts starts_too session left held fed fed_too)
+      let held : session ≡ left = cuts_agree (ServiceStep model) head_fault_octets
+      (λ now head. refl) (pieces turns) old new other (answers turns) (answers others) session
+      left fed fed_too in (
+        held,
+        fed_alike now (pieces turns) (answers turns) (answers others) old new other starts
+            starts_too session left held fed fed_too,
+      )

@@ -1,5 +1,6 @@
 -- Connections in turn are one run of the service.
-use Rattle.std.proofs.Common.{◌≡◌, ◌∙◌, ℕ, false, List, [], ◌∷◌, ◌++◌, Option, Some, None, refl, sym, subst, inl, inr, ◌⊎◌}
+use Rattle.std.proofs.Common.{◌≡◌, ◌∙◌, ℕ, false, List, [], ◌∷◌, ◌++◌, Option, Some, None, refl}
+use Rattle.std.proofs.Common.{sym, subst, inl, inr, ◌⊎◌}
 use Rattle.std.proofs.lemmas.List.{append-nil}
 use Rattle.std.specs.Io.KnownBytes.{Appends, Consumes}
 use Rattle.book_http.specs.declared.serve_fault.ServeFault.{ServeFault}
@@ -20,31 +21,50 @@ module _ {S Connection : Type 0} (model : StoreModel S)
     (stream : ConnectionModel Connection) where
   -- ---- the premise
 
-  part_premise : (octets : List ℕ) (old new : S) → HandlesSomePrefix (ServiceStep model) head_fault_octets octets old new → model.premise new → model.premise old
-  part_premise octets old new part holds = all_premise model part.runs.requests old new part.replies part.runs.handles holds
+  part_premise : (octets : List ℕ) (old new : S)
+      → HandlesSomePrefix (ServiceStep model) head_fault_octets octets old new → model.premise new
+      → model.premise old
+  part_premise octets old new part holds =
+      all_premise model part.runs.requests old new part.replies part.runs.handles holds
 
-  ended_premise : (end : Option ServeFault) (before connection_after : Connection) (old new : S) → ServesConnection (ServiceStep model) head_fault_octets stream end before connection_after old new
+  ended_premise : (end : Option ServeFault) (before connection_after : Connection) (old new : S)
+      → ServesConnection (ServiceStep model) head_fault_octets stream end before connection_after
+      old new
       → model.premise new → model.premise old
   ended_premise None before connection_after old new all holds =
-      part_premise all.serves.octets old new (part_of_fed (ServiceStep model) head_fault_octets all.serves.octets all.serves.replies old new all.session all.serves.fed) holds
+      part_premise all.serves.octets old new (part_of_fed (ServiceStep model) head_fault_octets
+      all.serves.octets all.serves.replies old new all.session all.serves.fed) holds
   ended_premise (Some fault) before connection_after old new broke holds =
-      let h = handles_read (ServiceStep model) head_fault_octets fault (stream.remaining before) (stream.remaining connection_after) (stream.contents before) (stream.contents connection_after) old new broke in
+      let h = handles_read (ServiceStep model) head_fault_octets fault (stream.remaining before)
+      (stream.remaining connection_after) (stream.contents before)
+      (stream.contents connection_after) old new broke in
       part_premise h.octets old new h.part holds
 
-  turns_premise : (turns : List (ServedConnection Connection)) (old new : S) → ServesInTurn (ServiceStep model) head_fault_octets stream old turns new → model.premise new → model.premise old
+  turns_premise : (turns : List (ServedConnection Connection)) (old new : S)
+      → ServesInTurn (ServiceStep model) head_fault_octets stream old turns new → model.premise new
+      → model.premise old
   unfolding ServesInTurn
   turns_premise [] old new same holds = subst model.premise (sym same) holds
   turns_premise (turn ∷ turns) old new (middle, one, others) holds =
-      ended_premise turn.end turn.connection one.connection_after old middle one.ended (turns_premise turns middle new others holds)
+      ended_premise turn.end turn.connection one.connection_after old middle one.ended
+      (turns_premise turns middle new others holds)
 
   -- ---- one connection
 
   -- the store is where its run ended
-  at_end : (now end : SystemState) (old new : S) → MatchesRows now (model.limits old) (model.books old) → model.limits new ≡ model.limits old → MatchesRows end now.model.limits (model.books new) → MatchesRows end (model.limits new) (model.books new)
-  at_end now end old new at same ended = record { limits_are = ended.limits_are ∙ at.limits_are ∙ sym same; histories = ended.histories }
+  at_end : (now end : SystemState) (old new : S)
+      → MatchesRows now (model.limits old) (model.books old) → model.limits new ≡ model.limits old
+      → MatchesRows end now.model.limits (model.books new)
+      → MatchesRows end (model.limits new) (model.books new)
+  at_end now end old new at same ended = record {
+    limits_are = ended.limits_are ∙ at.limits_are
+        ∙ sym same;
+    histories = ended.histories;
+  }
 
   -- what happened by a connection
-  pub record TurnHappens (now : SystemState) (connection : Connection) (end : Option ServeFault) (new : S) : Type 0 where
+  pub record TurnHappens (now : SystemState) (connection : Connection) (end : Option ServeFault)
+      (new : S) : Type 0 where
     pub own : List TraceStep
     pub runs : Run now own
     pub turn : RunsOneConnection model stream connection end own
@@ -52,8 +72,11 @@ module _ {S Connection : Type 0} (model : StoreModel S)
     pub devices_are : (end_of now own).devices ≡ now.devices
 
   -- it was served to its end
-  fed_happens : (session : Option (List ℕ)) (now : SystemState) (before connection_after : Connection) (old new : S) (octets replies : List ℕ) → StartsAt model now old new
-      → Consumes (stream.remaining before) (stream.remaining connection_after) octets → FeedsSession (ServiceStep model) head_fault_octets octets old replies new session → Appends (stream.contents before) (stream.contents connection_after) replies
+  fed_happens : (session : Option (List ℕ)) (now : SystemState) (before connection_after :
+      Connection) (old new : S) (octets replies : List ℕ) → StartsAt model now old new
+      → Consumes (stream.remaining before) (stream.remaining connection_after) octets
+      → FeedsSession (ServiceStep model) head_fault_octets octets old replies new session
+      → Appends (stream.contents before) (stream.contents connection_after) replies
       → TurnHappens now before None new
   fed_happens (Some rest) now before connection_after old new octets replies starts read fed sent =
       let a = fed.0 in
@@ -71,12 +94,20 @@ module _ {S Connection : Type 0} (model : StoreModel S)
           rest = rest;
           first = a.requests_are.0;
           are_replies = ran.are_replies;
-          all_replied = λ _. record { requests_are = a.requests_are; last = []; sent = subst (Appends (stream.contents before) (stream.contents connection_after)) (sym (append-nil replies)) sent; last_is = inl refl };
+          all_replied = λ _. record {
+            requests_are = a.requests_are;
+            last = [];
+            sent = subst (Appends (stream.contents before) (stream.contents connection_after))
+                (sym (append-nil replies)) sent;
+            last_is = inl refl;
+          };
         };
-        at = at_end now (end_of now ran.run) old new starts.at (all_limits model a.requests old new replies a.handles) ran.at;
+        at = at_end now (end_of now ran.run) old new starts.at (all_limits model a.requests old new
+            replies a.handles) ran.at;
         devices_are = ran.devices_are;
       }
-  fed_happens None now before connection_after old new octets replies starts read (inr stop) sent = absurd (cc stop.screened_for)
+  fed_happens None now before connection_after old new octets replies starts read (inr stop) sent =
+      absurd (cc stop.screened_for)
   fed_happens None now before connection_after old new octets replies starts read (inl stop) sent =
       let a = stop.answered in
       let ran = requests_run model now old new a.requests stop.answers starts a.handles in
@@ -93,9 +124,16 @@ module _ {S Connection : Type 0} (model : StoreModel S)
           rest = stop.rest;
           first = a.requests_are.0;
           are_replies = ran.are_replies;
-          all_replied = λ _. record { requests_are = a.requests_are; last = stop.last; sent = subst (Appends (stream.contents before) (stream.contents connection_after)) stop.replies_are sent; last_is = last_of stop.why };
+          all_replied = λ _. record {
+            requests_are = a.requests_are;
+            last = stop.last;
+            sent = subst (Appends (stream.contents before) (stream.contents connection_after))
+                stop.replies_are sent;
+            last_is = last_of stop.why;
+          };
         };
-        at = at_end now (end_of now ran.run) old new starts.at (all_limits model a.requests old new stop.answers a.handles) ran.at;
+        at = at_end now (end_of now ran.run) old new starts.at (all_limits model a.requests old new
+            stop.answers a.handles) ran.at;
         devices_are = ran.devices_are;
       }
     where
@@ -103,13 +141,18 @@ module _ {S Connection : Type 0} (model : StoreModel S)
       last_of (inl why) = inl why.1
       last_of (inr why) = inr why.1
 
-  end_happens : (end : Option ServeFault) (now : SystemState) (before connection_after : Connection) (old new : S) → StartsAt model now old new
-      → ServesConnection (ServiceStep model) head_fault_octets stream end before connection_after old new → TurnHappens now before end new
+  end_happens : (end : Option ServeFault) (now : SystemState) (before connection_after : Connection)
+      (old new : S) → StartsAt model now old new
+      → ServesConnection (ServiceStep model) head_fault_octets stream end before connection_after
+      old new → TurnHappens now before end new
   end_happens None now before connection_after old new starts all =
       let s = all.serves in
-      fed_happens all.session now before connection_after old new s.octets s.replies starts s.read s.fed s.sent
+      fed_happens all.session now before connection_after old new s.octets s.replies starts s.read
+      s.fed s.sent
   end_happens (Some fault) now before connection_after old new starts broke =
-      let h = handles_read (ServiceStep model) head_fault_octets fault (stream.remaining before) (stream.remaining connection_after) (stream.contents before) (stream.contents connection_after) old new broke in
+      let h = handles_read (ServiceStep model) head_fault_octets fault (stream.remaining before)
+      (stream.remaining connection_after) (stream.contents before)
+      (stream.contents connection_after) old new broke in
       let p = h.part in
       let ran = requests_run model now old new p.runs.requests p.replies starts p.runs.handles in
       record {
@@ -125,9 +168,11 @@ module _ {S Connection : Type 0} (model : StoreModel S)
           rest = p.rest;
           first = p.runs.leads;
           are_replies = ran.are_replies;
-          all_replied = λ (none : Some fault ≡ None). absurd (let no : Some fault ≡ None = none in cc);
+          all_replied = λ (none : Some fault ≡ None). absurd (let no : Some fault ≡ None = none in
+              cc);
         };
-        at = at_end now (end_of now ran.run) old new starts.at (all_limits model p.runs.requests old new p.replies p.runs.handles) ran.at;
+        at = at_end now (end_of now ran.run) old new starts.at (all_limits model p.runs.requests old
+            new p.replies p.runs.handles) ran.at;
         devices_are = ran.devices_are;
       }
 
@@ -138,12 +183,26 @@ module _ {S Connection : Type 0} (model : StoreModel S)
   connections_are_one_run now old new [] starts same = record {
     run = [];
     runs = tt;
-    in_turn = (refl, record { limits_are = refl; histories = (subst (λ (s : S). MatchesRows now (model.limits s) (model.books s)) same (record { limits_are = starts.at.limits_are; histories = starts.at.histories })).histories });
+    in_turn = (
+      refl,
+      record {
+        limits_are = refl;
+        histories = (subst (λ (s : S). MatchesRows now (model.limits s) (model.books s)) same
+            (record {
+              limits_are = starts.at.limits_are;
+              histories = starts.at.histories;
+            })).histories;
+      },
+    );
   }
   connections_are_one_run now old new (turn ∷ turns) starts (middle, one, others) =
       let held = turns_premise turns middle new others starts.premise_holds in
-      let h = end_happens turn.end now turn.connection one.connection_after old middle (record { at = starts.at; premise_holds = held }) one.ended in
-      let more = connections_are_one_run (end_of now h.own) middle new turns (record { at = h.at; premise_holds = starts.premise_holds }) others in
+      let h = end_happens turn.end now turn.connection one.connection_after old middle
+      (record { at = starts.at; premise_holds = held }) one.ended in
+      let more = connections_are_one_run (end_of now h.own) middle new turns (record {
+        at = h.at;
+        premise_holds = starts.premise_holds;
+      }) others in
       record {
         run = h.own ++ more.run;
         runs = runs_join now h.own more.run h.runs more.runs;

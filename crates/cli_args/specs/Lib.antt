@@ -1,3 +1,4 @@
+pub mod HostNames
 pub mod Subcommands
 pub mod ParsedOrders
 pub mod WorkedLines

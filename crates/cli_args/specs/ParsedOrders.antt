@@ -4,6 +4,7 @@ use Rattle.std.specs.Prelude.{List, [], Option}
 use Rattle.std.specs.Prelude.{Some, None, Result, Ok, Err, codes, find, option_map, option_and_then}
 use Rattle.std.specs.Prelude.{drop, unwrap_or}
 use Rattle.std.specs.Prelude.{if◌then◌else◌}
+use Rattle.std.specs.List.{list_all}
 use Rattle.std.specs.Str.{bytes_eq}
 use Rattle.std.specs.Str.Parse.{digits_value, without_leading_plus}
 use Rattle.clap.specs.Walk.{Row, Text, all_of, first_of, is_empty, one_of}
@@ -16,6 +17,7 @@ use Rattle.clap.specs.declared.parser.matches.ValueSource.{ValueSource}
 use Rattle.clap.specs.declared.parser.matches.ValueSource.TheVariants.{CommandLine, DefaultValue}
 use Rattle.csv_cards.specs.declared.form.Form.{Form}
 use Rattle.csv_cards.specs.declared.form.Form.TheVariants.{Cards, Columns}
+use Rattle.cli_args.specs.HostNames.{is_host_name}
 use Rattle.cli_args.specs.Subcommands.{contacts_command}
 use Rattle.cli_args.specs.declared.fault.LineFault.{LineFault}
 use Rattle.cli_args.specs.declared.fault.LineFault.TheVariants.{Bad, Memory}
@@ -115,10 +117,12 @@ run_order_of rows = with_file (λ file. option_and_then (λ port. option_and_the
     (u64_arg (codes "MIB") rows)) (u64_arg (codes "S") rows)) (u64_arg (codes "M") rows))
     (port_arg rows)) rows
 
--- a socket and a port exclude each other, and a socket has a path
+-- a socket and a port exclude each other, a socket has a path, and a name is that of a host
 abbrev pub run_order : List Row → Option Order
 run_order rows = if is_given (codes "PATH") rows && is_given (codes "P") rows
-    then None else (if is_given_empty (codes "PATH") rows then None else run_order_of rows)
+    then None else (if is_given_empty (codes "PATH") rows then None
+    else (if list_all is_host_name (texts_arg (codes "NAME") rows) then run_order_of rows
+    else None))
 
 abbrev pub import_order : List Row → Option Order
 import_order rows = with_book (λ file book. option_and_then (λ key.

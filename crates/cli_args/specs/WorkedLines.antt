@@ -115,6 +115,10 @@ WorkedRuns =
     × (order_from (over_file (codes "run") (codes "--site" ∷ codes "desk" ∷ []))
     ≡ Some (order.Run db 8080 None [] 256 60 64 false false (Some (codes "desk"))))
     × (order_from (over_file (codes "run") (codes "--connections=1" ∷ [])) ≡ None)
+    × (order_from (over_file (codes "run") (codes "--host=[::1]" ∷ []))
+    ≡ Some (order.Run db 8080 None (codes "[::1]" ∷ []) 256 60 64 false false None))
+    × (order_from (over_file (codes "run") (codes "--host=a" ∷ codes "--host=b:443" ∷ [])) ≡ None)
+    × (order_from (over_file (codes "run") (codes "--host" ∷ [] ∷ [])) ≡ None)
 
 abbrev pub WorkedSockets : Type 0
 WorkedSockets =

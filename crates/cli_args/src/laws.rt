@@ -20,8 +20,8 @@ ghost use Rattle.cli_args.specs.WorkedLines.{WorkedSockets, WorkedVersions};
 /// - `ports`: 8 and 65535 are ports; 65536 is none.
 /// - `connections`: 1000000 is accepted; 1000001 and 0 are not.
 /// - `serves`: `serve` with both of its options; not with those of `run`.
-/// - `runs`: `run` without options and with all of them, `--host` twice; not with a number of
-///   connections.
+/// - `runs`: `run` without options and with all of them, `--host` twice and with an address; not with
+///   a number of connections, nor with a host that has a port or is empty.
 /// - `sockets`: `run` with a socket; not with a socket and a port, even if it is the default, nor
 ///   with two sockets or an empty path; `serve` has none.
 /// - `limits`: of `run`; 1 and 1000 open connections are accepted, 0 and 1001 are not; 1 and 3600

@@ -6,6 +6,7 @@ mod backup_orders;
 mod convert_command;
 mod export_command;
 mod fault;
+mod host_names;
 pub mod laws;
 mod matched_orders;
 mod order;

@@ -6,6 +6,7 @@ ghost use Rattle.cli_args.specs.ParsedOrders.{ParsesTo};
 use crate::backup_orders::{copy_order, restore_order, resync_order};
 use crate::export_command::export_order;
 use crate::fault::LineFault;
+use crate::host_names::{has_host_names, wrong_host_name};
 use crate::order::Order;
 use crate::values::{
     given_text, given_texts, given_u64, is_given, is_given_empty, later_texts, port_arg, refuse,
@@ -71,7 +72,12 @@ fn run_order_of(alloc: Global, matches: &ArgMatches<'_>) -> Result<Order, LineFa
 /// What is wrong with an empty path, and the name of the option, for messages.
 const EMPTY_PATH: &str = "'--socket <PATH>': it needs the path of a socket";
 
-/// The order `run`, if a socket and a port weren't both given, and the socket has a path.
+/// What is wrong with a name that is none of a host, and the name of the option, for messages.
+const WRONG_HOST: &str = "'--host <NAME>': it needs a name without a port, as office.example, and \
+     one --host for each name";
+
+/// The order `run`, if a socket and a port weren't both given, the socket has a path, and each name
+/// is that of a host.
 fn run_order(alloc: Global, matches: &ArgMatches<'_>) -> Result<Order, LineFault>
     ensures { ParsesTo (parsed.run_order (rows_of (found_of matches.now))) result }
 {
@@ -79,8 +85,10 @@ fn run_order(alloc: Global, matches: &ArgMatches<'_>) -> Result<Order, LineFault
         refuse_socket_and_port(alloc)
     } else if is_given_empty(matches, "PATH") {
         refuse(alloc, EMPTY_PATH, "")
-    } else {
+    } else if has_host_names(matches, "NAME") {
         run_order_of(alloc, matches)
+    } else {
+        refuse(alloc, WRONG_HOST, wrong_host_name(matches, "NAME"))
     }
 }
 

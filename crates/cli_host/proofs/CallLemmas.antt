@@ -1,5 +1,6 @@
 -- The calls that are made of a host, and what is done with their results.
-use Rattle.std.proofs.Common.{◌≡◌, ◌≢◌, ◌⊎◌, ℕ, Bool, true, false, List, [], ◌∷◌, ◌++◌, Option, Result, Ok, Err, IfErr, OnOk, inl, inr, refl, subst, sym}
+use Rattle.std.proofs.Common.{◌≡◌, ◌≢◌, ◌⊎◌, ℕ, Bool, true, false, List, [], ◌∷◌, ◌++◌, Option}
+use Rattle.std.proofs.Common.{Result, Ok, Err, IfErr, OnOk, inl, inr, refl, subst, sym}
 use Rattle.std.specs.Io.KnownBytes.{Appends}
 use Rattle.book_commands.specs.declared.command.Command.TheVariants.{Import as ImportRows}
 use Rattle.cli_orders.specs.Announcements.{AnnouncesAndServes, StopsServing}
@@ -17,8 +18,16 @@ use Rattle.cli_orders.specs.declared.address.Address.{Address}
 use Rattle.cli_orders.specs.declared.stop.Stop.{Stop}
 use Rattle.cli_orders.specs.declared.stop.Stop.TheVariants.{Open, Device}
 use Rattle.cli_orders.proofs.StopLemmas.{kept_same}
-use Rattle.cli_host.specs.Hosts.{HostCall, Copies, Creates, Looks, Opens, FindsFault, Migrates, ReadsRows, Restores, Binds, Finishes, IsBoundAs, LogsCalls, MakesCalls}
-use Rattle.cli_host.specs.OrdersOnHost.{ChecksFile, CopiesFile, DoesInFile, DoesStoreWork, GetsStore, ImportsRows, MakesStore, MigratesFile, RestoresFile, ServesAt, ServesStore, StopsAt, StopsChecking, StopsCopying, StopsInFile, StopsMaking, StopsMigrating, StopsOnImport, StopsReadingRows, StopsRestoring, StopsStore, StopsStoreWork, StopsUnbound, StopsUnopened, StopsVerifying, VerifiesFile}
+use Rattle.cli_host.specs.Hosts.{HostCall, Copies, Creates, Looks, Opens, FindsFault, Migrates}
+use Rattle.cli_host.specs.Hosts.{ReadsRows, Restores, Binds, Finishes, IsBoundAs, LogsCalls}
+use Rattle.cli_host.specs.Hosts.{MakesCalls}
+use Rattle.cli_host.specs.OrdersOnHost.{ChecksFile, CopiesFile, DoesInFile, DoesStoreWork}
+use Rattle.cli_host.specs.OrdersOnHost.{GetsStore, ImportsRows, MakesStore, MigratesFile}
+use Rattle.cli_host.specs.OrdersOnHost.{RestoresFile, ServesAt, ServesStore, StopsAt, StopsChecking}
+use Rattle.cli_host.specs.OrdersOnHost.{StopsCopying, StopsInFile, StopsMaking, StopsMigrating}
+use Rattle.cli_host.specs.OrdersOnHost.{StopsOnImport, StopsReadingRows, StopsRestoring, StopsStore}
+use Rattle.cli_host.specs.OrdersOnHost.{StopsStoreWork, StopsUnbound, StopsUnopened, StopsVerifying}
+use Rattle.cli_host.specs.OrdersOnHost.{VerifiesFile}
 use Rattle.cli_export.specs.CardFiles.{StopsCards}
 use Rattle.cli_host.specs.Resyncs.{StopsResync}
 use Rattle.cli_host.specs.declared.work.StoreWork.{StoreWork}
@@ -35,274 +44,568 @@ use Rattle.sync_core.specs.StoreModels.{StoreModel}
 unopened : (fault : OpenFault) (w : Option (List ℕ)) → StopsUnopened fault (Open fault) w w
 unopened fault w = record { stop_is = refl; unwritten = kept_same w }
 
-pub unbound : (stop : Stop) (w : Option (List ℕ)) → (stop ≡ out_of_memory) ⊎ (stop ≡ Device) → StopsUnbound stop w w
+pub unbound : (stop : Stop) (w : Option (List ℕ)) → (stop ≡ out_of_memory) ⊎ (stop ≡ Device)
+    → StopsUnbound stop w w
 unbound stop w (inl is) = inl (record { stop_is = is; unwritten = kept_same w })
 unbound stop w (inr is) = inr (record { stop_is = is; unwritten = kept_same w })
 
 module _ {S P L H : Type 0} (calls : HostCall S P L → H → H → Type 0) where
-  one_call : (old new : H) (call : HostCall S P L) (Holds : List (HostCall S P L) → Type 0) → calls call old new → Holds (call ∷ []) → LogsCalls calls old new Holds
-  one_call old new call Holds made holds = record { log = call ∷ []; made = (new, made, refl); holds = holds }
+  one_call : (old new : H) (call : HostCall S P L) (Holds : List (HostCall S P L) → Type 0)
+      → calls call old new → Holds (call ∷ []) → LogsCalls calls old new Holds
+  one_call old new call Holds made holds = record {
+    log = call ∷ [];
+    made = (new, made, refl);
+    holds = holds;
+  }
 
   -- ---- a new store
 
-  pub store_uncreated : (old new : H) (file : List ℕ) (fault : OpenFault) (w : Option (List ℕ)) → calls (Creates file (Err fault)) old new → LogsCalls calls old new (StopsMaking file (Open fault) w w)
-  store_uncreated old new file fault w made = one_call old new (Creates file (Err fault)) (StopsMaking file (Open fault) w w) made (inl (fault, refl, unopened fault w))
+  pub store_uncreated : (old new : H) (file : List ℕ) (fault : OpenFault) (w : Option (List ℕ))
+      → calls (Creates file (Err fault)) old new
+      → LogsCalls calls old new (StopsMaking file (Open fault) w w)
+  store_uncreated old new file fault w made =
+      one_call old new (Creates file (Err fault)) (StopsMaking file (Open fault) w w) made
+      (inl (fault, refl, unopened fault w))
 
-  pub store_made : (result : Result (Unit {0}) Stop) (old new : H) (file : List ℕ) (store : S) (before after : Option (List ℕ)) → calls (Creates file (Ok store)) old new → OnOk result (Appends before after made_output)
+  pub store_made : (result : Result (Unit {0}) Stop) (old new : H) (file : List ℕ) (store : S)
+      (before after : Option (List ℕ)) → calls (Creates file (Ok store)) old new
+      → OnOk result (Appends before after made_output)
       → OnOk result (LogsCalls calls old new (MakesStore file before after))
-  store_made (Ok done) old new file store before after made printed = one_call old new (Creates file (Ok store)) (MakesStore file before after) made (record { store = store; calls = refl; printed = printed })
+  store_made (Ok done) old new file store before after made printed =
+      one_call old new (Creates file (Ok store)) (MakesStore file before after) made
+      (record { store = store; calls = refl; printed = printed })
   store_made (Err stop) old new file store before after made printed = tt
 
-  pub store_made_unprinted : (result : Result (Unit {0}) Stop) (old new : H) (file : List ℕ) (store : S) (before after : Option (List ℕ)) → calls (Creates file (Ok store)) old new → WritesPrefix made_output before after → IfErr result (λ stop. stop ≡ Device)
+  pub store_made_unprinted : (result : Result (Unit {0}) Stop) (old new : H) (file : List ℕ)
+      (store : S) (before after : Option (List ℕ)) → calls (Creates file (Ok store)) old new
+      → WritesPrefix made_output before after → IfErr result (λ stop. stop ≡ Device)
       → IfErr result (λ stop. LogsCalls calls old new (StopsMaking file stop before after))
   store_made_unprinted (Ok done) old new file store before after made front device = tt
-  store_made_unprinted (Err stop) old new file store before after made front device = one_call old new (Creates file (Ok store)) (StopsMaking file stop before after) made (inr (store, refl, record { stop_is = device; front = front }))
+  store_made_unprinted (Err stop) old new file store before after made front device =
+      one_call old new (Creates file (Ok store)) (StopsMaking file stop before after) made
+      (inr (store, refl, record { stop_is = device; front = front }))
 
   -- ---- a file of the first schema
 
-  pub file_unmigrated : (old new : H) (file : List ℕ) (fault : OpenFault) (w : Option (List ℕ)) → calls (Migrates file (Err fault)) old new → LogsCalls calls old new (StopsMigrating file (Open fault) w w)
-  file_unmigrated old new file fault w made = one_call old new (Migrates file (Err fault)) (StopsMigrating file (Open fault) w w) made (inl (fault, refl, unopened fault w))
+  pub file_unmigrated : (old new : H) (file : List ℕ) (fault : OpenFault) (w : Option (List ℕ))
+      → calls (Migrates file (Err fault)) old new
+      → LogsCalls calls old new (StopsMigrating file (Open fault) w w)
+  file_unmigrated old new file fault w made =
+      one_call old new (Migrates file (Err fault)) (StopsMigrating file (Open fault) w w) made
+      (inl (fault, refl, unopened fault w))
 
-  pub migration_without_text : (old new : H) (file : List ℕ) (count : ℕ) (w : Option (List ℕ)) → calls (Migrates file (Ok count)) old new → LogsCalls calls old new (StopsMigrating file out_of_memory w w)
-  migration_without_text old new file count w made = one_call old new (Migrates file (Ok count)) (StopsMigrating file out_of_memory w w) made (inr (count, refl, inl (record { stop_is = refl; unwritten = kept_same w })))
+  pub migration_without_text : (old new : H) (file : List ℕ) (count : ℕ) (w : Option (List ℕ))
+      → calls (Migrates file (Ok count)) old new
+      → LogsCalls calls old new (StopsMigrating file out_of_memory w w)
+  migration_without_text old new file count w made =
+      one_call old new (Migrates file (Ok count)) (StopsMigrating file out_of_memory w w) made
+      (inr (count, refl, inl (record { stop_is = refl; unwritten = kept_same w })))
 
-  pub file_migrated : (result : Result (Unit {0}) Stop) (old new : H) (file : List ℕ) (count : ℕ) (before after : Option (List ℕ)) → calls (Migrates file (Ok count)) old new → OnOk result (Appends before after (migrate_output count))
+  pub file_migrated : (result : Result (Unit {0}) Stop) (old new : H) (file : List ℕ) (count : ℕ)
+      (before after : Option (List ℕ)) → calls (Migrates file (Ok count)) old new
+      → OnOk result (Appends before after (migrate_output count))
       → OnOk result (LogsCalls calls old new (MigratesFile file before after))
-  file_migrated (Ok done) old new file count before after made printed = one_call old new (Migrates file (Ok count)) (MigratesFile file before after) made (record { count = count; calls = refl; printed = printed })
+  file_migrated (Ok done) old new file count before after made printed =
+      one_call old new (Migrates file (Ok count)) (MigratesFile file before after) made
+      (record { count = count; calls = refl; printed = printed })
   file_migrated (Err stop) old new file count before after made printed = tt
 
-  pub file_migrated_unprinted : (result : Result (Unit {0}) Stop) (old new : H) (file : List ℕ) (count : ℕ) (before after : Option (List ℕ)) → calls (Migrates file (Ok count)) old new → WritesPrefix (migrate_output count) before after → IfErr result (λ stop. stop ≡ Device)
+  pub file_migrated_unprinted : (result : Result (Unit {0}) Stop) (old new : H) (file : List ℕ)
+      (count : ℕ) (before after : Option (List ℕ)) → calls (Migrates file (Ok count)) old new
+      → WritesPrefix (migrate_output count) before after → IfErr result (λ stop. stop ≡ Device)
       → IfErr result (λ stop. LogsCalls calls old new (StopsMigrating file stop before after))
   file_migrated_unprinted (Ok done) old new file count before after made front device = tt
   file_migrated_unprinted (Err stop) old new file count before after made front device =
-      one_call old new (Migrates file (Ok count)) (StopsMigrating file stop before after) made (inr (count, refl, inr (record { stop_is = device; front = front })))
+      one_call old new (Migrates file (Ok count)) (StopsMigrating file stop before after) made
+      (inr (count, refl, inr (record { stop_is = device; front = front })))
 
   -- ---- a copy
 
-  pub file_uncopied : (old new : H) (file target : List ℕ) (without : List (List ℕ)) (stop : Stop) (w : Option (List ℕ)) → calls (Copies file target without (Err stop)) old new → LogsCalls calls old new (StopsCopying file target without stop w w)
-  file_uncopied old new file target without stop w made = one_call old new (Copies file target without (Err stop)) (StopsCopying file target without stop w w) made (inl (refl, kept_same w))
+  pub file_uncopied : (old new : H) (file target : List ℕ) (without : List (List ℕ)) (stop : Stop)
+      (w : Option (List ℕ)) → calls (Copies file target without (Err stop)) old new
+      → LogsCalls calls old new (StopsCopying file target without stop w w)
+  file_uncopied old new file target without stop w made =
+      one_call old new (Copies file target without (Err stop)) (StopsCopying file target without
+      stop w w) made (inl (refl, kept_same w))
 
-  pub copy_without_text : (old new : H) (file target : List ℕ) (without : List (List ℕ)) (count : ℕ) (w : Option (List ℕ)) → calls (Copies file target without (Ok count)) old new
+  pub copy_without_text : (old new : H) (file target : List ℕ) (without : List (List ℕ)) (count : ℕ)
+      (w : Option (List ℕ)) → calls (Copies file target without (Ok count)) old new
       → LogsCalls calls old new (StopsCopying file target without out_of_memory w w)
   copy_without_text old new file target without count w made =
-      one_call old new (Copies file target without (Ok count)) (StopsCopying file target without out_of_memory w w) made (inr (count, refl, inl (record { stop_is = refl; unwritten = kept_same w })))
+      one_call old new (Copies file target without (Ok count)) (StopsCopying file target without
+      out_of_memory w w) made (inr (
+        count,
+        refl,
+        inl (record { stop_is = refl; unwritten = kept_same w }),
+      ))
 
-  pub file_copied : (result : Result (Unit {0}) Stop) (old new : H) (file target : List ℕ) (without : List (List ℕ)) (count : ℕ) (before after : Option (List ℕ)) → calls (Copies file target without (Ok count)) old new
-      → OnOk result (Appends before after (copy_output count)) → OnOk result (LogsCalls calls old new (CopiesFile file target without before after))
+  pub file_copied : (result : Result (Unit {0}) Stop) (old new : H) (file target : List ℕ)
+      (without : List (List ℕ)) (count : ℕ) (before after : Option (List ℕ))
+      → calls (Copies file target without (Ok count)) old new
+      → OnOk result (Appends before after (copy_output count))
+      → OnOk result (LogsCalls calls old new (CopiesFile file target without before after))
   file_copied (Ok done) old new file target without count before after made printed =
-      one_call old new (Copies file target without (Ok count)) (CopiesFile file target without before after) made (record { count = count; calls = refl; printed = printed })
+      one_call old new (Copies file target without (Ok count)) (CopiesFile file target without
+      before after) made (record { count = count; calls = refl; printed = printed })
   file_copied (Err stop) old new file target without count before after made printed = tt
 
-  pub file_copied_unprinted : (result : Result (Unit {0}) Stop) (old new : H) (file target : List ℕ) (without : List (List ℕ)) (count : ℕ) (before after : Option (List ℕ)) → calls (Copies file target without (Ok count)) old new
-      → WritesPrefix (copy_output count) before after → IfErr result (λ stop. stop ≡ Device) → IfErr result (λ stop. LogsCalls calls old new (StopsCopying file target without stop before after))
-  file_copied_unprinted (Ok done) old new file target without count before after made front device = tt
-  file_copied_unprinted (Err stop) old new file target without count before after made front device =
-      one_call old new (Copies file target without (Ok count)) (StopsCopying file target without stop before after) made (inr (count, refl, inr (record { stop_is = device; front = front })))
+  pub file_copied_unprinted : (result : Result (Unit {0}) Stop) (old new : H) (file target : List ℕ)
+      (without : List (List ℕ)) (count : ℕ) (before after : Option (List ℕ))
+      → calls (Copies file target without (Ok count)) old new
+      → WritesPrefix (copy_output count) before after → IfErr result (λ stop. stop ≡ Device)
+      → IfErr result (λ stop. LogsCalls calls old new (StopsCopying file target without stop
+      before after))
+  file_copied_unprinted (Ok done) old new file target without count before after made front device =
+      tt
+  file_copied_unprinted (Err stop) old new file target without count before after made front
+      device =
+      one_call old new (Copies file target without (Ok count)) (StopsCopying file target without
+      stop before after) made (inr (
+        count,
+        refl,
+        inr (record { stop_is = device; front = front }),
+      ))
 
   -- ---- a copy that is put back
 
-  pub file_unrestored : (old new : H) (backup file : List ℕ) (pairs : ℕ) (stop : Stop) (w : Option (List ℕ)) → calls (Restores backup file pairs (Err stop)) old new → LogsCalls calls old new (StopsRestoring backup file pairs stop w w)
-  file_unrestored old new backup file pairs stop w made = one_call old new (Restores backup file pairs (Err stop)) (StopsRestoring backup file pairs stop w w) made (inl (refl, kept_same w))
+  pub file_unrestored : (old new : H) (backup file : List ℕ) (pairs : ℕ) (stop : Stop) (w :
+      Option (List ℕ)) → calls (Restores backup file pairs (Err stop)) old new
+      → LogsCalls calls old new (StopsRestoring backup file pairs stop w w)
+  file_unrestored old new backup file pairs stop w made =
+      one_call old new (Restores backup file pairs (Err stop)) (StopsRestoring backup file pairs
+      stop w w) made (inl (refl, kept_same w))
 
-  pub restore_without_text : (old new : H) (backup file : List ℕ) (pairs : ℕ) (restored : Restored) (w : Option (List ℕ)) → calls (Restores backup file pairs (Ok restored)) old new
+  pub restore_without_text : (old new : H) (backup file : List ℕ) (pairs : ℕ) (restored : Restored)
+      (w : Option (List ℕ)) → calls (Restores backup file pairs (Ok restored)) old new
       → LogsCalls calls old new (StopsRestoring backup file pairs out_of_memory w w)
   restore_without_text old new backup file pairs restored w made =
-      one_call old new (Restores backup file pairs (Ok restored)) (StopsRestoring backup file pairs out_of_memory w w) made (inr (restored, refl, inl (record { stop_is = refl; unwritten = kept_same w })))
+      one_call old new (Restores backup file pairs (Ok restored)) (StopsRestoring backup file pairs
+      out_of_memory w w) made (inr (
+        restored,
+        refl,
+        inl (record { stop_is = refl; unwritten = kept_same w }),
+      ))
 
-  pub file_restored : (result : Result (Unit {0}) Stop) (old new : H) (backup file : List ℕ) (pairs : ℕ) (restored : Restored) (before after : Option (List ℕ)) → calls (Restores backup file pairs (Ok restored)) old new
-      → OnOk result (Appends before after (restore_output file restored)) → OnOk result (LogsCalls calls old new (RestoresFile backup file pairs before after))
+  pub file_restored : (result : Result (Unit {0}) Stop) (old new : H) (backup file : List ℕ)
+      (pairs : ℕ) (restored : Restored) (before after : Option (List ℕ))
+      → calls (Restores backup file pairs (Ok restored)) old new
+      → OnOk result (Appends before after (restore_output file restored))
+      → OnOk result (LogsCalls calls old new (RestoresFile backup file pairs before after))
   file_restored (Ok done) old new backup file pairs restored before after made printed =
-      one_call old new (Restores backup file pairs (Ok restored)) (RestoresFile backup file pairs before after) made (record { restored = restored; calls = refl; printed = printed })
+      one_call old new (Restores backup file pairs (Ok restored)) (RestoresFile backup file pairs
+      before after) made (record { restored = restored; calls = refl; printed = printed })
   file_restored (Err stop) old new backup file pairs restored before after made printed = tt
 
-  pub file_restored_unprinted : (result : Result (Unit {0}) Stop) (old new : H) (backup file : List ℕ) (pairs : ℕ) (restored : Restored) (before after : Option (List ℕ)) → calls (Restores backup file pairs (Ok restored)) old new
-      → WritesPrefix (restore_output file restored) before after → IfErr result (λ stop. stop ≡ Device) → IfErr result (λ stop. LogsCalls calls old new (StopsRestoring backup file pairs stop before after))
-  file_restored_unprinted (Ok done) old new backup file pairs restored before after made front device = tt
-  file_restored_unprinted (Err stop) old new backup file pairs restored before after made front device =
-      one_call old new (Restores backup file pairs (Ok restored)) (StopsRestoring backup file pairs stop before after) made (inr (restored, refl, inr (record { stop_is = device; front = front })))
+  pub file_restored_unprinted : (result : Result (Unit {0}) Stop) (old new : H) (backup file :
+      List ℕ) (pairs : ℕ) (restored : Restored) (before after : Option (List ℕ))
+      → calls (Restores backup file pairs (Ok restored)) old new
+      → WritesPrefix (restore_output file restored) before after
+      → IfErr result (λ stop. stop ≡ Device)
+      → IfErr result (λ stop. LogsCalls calls old new (StopsRestoring backup file pairs stop
+      before after))
+  file_restored_unprinted (Ok done) old new backup file pairs restored before after made front
+      device = tt
+  file_restored_unprinted (Err stop) old new backup file pairs restored before after made front
+      device =
+      one_call old new (Restores backup file pairs (Ok restored)) (StopsRestoring backup file pairs
+      stop before after) made (inr (
+        restored,
+        refl,
+        inr (record { stop_is = device; front = front }),
+      ))
 
   -- ---- a check of a file
 
-  pub octets_unread : (old new : H) (file : List ℕ) (stop : Stop) (w : Option (List ℕ)) → calls (ReadsRows file (Err stop)) old new → (stop ≡ out_of_memory) ⊎ (stop ≡ Device) → LogsCalls calls old new (StopsChecking file stop w w)
-  octets_unread old new file stop w made stop_is = one_call old new (ReadsRows file (Err stop)) (StopsChecking file stop w w) made (inl (refl, unbound stop w stop_is))
+  pub octets_unread : (old new : H) (file : List ℕ) (stop : Stop) (w : Option (List ℕ))
+      → calls (ReadsRows file (Err stop)) old new → (stop ≡ out_of_memory) ⊎ (stop ≡ Device)
+      → LogsCalls calls old new (StopsChecking file stop w w)
+  octets_unread old new file stop w made stop_is =
+      one_call old new (ReadsRows file (Err stop)) (StopsChecking file stop w w) made
+      (inl (refl, unbound stop w stop_is))
 
-  pub file_checked : (result : Result (Unit {0}) Stop) (old new : H) (file octets : List ℕ) (before after : Option (List ℕ)) → calls (ReadsRows file (Ok octets)) old new → OnOk result (PassesCheck (kind_of_file file) octets before after)
+  pub file_checked : (result : Result (Unit {0}) Stop) (old new : H) (file octets : List ℕ)
+      (before after : Option (List ℕ)) → calls (ReadsRows file (Ok octets)) old new
+      → OnOk result (PassesCheck (kind_of_file file) octets before after)
       → OnOk result (LogsCalls calls old new (ChecksFile file before after))
-  file_checked (Ok done) old new file octets before after made passes = one_call old new (ReadsRows file (Ok octets)) (ChecksFile file before after) made (record { octets = octets; calls = refl; passes = passes })
+  file_checked (Ok done) old new file octets before after made passes =
+      one_call old new (ReadsRows file (Ok octets)) (ChecksFile file before after) made
+      (record { octets = octets; calls = refl; passes = passes })
   file_checked (Err stop) old new file octets before after made passes = tt
 
-  pub file_refused : (result : Result (Unit {0}) Stop) (old new : H) (file octets : List ℕ) (before after : Option (List ℕ)) → calls (ReadsRows file (Ok octets)) old new → IfErr result (λ stop. StopsCheck (kind_of_file file) octets stop before after)
+  pub file_refused : (result : Result (Unit {0}) Stop) (old new : H) (file octets : List ℕ)
+      (before after : Option (List ℕ)) → calls (ReadsRows file (Ok octets)) old new
+      → IfErr result (λ stop. StopsCheck (kind_of_file file) octets stop before after)
       → IfErr result (λ stop. LogsCalls calls old new (StopsChecking file stop before after))
   file_refused (Ok done) old new file octets before after made stops = tt
-  file_refused (Err stop) old new file octets before after made stops = one_call old new (ReadsRows file (Ok octets)) (StopsChecking file stop before after) made (inr (record { octets = octets; calls = refl; stops = stops }))
+  file_refused (Err stop) old new file octets before after made stops =
+      one_call old new (ReadsRows file (Ok octets)) (StopsChecking file stop before after) made
+      (inr (record { octets = octets; calls = refl; stops = stops }))
 
 -- ---- stores
 
 module _ {S P L H : Type 0} (model : StoreModel S) (calls : HostCall S P L → H → H → Type 0) where
-  abbrev StopsImport : S → List ℕ → List ℕ → List ℕ → Stop → Option (List ℕ) → Option (List ℕ) → S → List (HostCall S P L) → Type 0
-  StopsImport old book key csv stop before after new log = StopsReadingRows model old csv stop before after new log ⊎ StopsOnImport model old book key csv stop before after new log
+  abbrev StopsImport : S → List ℕ → List ℕ → List ℕ → Stop → Option (List ℕ) → Option (List ℕ) → S
+      → List (HostCall S P L) → Type 0
+  StopsImport old book key csv stop before after new log =
+      StopsReadingRows model old csv stop before after new log
+      ⊎ StopsOnImport model old book key csv stop before after new log
 
-  pub rows_unread : (host_old host_new : H) (old : S) (book key csv : List ℕ) (stop : Stop) (w : Option (List ℕ)) → calls (ReadsRows csv (Err stop)) host_old host_new → (stop ≡ out_of_memory) ⊎ (stop ≡ Device)
+  pub rows_unread : (host_old host_new : H) (old : S) (book key csv : List ℕ) (stop : Stop) (w :
+      Option (List ℕ)) → calls (ReadsRows csv (Err stop)) host_old host_new → (stop ≡ out_of_memory)
+      ⊎ (stop ≡ Device)
       → LogsCalls calls host_old host_new (StopsImport old book key csv stop w w old)
   rows_unread host_old host_new old book key csv stop w made stop_is =
-      one_call calls host_old host_new (ReadsRows csv (Err stop)) (StopsImport old book key csv stop w w old) made (inl (record { calls = refl; unchanged = refl; unwritten = kept_same w; stop_is = stop_is }))
+      one_call calls host_old host_new (ReadsRows csv (Err stop)) (StopsImport old book key csv stop
+      w w old) made (inl (record {
+        calls = refl;
+        unchanged = refl;
+        unwritten = kept_same w;
+        stop_is = stop_is;
+      }))
 
-  pub rows_file_imported : (result : Result (Unit {0}) Stop) (host_old host_new : H) (old new : S) (book key csv rows : List ℕ) (before after : Option (List ℕ)) → calls (ReadsRows csv (Ok rows)) host_old host_new
-      → OnOk result (PrintsCommand model old (ImportRows book key rows) before after new) → OnOk result (LogsCalls calls host_old host_new (ImportsRows model old book key csv before after new))
-  rows_file_imported (Ok done) host_old host_new old new book key csv rows before after made prints = one_call calls host_old host_new (ReadsRows csv (Ok rows)) (ImportsRows model old book key csv before after new) made (record { rows = rows; calls = refl; prints = prints })
-  rows_file_imported (Err stop) host_old host_new old new book key csv rows before after made prints = tt
+  pub rows_file_imported : (result : Result (Unit {0}) Stop) (host_old host_new : H) (old new : S)
+      (book key csv rows : List ℕ) (before after : Option (List ℕ))
+      → calls (ReadsRows csv (Ok rows)) host_old host_new
+      → OnOk result (PrintsCommand model old (ImportRows book key rows) before after new)
+      → OnOk result (LogsCalls calls host_old host_new (ImportsRows model old book key csv
+      before after new))
+  rows_file_imported (Ok done) host_old host_new old new book key csv rows before after made
+      prints = one_call calls host_old host_new (ReadsRows csv (Ok rows))
+      (ImportsRows model old book key csv before after new) made (record {
+        rows = rows;
+        calls = refl;
+        prints = prints;
+      })
+  rows_file_imported (Err stop) host_old host_new old new book key csv rows before after made
+      prints = tt
 
-  pub rows_file_unimported : (result : Result (Unit {0}) Stop) (host_old host_new : H) (old new : S) (book key csv rows : List ℕ) (before after : Option (List ℕ)) → calls (ReadsRows csv (Ok rows)) host_old host_new
-      → IfErr result (λ stop. StopsCommand model old (ImportRows book key rows) stop before after new) → IfErr result (λ stop. LogsCalls calls host_old host_new (StopsImport old book key csv stop before after new))
-  rows_file_unimported (Ok done) host_old host_new old new book key csv rows before after made stops = tt
-  rows_file_unimported (Err stop) host_old host_new old new book key csv rows before after made stops =
-      one_call calls host_old host_new (ReadsRows csv (Ok rows)) (StopsImport old book key csv stop before after new) made (inr (record { rows = rows; calls = refl; stops = stops }))
+  pub rows_file_unimported : (result : Result (Unit {0}) Stop) (host_old host_new : H) (old new : S)
+      (book key csv rows : List ℕ) (before after : Option (List ℕ))
+      → calls (ReadsRows csv (Ok rows)) host_old host_new
+      → IfErr result (λ stop. StopsCommand model old (ImportRows book key rows) stop before after
+      new) → IfErr result (λ stop. LogsCalls calls host_old host_new
+      (StopsImport old book key csv stop before after new))
+  rows_file_unimported (Ok done) host_old host_new old new book key csv rows before after made
+      stops = tt
+  rows_file_unimported (Err stop) host_old host_new old new book key csv rows before after made
+      stops =
+      one_call calls host_old host_new (ReadsRows csv (Ok rows)) (StopsImport old book key csv stop
+      before after new) made (inr (record { rows = rows; calls = refl; stops = stops }))
 
   -- ---- the store in a file
 
-  pub file_unopened : (old new : H) (file : List ℕ) (work : StoreWork) (fault : OpenFault) (w : Option (List ℕ)) → calls (Opens file (Err fault)) old new → LogsCalls calls old new (StopsInFile model file work (Open fault) w w)
-  file_unopened old new file work fault w made = one_call calls old new (Opens file (Err fault)) (StopsInFile model file work (Open fault) w w) made (inl (fault, refl, unopened fault w))
+  pub file_unopened : (old new : H) (file : List ℕ) (work : StoreWork) (fault : OpenFault) (w :
+      Option (List ℕ)) → calls (Opens file (Err fault)) old new
+      → LogsCalls calls old new (StopsInFile model file work (Open fault) w w)
+  file_unopened old new file work fault w made =
+      one_call calls old new (Opens file (Err fault)) (StopsInFile model file work (Open fault) w w)
+      made (inl (fault, refl, unopened fault w))
 
-  pub file_used : (result : Result (Unit {0}) Stop) (old opened new : H) (file : List ℕ) (work : StoreWork) (store store_after : S) (before after : Option (List ℕ)) → calls (Opens file (Ok store)) old opened
-      → OnOk result (LogsCalls calls opened new (DoesStoreWork model store work before after store_after)) → OnOk result (LogsCalls calls old new (DoesInFile model file work before after))
+  pub file_used : (result : Result (Unit {0}) Stop) (old opened new : H) (file : List ℕ) (work :
+      StoreWork) (store store_after : S) (before after : Option (List ℕ))
+      → calls (Opens file (Ok store)) old opened
+      → OnOk result (LogsCalls calls opened new (DoesStoreWork model store work before after
+      store_after)) → OnOk result (LogsCalls calls old new (DoesInFile model file work before
+      after))
   file_used (Ok done) old opened new file work store store_after before after made does = record {
     log = Opens file (Ok store) ∷ does.log;
     made = (opened, made, does.made);
-    holds = record { store = store; later = does.log; calls = refl; store_after = store_after; does = does.holds };
+    holds = record {
+      store = store;
+      later = does.log;
+      calls = refl;
+      store_after = store_after;
+      does = does.holds;
+    };
   }
   file_used (Err stop) old opened new file work store store_after before after made does = tt
 
-  pub file_stopped : (result : Result (Unit {0}) Stop) (old opened new : H) (file : List ℕ) (work : StoreWork) (store store_after : S) (before after : Option (List ℕ)) → calls (Opens file (Ok store)) old opened
-      → IfErr result (λ stop. LogsCalls calls opened new (StopsStoreWork model store work stop before after store_after)) → IfErr result (λ stop. LogsCalls calls old new (StopsInFile model file work stop before after))
+  pub file_stopped : (result : Result (Unit {0}) Stop) (old opened new : H) (file : List ℕ) (work :
+      StoreWork) (store store_after : S) (before after : Option (List ℕ))
+      → calls (Opens file (Ok store)) old opened
+      → IfErr result (λ stop. LogsCalls calls opened new (StopsStoreWork model store work stop
+      before after store_after)) → IfErr result (λ stop. LogsCalls calls old new
+      (StopsInFile model file work stop before after))
   file_stopped (Ok done) old opened new file work store store_after before after made stops = tt
-  file_stopped (Err stop) old opened new file work store store_after before after made stops = record {
-    log = Opens file (Ok store) ∷ stops.log;
-    made = (opened, made, stops.made);
-    holds = inr (record { store = store; later = stops.log; calls = refl; store_after = store_after; stops = stops.holds });
-  }
+  file_stopped (Err stop) old opened new file work store store_after before after made stops =
+      record {
+        log = Opens file (Ok store) ∷ stops.log;
+        made = (opened, made, stops.made);
+        holds = inr (record {
+          store = store;
+          later = stops.log;
+          calls = refl;
+          store_after = store_after;
+          stops = stops.holds;
+        });
+      }
 
   -- ---- a resync
 
-  pub resync_stopped : (result : Result (Unit {0}) Stop) (host : H) (old new : S) (pairs : ℕ) (before after : Option (List ℕ)) → IfErr result (λ stop. StopsResync model old pairs stop before after new)
-      → IfErr result (λ stop. LogsCalls calls host host (StopsStoreWork model old (Resync pairs) stop before after new))
+  pub resync_stopped : (result : Result (Unit {0}) Stop) (host : H) (old new : S) (pairs : ℕ)
+      (before after : Option (List ℕ))
+      → IfErr result (λ stop. StopsResync model old pairs stop before after new)
+      → IfErr result (λ stop. LogsCalls calls host host (StopsStoreWork model old (Resync pairs)
+      stop before after new))
   resync_stopped (Ok done) host old new pairs before after s = tt
-  resync_stopped (Err stop) host old new pairs before after s = record { log = []; made = refl; holds = (refl, s) }
+  resync_stopped (Err stop) host old new pairs before after s = record {
+    log = [];
+    made = refl;
+    holds = (refl, s);
+  }
 
   -- ---- an export as vCards
 
-  pub export_stopped : (result : Result (Unit {0}) Stop) (host : H) (old new : S) (book : List ℕ) (is_older : Bool) (before after : Option (List ℕ)) → IfErr result (λ stop. StopsCards model old book is_older stop before after new)
-      → IfErr result (λ stop. LogsCalls calls host host (StopsStoreWork model old (ExportCards book is_older) stop before after new))
+  pub export_stopped : (result : Result (Unit {0}) Stop) (host : H) (old new : S) (book : List ℕ)
+      (is_older : Bool) (before after : Option (List ℕ))
+      → IfErr result (λ stop. StopsCards model old book is_older stop before after new)
+      → IfErr result (λ stop. LogsCalls calls host host
+      (StopsStoreWork model old (ExportCards book is_older) stop before after new))
   export_stopped (Ok done) host old new book is_older before after s = tt
-  export_stopped (Err stop) host old new book is_older before after s = record { log = []; made = refl; holds = (refl, s) }
+  export_stopped (Err stop) host old new book is_older before after s =
+      record { log = []; made = refl; holds = (refl, s) }
 
   -- ---- verifying a file
 
-  pub verify_unopened : (old new : H) (file : List ℕ) (fault : OpenFault) (w : Option (List ℕ)) → fault ≢ Damaged → calls (Opens file (Err fault)) old new → LogsCalls calls old new (StopsVerifying model file (Open fault) w w)
+  pub verify_unopened : (old new : H) (file : List ℕ) (fault : OpenFault) (w : Option (List ℕ))
+      → fault ≢ Damaged → calls (Opens file (Err fault)) old new
+      → LogsCalls calls old new (StopsVerifying model file (Open fault) w w)
   verify_unopened old new file fault w undamaged made =
-      one_call calls old new (Opens file (Err fault)) (StopsVerifying model file (Open fault) w w) made (inl (record { fault = fault; undamaged = undamaged; calls = refl; stops = unopened fault w }))
+      one_call calls old new (Opens file (Err fault)) (StopsVerifying model file (Open fault) w w)
+      made (inl (record {
+        fault = fault;
+        undamaged = undamaged;
+        calls = refl;
+        stops = unopened fault w;
+      }))
 
-  pub damage_reported : (old opened new : H) (file : List ℕ) (found : Result (Option FaultyRow) OpenFault) (stop : Stop) (before after : Option (List ℕ)) → calls (Opens file (Err Damaged)) old opened → calls (FindsFault file found) opened new
-      → ReportsDamage found stop before after → LogsCalls calls old new (StopsVerifying model file stop before after)
+  pub damage_reported : (old opened new : H) (file : List ℕ) (found :
+      Result (Option FaultyRow) OpenFault) (stop : Stop) (before after : Option (List ℕ))
+      → calls (Opens file (Err Damaged)) old opened → calls (FindsFault file found) opened new
+      → ReportsDamage found stop before after
+      → LogsCalls calls old new (StopsVerifying model file stop before after)
   damage_reported old opened new file found stop before after made searched reports = record {
     log = Opens file (Err Damaged) ∷ FindsFault file found ∷ [];
     made = (opened, made, (new, searched, refl));
     holds = inr (inl (record { found = found; calls = refl; reports = reports }));
   }
 
-  pub file_verified : (result : Result (Unit {0}) Stop) (old new : H) (file : List ℕ) (store store_after : S) (before after : Option (List ℕ)) → calls (Opens file (Ok store)) old new
-      → OnOk result (PrintsListing model Verified store before after store_after) → OnOk result (LogsCalls calls old new (VerifiesFile model file before after))
+  pub file_verified : (result : Result (Unit {0}) Stop) (old new : H) (file : List ℕ)
+      (store store_after : S) (before after : Option (List ℕ))
+      → calls (Opens file (Ok store)) old new
+      → OnOk result (PrintsListing model Verified store before after store_after)
+      → OnOk result (LogsCalls calls old new (VerifiesFile model file before after))
   file_verified (Ok done) old new file store store_after before after made prints =
-      one_call calls old new (Opens file (Ok store)) (VerifiesFile model file before after) made (record { store = store; later = []; calls = refl; store_after = store_after; does = (refl, prints) })
+      one_call calls old new (Opens file (Ok store)) (VerifiesFile model file before after) made
+      (record {
+        store = store;
+        later = [];
+        calls = refl;
+        store_after = store_after;
+        does = (refl, prints);
+      })
   file_verified (Err stop) old new file store store_after before after made prints = tt
 
-  pub file_unverified : (result : Result (Unit {0}) Stop) (old new : H) (file : List ℕ) (store store_after : S) (before after : Option (List ℕ)) → calls (Opens file (Ok store)) old new
-      → IfErr result (λ stop. StopsListing model Verified store stop before after store_after) → IfErr result (λ stop. LogsCalls calls old new (StopsVerifying model file stop before after))
+  pub file_unverified : (result : Result (Unit {0}) Stop) (old new : H) (file : List ℕ)
+      (store store_after : S) (before after : Option (List ℕ))
+      → calls (Opens file (Ok store)) old new
+      → IfErr result (λ stop. StopsListing model Verified store stop before after store_after)
+      → IfErr result (λ stop. LogsCalls calls old new (StopsVerifying model file stop before
+      after))
   file_unverified (Ok done) old new file store store_after before after made stops = tt
   file_unverified (Err stop) old new file store store_after before after made stops =
-      one_call calls old new (Opens file (Ok store)) (StopsVerifying model file stop before after) made (inr (inr (record { store = store; later = []; calls = refl; store_after = store_after; stops = (refl, stops) })))
+      one_call calls old new (Opens file (Ok store)) (StopsVerifying model file stop before after)
+      made (inr (inr (record {
+        store = store;
+        later = [];
+        calls = refl;
+        store_after = store_after;
+        stops = (refl, stops);
+      })))
 
 -- ---- serving
 
 module _ {S P L H : Type 0} (calls : HostCall S P L → H → H → Type 0) where
   -- calls of the host in turn
-  makes_both : (first later : List (HostCall S P L)) (old middle new : H) → MakesCalls calls old first middle → MakesCalls calls middle later new → MakesCalls calls old (first ++ later) new
-  makes_both [] later old middle new same made = subst (λ (h : H). MakesCalls calls h later new) same made
-  makes_both (call ∷ first) later old middle new (next, did, rest) made = (next, did, makes_both first later next middle new rest made)
+  makes_both : (first later : List (HostCall S P L)) (old middle new : H)
+      → MakesCalls calls old first middle → MakesCalls calls middle later new
+      → MakesCalls calls old (first ++ later) new
+  makes_both [] later old middle new same made =
+      subst (λ (h : H). MakesCalls calls h later new) same made
+  makes_both (call ∷ first) later old middle new (next, did, rest) made =
+      (next, did, makes_both first later next middle new rest made)
 
-  pub store_opened : (old new : H) (file : List ℕ) (creates : Bool) (result : Result S OpenFault) → creates ≡ false → calls (Opens file result) old new → LogsCalls calls old new (GetsStore file creates result)
+  pub store_opened : (old new : H) (file : List ℕ) (creates : Bool) (result : Result S OpenFault)
+      → creates ≡ false → calls (Opens file result) old new
+      → LogsCalls calls old new (GetsStore file creates result)
   store_opened old new file creates result asked made =
-      subst (λ (creates : Bool). LogsCalls calls old new (GetsStore file creates result)) (sym asked) (one_call calls old new (Opens file result) (GetsStore file false result) made refl)
+      subst (λ (creates : Bool). LogsCalls calls old new (GetsStore file creates result))
+      (sym asked) (one_call calls old new (Opens file result) (GetsStore file false result) made
+      refl)
 
-  pub store_got : (old new : H) (file : List ℕ) (creates : Bool) (result : Result S OpenFault) → creates ≡ true → LogsCalls calls old new (GetsStore file true result) → LogsCalls calls old new (GetsStore file creates result)
-  store_got old new file creates result asked got = subst (λ (creates : Bool). LogsCalls calls old new (GetsStore file creates result)) (sym asked) got
+  pub store_got : (old new : H) (file : List ℕ) (creates : Bool) (result : Result S OpenFault)
+      → creates ≡ true → LogsCalls calls old new (GetsStore file true result)
+      → LogsCalls calls old new (GetsStore file creates result)
+  store_got old new file creates result asked got =
+      subst (λ (creates : Bool). LogsCalls calls old new (GetsStore file creates result))
+      (sym asked) got
 
-  pub vacant_created : (old looked new : H) (file : List ℕ) (vacant : Bool) (result : Result S OpenFault) → vacant ≡ true → calls (Looks file vacant) old looked → calls (Creates file result) looked new → LogsCalls calls old new (GetsStore file true result)
+  pub vacant_created : (old looked new : H) (file : List ℕ) (vacant : Bool) (result :
+      Result S OpenFault) → vacant ≡ true → calls (Looks file vacant) old looked
+      → calls (Creates file result) looked new
+      → LogsCalls calls old new (GetsStore file true result)
   vacant_created old looked new file vacant result is looks made = record {
     log = Looks file true ∷ Creates file result ∷ [];
-    made = (looked, subst (λ (vacant : Bool). calls (Looks file vacant) old looked) is looks, (new, made, refl));
+    made = (
+      looked,
+      subst (λ (vacant : Bool). calls (Looks file vacant) old looked) is looks,
+      (new, made, refl),
+    );
     holds = inl refl;
   }
 
-  pub used_opened : (old looked new : H) (file : List ℕ) (vacant : Bool) (result : Result S OpenFault) → vacant ≡ false → calls (Looks file vacant) old looked → calls (Opens file result) looked new → LogsCalls calls old new (GetsStore file true result)
+  pub used_opened : (old looked new : H) (file : List ℕ) (vacant : Bool) (result :
+      Result S OpenFault) → vacant ≡ false → calls (Looks file vacant) old looked
+      → calls (Opens file result) looked new → LogsCalls calls old new (GetsStore file true result)
   used_opened old looked new file vacant result is looks made = record {
     log = Looks file false ∷ Opens file result ∷ [];
-    made = (looked, subst (λ (vacant : Bool). calls (Looks file vacant) old looked) is looks, (new, made, refl));
+    made = (
+      looked,
+      subst (λ (vacant : Bool). calls (Looks file vacant) old looked) is looks,
+      (new, made, refl),
+    );
     holds = inr refl;
   }
 
-module _ {S P L State H : Type 0} (does : HandlerRelation State) (fault_reply : FaultReplies) (effects : EndpointRelation P) (calls : HostCall S P L → H → H → Type 0) where
-  pub at_unbound : (old new : H) (requested : Address) (limits : ServeLimits) (state : State) (stop : Stop) (w : Option (List ℕ)) → calls (Binds requested limits.together (Err stop)) old new → (stop ≡ out_of_memory) ⊎ (stop ≡ Device)
+module _ {S P L State H : Type 0} (does : HandlerRelation State) (fault_reply : FaultReplies)
+    (effects : EndpointRelation P) (calls : HostCall S P L → H → H → Type 0) where
+  pub at_unbound : (old new : H) (requested : Address) (limits : ServeLimits) (state : State)
+      (stop : Stop) (w : Option (List ℕ)) → calls (Binds requested limits.together (Err stop)) old
+      new → (stop ≡ out_of_memory) ⊎ (stop ≡ Device)
       → LogsCalls calls old new (StopsAt does fault_reply effects requested limits stop state w w)
   at_unbound old new requested limits state stop w binds stop_is =
-      one_call calls old new (Binds requested limits.together (Err stop)) (StopsAt does fault_reply effects requested limits stop state w w) binds (inl (refl, unbound stop w stop_is))
+      one_call calls old new (Binds requested limits.together (Err stop))
+      (StopsAt does fault_reply effects requested limits stop state w w) binds
+      (inl (refl, unbound stop w stop_is))
 
-  pub at_served : (result : Result (Unit {0}) Stop) (old bound new : H) (requested address : Address) (limits : ServeLimits) (state state_after : State) (endpoint endpoint_after : P) (before after : Option (List ℕ))
-      → calls (Binds requested limits.together (Ok (endpoint, address))) old bound → calls (Finishes endpoint_after) bound new → IsBoundAs requested address
-      → OnOk result (AnnouncesAndServes does fault_reply effects address limits state endpoint before after state_after endpoint_after)
-      → OnOk result (LogsCalls calls old new (ServesAt does fault_reply effects requested limits state before after))
-  at_served (Ok done) old bound new requested address limits state state_after endpoint endpoint_after before after binds finishes is_requested announces = record {
-    log = Binds requested limits.together (Ok (endpoint, address)) ∷ Finishes endpoint_after ∷ [];
-    made = (bound, binds, (new, finishes, refl));
-    holds = record { endpoint = endpoint; address = address; new = state_after; endpoint_after = endpoint_after; calls = refl; is_requested = is_requested; announces = announces };
-  }
-  at_served (Err stop) old bound new requested address limits state state_after endpoint endpoint_after before after binds finishes is_requested announces = tt
+  pub at_served : (result : Result (Unit {0}) Stop) (old bound new : H) (requested address :
+      Address) (limits : ServeLimits) (state state_after : State) (endpoint endpoint_after : P)
+      (before after : Option (List ℕ))
+      → calls (Binds requested limits.together (Ok (endpoint, address))) old bound
+      → calls (Finishes endpoint_after) bound new → IsBoundAs requested address
+      → OnOk result (AnnouncesAndServes does fault_reply effects address limits state endpoint
+      before after state_after endpoint_after)
+      → OnOk result (LogsCalls calls old new (ServesAt does fault_reply effects requested limits
+      state before after))
+  at_served (Ok done) old bound new requested address limits state state_after endpoint
+      endpoint_after before after binds finishes is_requested announces = record {
+        log = Binds requested limits.together (Ok (endpoint, address)) ∷ Finishes endpoint_after ∷
+            [];
+        made = (bound, binds, (new, finishes, refl));
+        holds = record {
+          endpoint = endpoint;
+          address = address;
+          new = state_after;
+          endpoint_after = endpoint_after;
+          calls = refl;
+          is_requested = is_requested;
+          announces = announces;
+        };
+      }
+  at_served (Err stop) old bound new requested address limits state state_after endpoint
+      endpoint_after before after binds finishes is_requested announces = tt
 
-  pub at_stopped : (result : Result (Unit {0}) Stop) (old bound new : H) (requested address : Address) (limits : ServeLimits) (state state_after : State) (endpoint endpoint_after : P) (before after : Option (List ℕ))
-      → calls (Binds requested limits.together (Ok (endpoint, address))) old bound → calls (Finishes endpoint_after) bound new → IsBoundAs requested address
-      → IfErr result (λ stop. StopsServing does fault_reply effects address limits state endpoint before after stop state_after endpoint_after)
-      → IfErr result (λ stop. LogsCalls calls old new (StopsAt does fault_reply effects requested limits stop state before after))
-  at_stopped (Ok done) old bound new requested address limits state state_after endpoint endpoint_after before after binds finishes is_requested stops = tt
-  at_stopped (Err stop) old bound new requested address limits state state_after endpoint endpoint_after before after binds finishes is_requested stops = record {
-    log = Binds requested limits.together (Ok (endpoint, address)) ∷ Finishes endpoint_after ∷ [];
-    made = (bound, binds, (new, finishes, refl));
-    holds = inr (record { endpoint = endpoint; address = address; new = state_after; endpoint_after = endpoint_after; calls = refl; is_requested = is_requested; stops = stops });
-  }
+  pub at_stopped : (result : Result (Unit {0}) Stop) (old bound new : H) (requested address :
+      Address) (limits : ServeLimits) (state state_after : State) (endpoint endpoint_after : P)
+      (before after : Option (List ℕ))
+      → calls (Binds requested limits.together (Ok (endpoint, address))) old bound
+      → calls (Finishes endpoint_after) bound new → IsBoundAs requested address
+      → IfErr result (λ stop. StopsServing does fault_reply effects address limits state endpoint
+      before after stop state_after endpoint_after)
+      → IfErr result (λ stop. LogsCalls calls old new (StopsAt does fault_reply effects requested
+      limits stop state before after))
+  at_stopped (Ok done) old bound new requested address limits state state_after endpoint
+      endpoint_after before after binds finishes is_requested stops = tt
+  at_stopped (Err stop) old bound new requested address limits state state_after endpoint
+      endpoint_after before after binds finishes is_requested stops = record {
+        log = Binds requested limits.together (Ok (endpoint, address)) ∷ Finishes endpoint_after ∷
+            [];
+        made = (bound, binds, (new, finishes, refl));
+        holds = inr (record {
+          endpoint = endpoint;
+          address = address;
+          new = state_after;
+          endpoint_after = endpoint_after;
+          calls = refl;
+          is_requested = is_requested;
+          stops = stops;
+        });
+      }
 
-module _ {S P L State H : Type 0} (does : HandlerRelation State) (effects : EndpointRelation P) (state_of : S → State) (calls : HostCall S P L → H → H → Type 0) where
-  pub store_missing : (old new : H) (file : List ℕ) (creates : Bool) (requested : Address) (limits : ServeLimits) (fault : OpenFault) (w : Option (List ℕ)) → LogsCalls calls old new (GetsStore file creates (Err fault))
-      → LogsCalls calls old new (StopsStore does effects state_of file creates requested limits (Open fault) w w)
-  store_missing old new file creates requested limits fault w got = record { log = got.log; made = got.made; holds = inl (fault, got.holds, unopened fault w) }
+module _ {S P L State H : Type 0} (does : HandlerRelation State) (effects : EndpointRelation P)
+    (state_of : S → State) (calls : HostCall S P L → H → H → Type 0) where
+  pub store_missing : (old new : H) (file : List ℕ) (creates : Bool) (requested : Address) (limits :
+      ServeLimits) (fault : OpenFault) (w : Option (List ℕ))
+      → LogsCalls calls old new (GetsStore file creates (Err fault))
+      → LogsCalls calls old new (StopsStore does effects state_of file creates requested limits
+      (Open fault) w w)
+  store_missing old new file creates requested limits fault w got =
+      record { log = got.log; made = got.made; holds = inl (fault, got.holds, unopened fault w) }
 
-  pub store_without_memory : (old new : H) (file : List ℕ) (creates : Bool) (requested : Address) (limits : ServeLimits) (store : S) (w : Option (List ℕ)) → LogsCalls calls old new (GetsStore file creates (Ok store))
-      → LogsCalls calls old new (StopsStore does effects state_of file creates requested limits out_of_memory w w)
-  store_without_memory old new file creates requested limits store w got = record { log = got.log; made = got.made; holds = inr (inl (store, got.holds, record { stop_is = refl; unwritten = kept_same w })) }
+  pub store_without_memory : (old new : H) (file : List ℕ) (creates : Bool) (requested : Address)
+      (limits : ServeLimits) (store : S) (w : Option (List ℕ))
+      → LogsCalls calls old new (GetsStore file creates (Ok store))
+      → LogsCalls calls old new (StopsStore does effects state_of file creates requested limits
+      out_of_memory w w)
+  store_without_memory old new file creates requested limits store w got =
+      record {
+        log = got.log;
+        made = got.made;
+        holds = inr (inl (store, got.holds, record { stop_is = refl; unwritten = kept_same w }));
+      }
 
-  pub store_served : (result : Result (Unit {0}) Stop) (old middle new : H) (file : List ℕ) (creates : Bool) (requested : Address) (limits : ServeLimits) (store : S) (before after : Option (List ℕ)) → LogsCalls calls old middle (GetsStore file creates (Ok store))
-      → OnOk result (LogsCalls calls middle new (ServesAt does head_fault_octets effects requested limits (state_of store) before after))
-      → OnOk result (LogsCalls calls old new (ServesStore does effects state_of file creates requested limits before after))
-  store_served (Ok done) old middle new file creates requested limits store before after got serves = record {
-    log = got.log ++ serves.log;
-    made = makes_both calls got.log serves.log old middle new got.made serves.made;
-    holds = record { store = store; first = got.log; later = serves.log; calls = refl; gets = got.holds; serves = serves.holds };
-  }
-  store_served (Err stop) old middle new file creates requested limits store before after got serves = tt
+  pub store_served : (result : Result (Unit {0}) Stop) (old middle new : H) (file : List ℕ)
+      (creates : Bool) (requested : Address) (limits : ServeLimits) (store : S) (before after :
+      Option (List ℕ)) → LogsCalls calls old middle (GetsStore file creates (Ok store))
+      → OnOk result (LogsCalls calls middle new (ServesAt does head_fault_octets effects requested
+      limits (state_of store) before after))
+      → OnOk result (LogsCalls calls old new (ServesStore does effects state_of file creates
+      requested limits before after))
+  store_served (Ok done) old middle new file creates requested limits store before after got
+      serves = record {
+        log = got.log ++ serves.log;
+        made = makes_both calls got.log serves.log old middle new got.made serves.made;
+        holds = record {
+          store = store;
+          first = got.log;
+          later = serves.log;
+          calls = refl;
+          gets = got.holds;
+          serves = serves.holds;
+        };
+      }
+  store_served (Err stop) old middle new file creates requested limits store before after got
+      serves = tt
 
-  pub store_unserved : (result : Result (Unit {0}) Stop) (old middle new : H) (file : List ℕ) (creates : Bool) (requested : Address) (limits : ServeLimits) (store : S) (before after : Option (List ℕ)) → LogsCalls calls old middle (GetsStore file creates (Ok store))
-      → IfErr result (λ stop. LogsCalls calls middle new (StopsAt does head_fault_octets effects requested limits stop (state_of store) before after))
-      → IfErr result (λ stop. LogsCalls calls old new (StopsStore does effects state_of file creates requested limits stop before after))
-  store_unserved (Ok done) old middle new file creates requested limits store before after got stops = tt
-  store_unserved (Err stop) old middle new file creates requested limits store before after got stops = record {
-    log = got.log ++ stops.log;
-    made = makes_both calls got.log stops.log old middle new got.made stops.made;
-    holds = inr (inr (record { store = store; first = got.log; later = stops.log; calls = refl; gets = got.holds; stops = stops.holds }));
-  }
+  pub store_unserved : (result : Result (Unit {0}) Stop) (old middle new : H) (file : List ℕ)
+      (creates : Bool) (requested : Address) (limits : ServeLimits) (store : S) (before after :
+      Option (List ℕ)) → LogsCalls calls old middle (GetsStore file creates (Ok store))
+      → IfErr result (λ stop. LogsCalls calls middle new (StopsAt does head_fault_octets effects
+      requested limits stop (state_of store) before after))
+      → IfErr result (λ stop. LogsCalls calls old new (StopsStore does effects state_of file creates
+      requested limits stop before after))
+  store_unserved (Ok done) old middle new file creates requested limits store before after got
+      stops = tt
+  store_unserved (Err stop) old middle new file creates requested limits store before after got
+      stops = record {
+        log = got.log ++ stops.log;
+        made = makes_both calls got.log stops.log old middle new got.made stops.made;
+        holds = inr (inr (record {
+          store = store;
+          first = got.log;
+          later = stops.log;
+          calls = refl;
+          gets = got.holds;
+          stops = stops.holds;
+        }));
+      }

@@ -11,18 +11,32 @@ use Rattle.hub_server.specs.EndpointRuns.{EndpointRelation}
 use Rattle.sync_core.specs.StoreModels.{StoreModel}
 use Rattle.http_fronts.specs.Fronts.{FrontRelation}
 
-module _ {S P L Connection H : Type 0} (model : StoreModel S) (front : FrontRelation) (effects : EndpointRelation P) (stream : ConnectionModel Connection) (coming : L → Option (List (Option Connection))) (calls : HostCall S P L → H → H → Type 0) where
-  pub ran_ends : (r : Result (Unit {0}) Stop) (old new : H) (order : Order) (before after errors_before errors_after : Option (List ℕ)) (exit : ProgramExit)
-      → OnOk r (LogsCalls calls old new (RunsOnHost model front effects stream coming order before after)) → IfErr r (λ stop. LogsCalls calls old new (StopsOnHost model front effects stream coming order stop before after))
-      → IfErr r (λ stop. KeepsOrderOutput order stop before after) → ReportsResult r errors_before errors_after exit
-      → LogsCalls calls old new (EndsOrder model front effects stream coming order before after errors_before errors_after exit)
-  ran_ends (Ok done) old new order before after errors_before errors_after exit runs stops output_kept e = record {
-    log = runs.log;
-    made = runs.made;
-    holds = inl (record { runs = runs.holds; succeeds = e });
-  }
-  ran_ends (Err stop) old new order before after errors_before errors_after exit runs stops output_kept e = record {
-    log = stops.log;
-    made = stops.made;
-    holds = inr (record { stop = stop; stops = stops.holds; output_kept = output_kept; reports_stop = e });
-  }
+module _ {S P L Connection H : Type 0} (model : StoreModel S) (front : FrontRelation) (effects :
+    EndpointRelation P) (stream : ConnectionModel Connection) (coming : L
+    → Option (List (Option Connection))) (calls : HostCall S P L → H → H → Type 0) where
+  pub ran_ends : (r : Result (Unit {0}) Stop) (old new : H) (order : Order)
+      (before after errors_before errors_after : Option (List ℕ)) (exit : ProgramExit)
+      → OnOk r (LogsCalls calls old new (RunsOnHost model front effects stream coming order before
+      after)) → IfErr r (λ stop. LogsCalls calls old new (StopsOnHost model front effects stream
+      coming order stop before after))
+      → IfErr r (λ stop. KeepsOrderOutput order stop before after)
+      → ReportsResult r errors_before errors_after exit
+      → LogsCalls calls old new (EndsOrder model front effects stream coming order before after
+      errors_before errors_after exit)
+  ran_ends (Ok done) old new order before after errors_before errors_after exit runs stops
+      output_kept e = record {
+        log = runs.log;
+        made = runs.made;
+        holds = inl (record { runs = runs.holds; succeeds = e });
+      }
+  ran_ends (Err stop) old new order before after errors_before errors_after exit runs stops
+      output_kept e = record {
+        log = stops.log;
+        made = stops.made;
+        holds = inr (record {
+          stop = stop;
+          stops = stops.holds;
+          output_kept = output_kept;
+          reports_stop = e;
+        });
+      }

@@ -6,7 +6,7 @@ ghost use Rattle.cli_orders.specs.ReplyTexts.{IsReplyStop, IsReplyText};
 
 use crate::stop::Stop;
 use crate::writing::write_out;
-use crate::{book_text, expand_text, forget_text, import_text, mirror_text, tally_text};
+use crate::{book_text, expand_text, forget_text, imported_text, mirror_text, tally_text};
 use book_service::{Command, Reply, mirror, perform};
 use std::alloc::Global;
 use std::io::Write;
@@ -19,7 +19,7 @@ fn reply_text(alloc: Global, reply: Reply) -> Result<Vec<u8>, Stop>
 {
     match reply {
         Reply::Created { id } => Ok(book_text(alloc, id)?),
-        Reply::Imported(tally) => Ok(import_text(alloc, &tally)?),
+        Reply::Imported(tally) => Ok(imported_text(alloc, &tally)?),
         Reply::Forgot { dropped, horizon } => Ok(forget_text(alloc, dropped, horizon)?),
         Reply::Tally(tally) => Ok(tally_text(alloc, &tally)?),
         Reply::Csv(rows) => Ok(rows.into_vec()),

@@ -4,9 +4,9 @@ ghost use Rattle.cli_orders.specs.FaultyRows.{ReportsDamage, book_word, damage_t
 ghost use Rattle.cli_orders.specs.FaultyRows.{faulty_row_line, labelled, row_label, table_word};
 
 use crate::row_fault_words::row_fault_words;
-use crate::shown::write_shown;
 use crate::stop::Stop;
 use crate::writing::write_out;
+use request_log::write_shown;
 use std::alloc::Global;
 use std::io::Write;
 use store_check::faults::{FaultyRow, RowFault};

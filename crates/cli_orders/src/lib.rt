@@ -27,7 +27,6 @@ mod row_causes;
 mod row_fault_words;
 mod sentences;
 mod serving;
-mod shown;
 mod stop;
 mod stop_words;
 mod tally_output;
@@ -48,7 +47,7 @@ pub use input::read_input;
 pub use line_starts::line_feed_count;
 pub use mirror_output::mirror_text;
 pub use one_line_outputs::{
-    book_text, copy_text, created_line, forget_text, import_text, migrate_text, resync_text,
+    book_text, copy_text, created_line, forget_text, imported_text, migrate_text, resync_text,
 };
 pub use order_names::{OrderKind, OrderNames};
 pub use reading::{read_at_most, read_rows_of};

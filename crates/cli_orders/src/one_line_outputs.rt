@@ -23,7 +23,7 @@ pub fn book_text(alloc: Global, id: u64) -> Result<Vec<u8>, NoMemory>
 }
 
 /// The output of `import`, such as `new 3 edited 0 same 0 number 5`.
-pub fn import_text(alloc: Global, tally: &ImportTally) -> Result<Vec<u8>, NoMemory>
+pub fn imported_text(alloc: Global, tally: &ImportTally) -> Result<Vec<u8>, NoMemory>
     ensures { IfOk result (λ text. text.items ≡ import_output tally.now) }
 {
     let ImportTally {

@@ -1,5 +1,7 @@
 -- Accepting a connection at a free place.
-use Rattle.std.proofs.Common.{◌≡◌, ◌∙◌, ◌<◌, ◌≤◌, ◌+◌, ◌-◌, ◌&&◌, ◌||◌, ℕ, zero, suc, Bool, true, false, List, [], ◌∷◌, Option, Some, None, refl, sym, ap, subst, arith, is_some, length, nat_le, nat_lt, slice_get, slice_set}
+use Rattle.std.proofs.Common.{◌≡◌, ◌∙◌, ◌<◌, ◌≤◌, ◌+◌, ◌-◌, ◌&&◌, ◌||◌, ℕ, zero, suc, Bool, true}
+use Rattle.std.proofs.Common.{false, List, [], ◌∷◌, Option, Some, None, refl, sym, ap, subst, arith}
+use Rattle.std.proofs.Common.{is_some, length, nat_le, nat_lt, slice_get, slice_set}
 use Rattle.std.proofs.lemmas.Bool.{and_right, le-ltb, lt-leb}
 use Rattle.std.proofs.lemmas.List.Sums.{count_by-le-length}
 use Rattle.http_hub.specs.Hubs.{HubValue, IsAt, OpensAt, open_count}
@@ -14,11 +16,13 @@ use Rattle.hub_server.specs.Expiries.{KeepsNoneExpired, KeepsTurnsOver}
 use Rattle.hub_server.specs.Needs.{KeepsOthers}
 use Rattle.hub_server.specs.Seats.{IsTurnOver, SeatValue, new_seat}
 use Rattle.hub_server.specs.ServerActs.ServerAct.{AcceptsAt, DefersAccepting, FindsNoConnection}
-use Rattle.hub_server.specs.Servers.{IsSeatedAt, ServerValue, accepts_at, has_room, later_milliseconds, with_listener, with_seat}
+use Rattle.hub_server.specs.Servers.{IsSeatedAt, ServerValue, accepts_at, has_room}
+use Rattle.hub_server.specs.Servers.{later_milliseconds, with_listener, with_seat}
 use Rattle.hub_server.specs.declared.endpoint_fault.EndpointFault.{EndpointFault}
 use Rattle.hub_server.specs.declared.limits.ServeLimits.{ServeLimits}
 use Rattle.hub_server.specs.declared.listener_state.ListenerState.{ListenerState}
-use Rattle.hub_server.specs.declared.listener_state.ListenerState.TheVariants.{Idle, Ready, Deferred}
+use Rattle.hub_server.specs.declared.listener_state.ListenerState.TheVariants.{Idle, Ready}
+use Rattle.hub_server.specs.declared.listener_state.ListenerState.TheVariants.{Deferred}
 use Rattle.hub_server.proofs.KeepingLemmas.{fact_kept}
 use Rattle.hub_server.proofs.RunLemmas.{act_one, acts_none, acts_on}
 use Rattle.hub_server.proofs.SeatLemmas.{asleep_has_none}
@@ -27,27 +31,34 @@ use Rattle.hub_server.proofs.SeatLemmas.{asleep_has_none}
 
 -- ---- the number of open connections
 
-pub fewer_free : (a b : ServerValue) (place : ℕ) (hub : HubValue) → OpensAt place a.hub a.time hub → b.hub ≡ hub → free_count b < free_count a
+pub fewer_free : (a b : ServerValue) (place : ℕ) (hub : HubValue) → OpensAt place a.hub a.time hub
+    → b.hub ≡ hub → free_count b < free_count a
 fewer_free a b place hub opens is =
     let slot : Slot = record { serial = a.hub.opened; link = new_link a.time } in
     let hub_is = is ∙ opens.after_is in
-    let counted : open_count b.hub ≡ suc (open_count a.hub) = ap (λ (h : HubValue). open_count h) is ∙ count_opened place a.time a.hub hub opens in
-    let places : length b.hub.slots ≡ length a.hub.slots = ap (λ (h : HubValue). length h.slots) hub_is ∙ set_length a.hub.slots place (Some slot) in
+    let counted : open_count b.hub ≡ suc (open_count a.hub) = ap (λ (h : HubValue). open_count h) is
+    ∙ count_opened place a.time a.hub hub opens in
+    let places : length b.hub.slots ≡ length a.hub.slots =
+    ap (λ (h : HubValue). length h.slots) hub_is ∙ set_length a.hub.slots place (Some slot) in
     let within : open_count b.hub ≤ length b.hub.slots = count_by-le-length is_some b.hub.slots in
     omega (arith, counted, places, within)
 
 -- ---- a new connection
 
 -- it has the place
-opened_slot : (a : ServerValue) (place : ℕ) (hub : HubValue) (slot : Slot) → OpensAt place a.hub a.time hub → IsAt hub place slot → slot.link ≡ new_link a.time
+opened_slot : (a : ServerValue) (place : ℕ) (hub : HubValue) (slot : Slot)
+    → OpensAt place a.hub a.time hub → IsAt hub place slot → slot.link ≡ new_link a.time
 opened_slot a place hub slot opens at =
     let opened : Slot = record { serial = a.hub.opened; link = new_link a.time } in
-    let here : slice_get (slice_set a.hub.slots place (Some opened)) place ≡ Some (Some opened) = set_same a.hub.slots place (Some opened) None opens.was_free in
-    let there : slice_get (slice_set a.hub.slots place (Some opened)) place ≡ Some (Some slot) = ap (λ (h : HubValue). slice_get h.slots place) (sym opens.after_is) ∙ at in
+    let here : slice_get (slice_set a.hub.slots place (Some opened)) place ≡ Some (Some opened) =
+    set_same a.hub.slots place (Some opened) None opens.was_free in
+    let there : slice_get (slice_set a.hub.slots place (Some opened)) place ≡ Some (Some slot) =
+    ap (λ (h : HubValue). slice_get h.slots place) (sym opens.after_is) ∙ at in
     let same : opened ≡ slot = cc (here, there) in
     ap (λ (s : Slot). s.link) (sym same)
 
-seat_at_place : (seats : List SeatValue) (place : ℕ) (seat : SeatValue) → slice_get (slice_set seats place new_seat) place ≡ Some seat → new_seat ≡ seat
+seat_at_place : (seats : List SeatValue) (place : ℕ) (seat : SeatValue)
+    → slice_get (slice_set seats place new_seat) place ≡ Some seat → new_seat ≡ seat
 seat_at_place [] place seat found = absurd (cc found)
 seat_at_place (x ∷ seats) zero seat found = cc found
 seat_at_place (x ∷ seats) (suc place) seat found = seat_at_place seats place seat found
@@ -58,13 +69,16 @@ or_with_false true is = is
 or_with_false false is = refl
 
 new_unexpired : (now patience : ℕ) → has_expired (new_link now) now patience ≡ false
-new_unexpired now patience = or_with_false (nat_lt patience (now - now)) (le-ltb patience (now - now) (omega arith))
+new_unexpired now patience = or_with_false (nat_lt patience (now - now))
+    (le-ltb patience (now - now) (omega arith))
 
-opening_keeps : (a b : ServerValue) (place : ℕ) (hub : HubValue) → OpensAt place a.hub a.time hub → b ≡ with_seat a place hub new_seat → KeepsOthers place a b
+opening_keeps : (a b : ServerValue) (place : ℕ) (hub : HubValue) → OpensAt place a.hub a.time hub
+    → b ≡ with_seat a place hub new_seat → KeepsOthers place a b
 opening_keeps a b place hub opens is =
     let slot : Option Slot = Some (record { serial = a.hub.opened; link = new_link a.time }) in
     let keeps : KeepsOthers place a (with_seat a place hub new_seat) = record {
-      slots = λ other apart. ap (λ (h : HubValue). slice_get h.slots other) opens.after_is ∙ set_other a.hub.slots place other slot (λ e. apart (sym e));
+      slots = λ other apart. ap (λ (h : HubValue). slice_get h.slots other) opens.after_is
+          ∙ set_other a.hub.slots place other slot (λ e. apart (sym e));
       seats = λ other apart. set_other a.seats place other new_seat (λ e. apart (sym e));
       time = refl;
       listener = refl;
@@ -72,96 +86,146 @@ opening_keeps a b place hub opens is =
     subst (λ (x : ServerValue). KeepsOthers place a x) (sym is) keeps
 
 -- the state of the listener doesn't matter
-seated_with : (a : ServerValue) (state : ListenerState) (place : ℕ) (slot : Slot) (seat : SeatValue) → IsSeatedAt (with_listener a state) place slot seat → IsSeatedAt a place slot seat
-seated_with a state place slot seat seated = record { at_slot = seated.at_slot; at_seat = seated.at_seat }
+seated_with : (a : ServerValue) (state : ListenerState) (place : ℕ) (slot : Slot) (seat : SeatValue)
+    → IsSeatedAt (with_listener a state) place slot seat → IsSeatedAt a place slot seat
+seated_with a state place slot seat seated = record {
+  at_slot = seated.at_slot;
+  at_seat = seated.at_seat;
+}
 
-pub turns_with : (a b : ServerValue) (state : ListenerState) → b ≡ with_listener a state → KeepsTurnsOver a b
-turns_with a b state is = subst (λ (x : ServerValue). KeepsTurnsOver a x) (sym is) (λ before place slot seat seated. before place slot seat (seated_with a state place slot seat seated))
+pub turns_with : (a b : ServerValue) (state : ListenerState) → b ≡ with_listener a state
+    → KeepsTurnsOver a b
+turns_with a b state is = subst (λ (x : ServerValue). KeepsTurnsOver a x) (sym is)
+    (λ before place slot seat seated. before place slot seat (seated_with a state place slot seat
+    seated))
 
-pub unexpired_with : (limits : ServeLimits) (a b : ServerValue) (state : ListenerState) → b ≡ with_listener a state → KeepsNoneExpired limits a b
-unexpired_with limits a b state is = subst (λ (x : ServerValue). KeepsNoneExpired limits a x) (sym is) (λ before place slot seat seated. before place slot seat (seated_with a state place slot seat seated))
+pub unexpired_with : (limits : ServeLimits) (a b : ServerValue) (state : ListenerState)
+    → b ≡ with_listener a state → KeepsNoneExpired limits a b
+unexpired_with limits a b state is =
+    subst (λ (x : ServerValue). KeepsNoneExpired limits a x) (sym is)
+    (λ before place slot seat seated. before place slot seat (seated_with a state place slot seat
+    seated))
 
-opening_turns : (a b : ServerValue) (place : ℕ) (hub : HubValue) → OpensAt place a.hub a.time hub → b ≡ with_seat a place hub new_seat → KeepsTurnsOver a b
+opening_turns : (a b : ServerValue) (place : ℕ) (hub : HubValue) → OpensAt place a.hub a.time hub
+    → b ≡ with_seat a place hub new_seat → KeepsTurnsOver a b
 opening_turns a b place hub opens is = λ before.
     fact_kept (λ slot seat. IsTurnOver seat) place a b (opening_keeps a b place hub opens is) before
     (λ slot seat seated.
-    let found : slice_get (slice_set a.seats place new_seat) place ≡ Some seat = ap (λ (x : ServerValue). slice_get x.seats place) (sym is) ∙ seated.at_seat in
+    let found : slice_get (slice_set a.seats place new_seat) place ≡ Some seat =
+    ap (λ (x : ServerValue). slice_get x.seats place) (sym is) ∙ seated.at_seat in
     let asleep = ap (λ (x : SeatValue). x.turn) (sym (seat_at_place a.seats place seat found)) in
     asleep_has_none seat asleep)
 
-opening_unexpired : (limits : ServeLimits) (a b : ServerValue) (place : ℕ) (hub : HubValue) → OpensAt place a.hub a.time hub → b ≡ with_seat a place hub new_seat → KeepsNoneExpired limits a b
+opening_unexpired : (limits : ServeLimits) (a b : ServerValue) (place : ℕ) (hub : HubValue)
+    → OpensAt place a.hub a.time hub → b ≡ with_seat a place hub new_seat
+    → KeepsNoneExpired limits a b
 opening_unexpired limits a b place hub opens is = λ before.
     let now_is : b.time ≡ a.time = ap (λ (x : ServerValue). x.time) is in
-    let all = fact_kept (λ slot seat. has_expired slot.link a.time limits.patience ≡ false) place a b (opening_keeps a b place hub opens is) before
+    let all = fact_kept (λ slot seat. has_expired slot.link a.time limits.patience ≡ false) place a
+    b (opening_keeps a b place hub opens is) before
     (λ slot seat seated.
-    let at : IsAt hub place slot = ap (λ (x : ServerValue). slice_get x.hub.slots place) (sym is) ∙ seated.at_slot in
-    ap (λ link. has_expired link a.time limits.patience) (opened_slot a place hub slot opens at) ∙ new_unexpired a.time limits.patience) in
-    λ other slot seat seated. ap (λ n. has_expired slot.link n limits.patience) now_is ∙ all other slot seat seated
+    let at : IsAt hub place slot = ap (λ (x : ServerValue). slice_get x.hub.slots place) (sym is)
+    ∙ seated.at_slot in
+    ap (λ link. has_expired link a.time limits.patience) (opened_slot a place hub slot opens at)
+    ∙ new_unexpired a.time limits.patience) in
+    λ other slot seat seated. ap (λ n. has_expired slot.link n limits.patience) now_is
+    ∙ all other slot seat seated
 
 not_due : (b : Bool) → (b && false) ≡ false
 not_due true = refl
 not_due false = refl
 
 later_not_due : (room : Bool) (now : ℕ) → (room && nat_le (now + later_milliseconds) now) ≡ false
-later_not_due room now = and_right room (nat_le (now + later_milliseconds) now) (lt-leb (now + later_milliseconds) now (omega arith))
+later_not_due room now = and_right room (nat_le (now + later_milliseconds) now)
+    (lt-leb (now + later_milliseconds) now (omega arith))
 
 module _ {Endpoint : Type 0} (calls : EndpointRelation Endpoint) where
   -- ---- one connection
 
-  pub accepts_one : (limits : ServeLimits) (a between b : ServerValue) (place : ℕ) (hub : HubValue) (s t : Endpoint) → accepts_at limits.connections a a.time ≡ true → OpensAt place a.hub a.time hub
-      → between ≡ with_seat a place hub new_seat → b ≡ with_listener between Ready → calls s (AcceptEvent place) t → AcceptsNext calls limits true a s b t
+  pub accepts_one : (limits : ServeLimits) (a between b : ServerValue) (place : ℕ) (hub : HubValue)
+      (s t : Endpoint) → accepts_at limits.connections a a.time ≡ true
+      → OpensAt place a.hub a.time hub
+      → between ≡ with_seat a place hub new_seat → b ≡ with_listener between Ready
+      → calls s (AcceptEvent place) t → AcceptsNext calls limits true a s b t
   accepts_one limits a between b place hub s t wanted opens mid_is is called =
-      let after_is : b ≡ with_listener (with_seat a place hub new_seat) Ready = is ∙ ap (λ (x : ServerValue). with_listener x Ready) mid_is in
+      let after_is : b ≡ with_listener (with_seat a place hub new_seat) Ready =
+      is ∙ ap (λ (x : ServerValue). with_listener x Ready) mid_is in
       record {
         acts = act_one calls limits (AcceptsAt place a.hub.opened) (AcceptEvent place) a b s t
-            (record { wanted = wanted; hub = hub; opens = opens; serial_is = refl; after_is = after_is }) refl called refl;
-        turns = λ before. turns_with between b Ready is (opening_turns a between place hub opens mid_is before);
-        none_expired = λ before. unexpired_with limits between b Ready is (opening_unexpired limits a between place hub opens mid_is before);
-        fewer_free = λ more. fewer_free a b place hub opens (ap (λ (x : ServerValue). x.hub) after_is);
+            (record {
+              wanted = wanted;
+              hub = hub;
+              opens = opens;
+              serial_is = refl;
+              after_is = after_is;
+            }) refl called refl;
+        turns = λ before. turns_with between b Ready is (opening_turns a between place hub opens
+            mid_is before);
+        none_expired = λ before. unexpired_with limits between b Ready is
+            (opening_unexpired limits a between place hub opens mid_is before);
+        fewer_free = λ more. fewer_free a b place hub opens (ap (λ (x : ServerValue). x.hub)
+            after_is);
         none_awaited = λ (no : true ≡ false). absurd (cc no);
       }
 
-  pub accepts_none : (limits : ServeLimits) (a b : ServerValue) (s t : Endpoint) → accepts_at limits.connections a a.time ≡ true → b ≡ with_listener a Idle → calls s AcceptNone t → AcceptsNext calls limits false a s b t
+  pub accepts_none : (limits : ServeLimits) (a b : ServerValue) (s t : Endpoint)
+      → accepts_at limits.connections a a.time ≡ true → b ≡ with_listener a Idle
+      → calls s AcceptNone t → AcceptsNext calls limits false a s b t
   accepts_none limits a b s t wanted is called = record {
     acts = act_one calls limits FindsNoConnection AcceptNone a b s t (wanted, is) refl called refl;
     turns = turns_with a b Idle is;
     none_expired = unexpired_with limits a b Idle is;
     fewer_free = λ (no : false ≡ true). absurd (cc no);
-    none_awaited = λ more. subst (λ (x : ServerValue). accepts_at limits.connections x x.time ≡ false) (sym is) (not_due (has_room limits.connections a.hub));
+    none_awaited = λ more. subst (λ (x : ServerValue). accepts_at limits.connections x x.time
+        ≡ false) (sym is) (not_due (has_room limits.connections a.hub));
   }
 
-  pub accepts_later : (limits : ServeLimits) (a b : ServerValue) (s t : Endpoint) → accepts_at limits.connections a a.time ≡ true → b ≡ with_listener a (Deferred a.time) → calls s AcceptLater t → AcceptsNext calls limits false a s b t
+  pub accepts_later : (limits : ServeLimits) (a b : ServerValue) (s t : Endpoint)
+      → accepts_at limits.connections a a.time ≡ true → b ≡ with_listener a (Deferred a.time)
+      → calls s AcceptLater t → AcceptsNext calls limits false a s b t
   accepts_later limits a b s t wanted is called = record {
     acts = act_one calls limits DefersAccepting AcceptLater a b s t (wanted, is) refl called refl;
     turns = turns_with a b (Deferred a.time) is;
     none_expired = unexpired_with limits a b (Deferred a.time) is;
     fewer_free = λ (no : false ≡ true). absurd (cc no);
-    none_awaited = λ more. subst (λ (x : ServerValue). accepts_at limits.connections x x.time ≡ false) (sym is) (later_not_due (has_room limits.connections a.hub) a.time);
+    none_awaited = λ more. subst (λ (x : ServerValue). accepts_at limits.connections x x.time
+        ≡ false) (sym is) (later_not_due (has_room limits.connections a.hub) a.time);
   }
 
   -- ---- all connections that wait
 
-  pub record AcceptsSoFar (limits : ServeLimits) (a : ServerValue) (s : Endpoint) (b : ServerValue) (t : Endpoint) : Type 0 where
+  pub record AcceptsSoFar (limits : ServeLimits) (a : ServerValue) (s : Endpoint) (b : ServerValue)
+      (t : Endpoint) : Type 0 where
     pub acts : ReachesByActs calls limits a s b t
     pub turns : KeepsTurnsOver a b
     pub none_expired : KeepsNoneExpired limits a b
 
-  pub accepts_nothing : (limits : ServeLimits) (a : ServerValue) (s : Endpoint) → AcceptsSoFar limits a s a s
-  accepts_nothing limits a s = record { acts = acts_none calls limits a s; turns = λ before. before; none_expired = λ before. before }
+  pub accepts_nothing : (limits : ServeLimits) (a : ServerValue) (s : Endpoint)
+      → AcceptsSoFar limits a s a s
+  accepts_nothing limits a s = record {
+    acts = acts_none calls limits a s;
+    turns = λ before. before;
+    none_expired = λ before. before;
+  }
 
-  pub accepts_more : (limits : ServeLimits) (more : Bool) (a b c : ServerValue) (s t u : Endpoint) → AcceptsSoFar limits a s b t → AcceptsNext calls limits more b t c u → AcceptsSoFar limits a s c u
+  pub accepts_more : (limits : ServeLimits) (more : Bool) (a b c : ServerValue) (s t u : Endpoint)
+      → AcceptsSoFar limits a s b t → AcceptsNext calls limits more b t c u
+      → AcceptsSoFar limits a s c u
   accepts_more limits more a b c s t u far next = record {
     acts = acts_on calls limits a b c s t u far.acts next.acts;
     turns = λ before. next.turns (far.turns before);
     none_expired = λ before. next.none_expired (far.none_expired before);
   }
 
-  pub accepts_failed : (limits : ServeLimits) (fault : EndpointFault) (a b c : ServerValue) (s t u : Endpoint) → AcceptsSoFar limits a s b t → accepts_at limits.connections b b.time ≡ true
+  pub accepts_failed : (limits : ServeLimits) (fault : EndpointFault) (a b c : ServerValue) (s t u :
+      Endpoint) → AcceptsSoFar limits a s b t → accepts_at limits.connections b b.time ≡ true
       → FailsAccepting calls fault b t c u → FailsAfterActs calls limits fault a s c u
   accepts_failed limits fault a b c s t u far wanted fails = record {
     between = t;
-    acts = subst (λ (x : ServerValue). ReachesByActs calls limits a s x t) (sym fails.kept) far.acts;
-    wanted = subst (λ (x : ServerValue). accepts_at limits.connections x x.time ≡ true) (sym fails.kept) wanted;
+    acts = subst (λ (x : ServerValue). ReachesByActs calls limits a s x t) (sym fails.kept)
+        far.acts;
+    wanted = subst (λ (x : ServerValue). accepts_at limits.connections x x.time ≡ true)
+        (sym fails.kept) wanted;
     fault_is = fails.fault_is;
     failed = fails.failed;
   }

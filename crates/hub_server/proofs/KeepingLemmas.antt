@@ -1,5 +1,6 @@
 -- What a change of one place keeps of all places.
-use Rattle.std.proofs.Common.{◌≡◌, ◌∙◌, ◌==◌, ◌<◌, ◌≤◌, ◌+◌, ℕ, Bool, true, false, Some, None, refl, sym, ap, subst, arith, slice_get, slice_set}
+use Rattle.std.proofs.Common.{◌≡◌, ◌∙◌, ◌==◌, ◌<◌, ◌≤◌, ◌+◌, ℕ, Bool, true, false, Some, None, refl}
+use Rattle.std.proofs.Common.{sym, ap, subst, arith, slice_get, slice_set}
 use Rattle.std.proofs.lemmas.Bool.{eqb-false, eqb-true}
 use Rattle.http_hub.specs.Hubs.{HubValue, with_slot}
 use Rattle.http_hub.specs.Links.{has_expired}
@@ -8,18 +9,22 @@ use Rattle.http_hub.proofs.PlaceLemmas.{set_same}
 use Rattle.hub_server.specs.Expiries.{KeepsTurnsOver}
 use Rattle.hub_server.specs.Needs.{HasTurnAt, KeepsOthers, LeavesPlace}
 use Rattle.hub_server.specs.Seats.{IsTurnOver, SeatValue}
-use Rattle.hub_server.specs.Servers.{AreSeatedBelow, AreTurnsOver, IsSeatedAt, NoneExpired, ServerValue}
+use Rattle.hub_server.specs.Servers.{AreSeatedBelow, AreTurnsOver, IsSeatedAt, NoneExpired}
+use Rattle.hub_server.specs.Servers.{ServerValue}
 use Rattle.hub_server.specs.declared.limits.ServeLimits.{ServeLimits}
 use Rattle.hub_server.proofs.PlaceStepLemmas.{leaves_keeps}
 
 -- a connection at another place was there before
-pub seated_before : (place other : ℕ) (a b : ServerValue) (slot : Slot) (seat : SeatValue) → KeepsOthers place a b → (other ≡ place → ⊥) → IsSeatedAt b other slot seat → IsSeatedAt a other slot seat
+pub seated_before : (place other : ℕ) (a b : ServerValue) (slot : Slot) (seat : SeatValue)
+    → KeepsOthers place a b → (other ≡ place → ⊥) → IsSeatedAt b other slot seat
+    → IsSeatedAt a other slot seat
 seated_before place other a b slot seat keeps apart seated = record {
   at_slot = sym (keeps.slots other apart) ∙ seated.at_slot;
   at_seat = sym (keeps.seats other apart) ∙ seated.at_seat;
 }
 
-pub turn_before : (place other : ℕ) (a b : ServerValue) → KeepsOthers place a b → (other ≡ place → ⊥) → HasTurnAt b other → HasTurnAt a other
+pub turn_before : (place other : ℕ) (a b : ServerValue) → KeepsOthers place a b
+    → (other ≡ place → ⊥) → HasTurnAt b other → HasTurnAt a other
 turn_before place other a b keeps apart has = record {
   slot = has.slot;
   seat = has.seat;
@@ -27,63 +32,90 @@ turn_before place other a b keeps apart has = record {
   has_turn = has.has_turn;
 }
 
-pub seated_at : (place other : ℕ) (b : ServerValue) (slot : Slot) (seat : SeatValue) → other ≡ place → IsSeatedAt b other slot seat → IsSeatedAt b place slot seat
+pub seated_at : (place other : ℕ) (b : ServerValue) (slot : Slot) (seat : SeatValue) → other ≡ place
+    → IsSeatedAt b other slot seat → IsSeatedAt b place slot seat
 seated_at place other b slot seat same seated = subst (λ n. IsSeatedAt b n slot seat) same seated
 
 -- a fact of each connection, after a change of one place
-module _ (Fact : Slot → SeatValue → Type 0) (place : ℕ) (a b : ServerValue) (keeps : KeepsOthers place a b)
-    (before : (other : ℕ) (slot : Slot) (seat : SeatValue) → IsSeatedAt a other slot seat → Fact slot seat)
+module _ (Fact : Slot → SeatValue → Type 0) (place : ℕ) (a b : ServerValue) (keeps :
+    KeepsOthers place a b)
+    (before : (other : ℕ) (slot : Slot) (seat : SeatValue) → IsSeatedAt a other slot seat
+    → Fact slot seat)
     (here : (slot : Slot) (seat : SeatValue) → IsSeatedAt b place slot seat → Fact slot seat) where
-  fact_by : (other : ℕ) (slot : Slot) (seat : SeatValue) (t : Bool) → (other == place) ≡ t → IsSeatedAt b other slot seat → Fact slot seat
-  fact_by other slot seat true is seated = here slot seat (seated_at place other b slot seat (eqb-true other place is) seated)
-  fact_by other slot seat false is seated = before other slot seat (seated_before place other a b slot seat keeps (eqb-false other place is) seated)
+  fact_by : (other : ℕ) (slot : Slot) (seat : SeatValue) (t : Bool) → (other == place) ≡ t
+      → IsSeatedAt b other slot seat → Fact slot seat
+  fact_by other slot seat true is seated =
+      here slot seat (seated_at place other b slot seat (eqb-true other place is) seated)
+  fact_by other slot seat false is seated =
+      before other slot seat (seated_before place other a b slot seat keeps
+      (eqb-false other place is) seated)
 
-  pub fact_kept : (other : ℕ) (slot : Slot) (seat : SeatValue) → IsSeatedAt b other slot seat → Fact slot seat
+  pub fact_kept : (other : ℕ) (slot : Slot) (seat : SeatValue) → IsSeatedAt b other slot seat
+      → Fact slot seat
   fact_kept other slot seat seated = fact_by other slot seat (other == place) refl seated
 
 -- a fact of each connection up to a place, after a change of the next one
-module _ (Fact : Slot → SeatValue → Type 0) (place : ℕ) (a b : ServerValue) (keeps : KeepsOthers place a b)
-    (below : (other : ℕ) (slot : Slot) (seat : SeatValue) → other < place → IsSeatedAt a other slot seat → Fact slot seat)
+module _ (Fact : Slot → SeatValue → Type 0) (place : ℕ) (a b : ServerValue) (keeps :
+    KeepsOthers place a b)
+    (below : (other : ℕ) (slot : Slot) (seat : SeatValue) → other < place
+    → IsSeatedAt a other slot seat → Fact slot seat)
     (here : (slot : Slot) (seat : SeatValue) → IsSeatedAt b place slot seat → Fact slot seat) where
-  below_by : (other : ℕ) (slot : Slot) (seat : SeatValue) (t : Bool) → (other == place) ≡ t → other < place + 1 → IsSeatedAt b other slot seat → Fact slot seat
-  below_by other slot seat true is within seated = here slot seat (seated_at place other b slot seat (eqb-true other place is) seated)
+  below_by : (other : ℕ) (slot : Slot) (seat : SeatValue) (t : Bool) → (other == place) ≡ t
+      → other < place + 1 → IsSeatedAt b other slot seat → Fact slot seat
+  below_by other slot seat true is within seated =
+      here slot seat (seated_at place other b slot seat (eqb-true other place is) seated)
   below_by other slot seat false is within seated =
       let apart : other ≡ place → ⊥ = eqb-false other place is in
-      below other slot seat (omega (arith, within, apart)) (seated_before place other a b slot seat keeps apart seated)
+      below other slot seat (omega (arith, within, apart)) (seated_before place other a b slot seat
+      keeps apart seated)
 
-  pub fact_more : (other : ℕ) (slot : Slot) (seat : SeatValue) → other < place + 1 → IsSeatedAt b other slot seat → Fact slot seat
-  fact_more other slot seat within seated = below_by other slot seat (other == place) refl within seated
+  pub fact_more : (other : ℕ) (slot : Slot) (seat : SeatValue) → other < place + 1
+      → IsSeatedAt b other slot seat → Fact slot seat
+  fact_more other slot seat within seated =
+      below_by other slot seat (other == place) refl within seated
 
 -- ---- places below a number
 
-pub seated_more : (a : ServerValue) (end count : ℕ) → AreSeatedBelow a end → end ≤ count → AreSeatedBelow a count
-seated_more a end count below more place slot seat seated = let within : place < end = below place slot seat seated in omega (arith, within, more)
+pub seated_more : (a : ServerValue) (end count : ℕ) → AreSeatedBelow a end → end ≤ count
+    → AreSeatedBelow a count
+seated_more a end count below more place slot seat seated = let within : place < end =
+    below place slot seat seated in omega (arith, within, more)
 
 -- a change of a place below it keeps this
-pub seated_kept : (place end : ℕ) (a b : ServerValue) → KeepsOthers place a b → place < end → AreSeatedBelow a end → AreSeatedBelow b end
+pub seated_kept : (place end : ℕ) (a b : ServerValue) → KeepsOthers place a b → place < end
+    → AreSeatedBelow a end → AreSeatedBelow b end
 seated_kept place end a b keeps here below other slot seat seated = by_place (other == place) refl
   where
     by_place : (t : Bool) → (other == place) ≡ t → other < end
-    by_place true is = let same : other ≡ place = eqb-true other place is in omega (arith, same, here)
-    by_place false is = below other slot seat (seated_before place other a b slot seat keeps (eqb-false other place is) seated)
+    by_place true is = let same : other ≡ place = eqb-true other place is in
+        omega (arith, same, here)
+    by_place false is = below other slot seat (seated_before place other a b slot seat keeps
+        (eqb-false other place is) seated)
 
 -- ---- a place that its connection leaves
 
 -- the place is free
-pub left_is_free : (a b : ServerValue) (place : ℕ) (slot : Slot) (seat : SeatValue) → LeavesPlace a place b → IsSeatedAt b place slot seat → ⊥
+pub left_is_free : (a b : ServerValue) (place : ℕ) (slot : Slot) (seat : SeatValue)
+    → LeavesPlace a place b → IsSeatedAt b place slot seat → ⊥
 left_is_free a b place slot seat left seated =
-    let hub_is : b.hub ≡ with_slot a.hub place None = ap (λ (x : ServerValue). x.hub) left.after_is ∙ left.ends.after_is in
-    let at : slice_get (slice_set a.hub.slots place None) place ≡ Some (Some slot) = ap (λ (h : HubValue). slice_get h.slots place) (sym hub_is) ∙ seated.at_slot in
-    let free : slice_get (slice_set a.hub.slots place None) place ≡ Some None = set_same a.hub.slots place None (Some left.ends.slot) left.ends.found in
+    let hub_is : b.hub ≡ with_slot a.hub place None = ap (λ (x : ServerValue). x.hub) left.after_is
+    ∙ left.ends.after_is in
+    let at : slice_get (slice_set a.hub.slots place None) place ≡ Some (Some slot) =
+    ap (λ (h : HubValue). slice_get h.slots place) (sym hub_is) ∙ seated.at_slot in
+    let free : slice_get (slice_set a.hub.slots place None) place ≡ Some None =
+    set_same a.hub.slots place None (Some left.ends.slot) left.ends.found in
     cc (at, free)
 
 pub turns_left : (a b : ServerValue) (place : ℕ) → LeavesPlace a place b → KeepsTurnsOver a b
 turns_left a b place left = λ before.
-    fact_kept (λ slot seat. IsTurnOver seat) place a b (leaves_keeps a b place left) before (λ slot seat seated. absurd (left_is_free a b place slot seat left seated))
+    fact_kept (λ slot seat. IsTurnOver seat) place a b (leaves_keeps a b place left) before
+    (λ slot seat seated. absurd (left_is_free a b place slot seat left seated))
 
 -- ---- a turn of each place in order
 
-pub no_turn_more : (place : ℕ) (a b : ServerValue) → KeepsOthers place a b → ((other : ℕ) → other < place → HasTurnAt a other → ⊥) → (HasTurnAt b place → ⊥) → (other : ℕ) → other < place + 1 → HasTurnAt b other → ⊥
+pub no_turn_more : (place : ℕ) (a b : ServerValue) → KeepsOthers place a b
+    → ((other : ℕ) → other < place → HasTurnAt a other → ⊥) → (HasTurnAt b place → ⊥) → (other : ℕ)
+    → other < place + 1 → HasTurnAt b other → ⊥
 no_turn_more place a b keeps below here other within has = by_place (other == place) refl
   where
     by_place : (t : Bool) → (other == place) ≡ t → ⊥
@@ -93,11 +125,19 @@ no_turn_more place a b keeps below here other within has = by_place (other == pl
         below other (omega (arith, within, apart)) (turn_before place other a b keeps apart has)
 
 -- all places had their turn
-pub turns_over : (a : ServerValue) (count : ℕ) → AreSeatedBelow a count → ((other : ℕ) → other < count → HasTurnAt a other → ⊥) → AreTurnsOver a
+pub turns_over : (a : ServerValue) (count : ℕ) → AreSeatedBelow a count
+    → ((other : ℕ) → other < count → HasTurnAt a other → ⊥) → AreTurnsOver a
 turns_over a count all below place slot seat seated has =
-    below place (all place slot seat seated) (record { slot = slot; seat = seat; seated = seated; has_turn = has })
+    below place (all place slot seat seated) (record {
+      slot = slot;
+      seat = seat;
+      seated = seated;
+      has_turn = has;
+    })
 
 -- no place has a connection that has expired
 pub all_unexpired : (limits : ServeLimits) (a : ServerValue) (count : ℕ) → AreSeatedBelow a count
-    → ((place : ℕ) (slot : Slot) (seat : SeatValue) → place < count → IsSeatedAt a place slot seat → has_expired slot.link a.time limits.patience ≡ false) → NoneExpired limits a
-all_unexpired limits a count all below place slot seat seated = below place slot seat (all place slot seat seated) seated
+    → ((place : ℕ) (slot : Slot) (seat : SeatValue) → place < count → IsSeatedAt a place slot seat
+    → has_expired slot.link a.time limits.patience ≡ false) → NoneExpired limits a
+all_unexpired limits a count all below place slot seat seated =
+    below place slot seat (all place slot seat seated) seated

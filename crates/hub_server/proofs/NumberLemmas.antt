@@ -1,5 +1,7 @@
 -- The serial numbers of the connections of a hub.
-use Rattle.std.proofs.Common.{◌≡◌, ◌∙◌, ◌==◌, ◌<◌, ℕ, zero, suc, Bool, true, false, List, Option, Some, None, refl, sym, ap, subst, arith, replicate, slice_get, slice_set}
+use Rattle.std.proofs.Common.{◌≡◌, ◌∙◌, ◌==◌, ◌<◌, ℕ, zero, suc, Bool, true, false, List, Option}
+use Rattle.std.proofs.Common.{Some, None, refl, sym, ap, subst, arith, replicate, slice_get}
+use Rattle.std.proofs.Common.{slice_set}
 use Rattle.std.proofs.lemmas.Bool.{eqb-false, eqb-true}
 use Rattle.http_hub.specs.Hubs.{HubValue, IsAt, new_hub, with_link, with_slot}
 use Rattle.http_hub.specs.Links.{LinkValue, new_link}
@@ -9,9 +11,11 @@ use Rattle.http_hub.proofs.PlaceLemmas.{set_other, set_same}
 -- each open connection was opened before, and no two have the same serial number
 pub record AreNumbered (hub : HubValue) : Type 0 where
   pub earlier : (place : ℕ) (slot : Slot) → IsAt hub place slot → slot.serial < hub.opened
-  pub apart : (place other : ℕ) (slot another : Slot) → IsAt hub place slot → IsAt hub other another → slot.serial ≡ another.serial → place ≡ other
+  pub apart : (place other : ℕ) (slot another : Slot) → IsAt hub place slot → IsAt hub other another
+      → slot.serial ≡ another.serial → place ≡ other
 
-pub none_there : (limit place : ℕ) (slot : Slot) → slice_get (replicate limit None) place ≡ Some (Some slot) → ⊥
+pub none_there : (limit place : ℕ) (slot : Slot) → slice_get (replicate limit None) place
+    ≡ Some (Some slot) → ⊥
 none_there zero place slot e = cc e
 none_there (suc limit) zero slot e = cc e
 none_there (suc limit) (suc place) slot e = none_there limit place slot e
@@ -23,13 +27,19 @@ numbered_new limit = record {
 }
 
 -- what a place has after a write at some place
-at_same : (slots : List (Option Slot)) (place n : ℕ) (old changed : Option Slot) (one : Slot) → place ≡ n → slice_get slots place ≡ Some old → slice_get (slice_set slots place changed) n ≡ Some (Some one) → changed ≡ Some one
+at_same : (slots : List (Option Slot)) (place n : ℕ) (old changed : Option Slot) (one : Slot)
+    → place ≡ n → slice_get slots place ≡ Some old → slice_get (slice_set slots place changed) n
+    ≡ Some (Some one) → changed ≡ Some one
 at_same slots place n old changed one same found at =
-    let here : slice_get (slice_set slots place changed) place ≡ Some changed = set_same slots place changed old found in
-    let there : slice_get (slice_set slots place changed) place ≡ Some (Some one) = ap (λ m. slice_get (slice_set slots place changed) m) same ∙ at in
+    let here : slice_get (slice_set slots place changed) place ≡ Some changed =
+    set_same slots place changed old found in
+    let there : slice_get (slice_set slots place changed) place ≡ Some (Some one) =
+    ap (λ m. slice_get (slice_set slots place changed) m) same ∙ at in
     cc (here, there)
 
-at_other : (slots : List (Option Slot)) (place n : ℕ) (changed : Option Slot) (one : Slot) → (place ≡ n → ⊥) → slice_get (slice_set slots place changed) n ≡ Some (Some one) → slice_get slots n ≡ Some (Some one)
+at_other : (slots : List (Option Slot)) (place n : ℕ) (changed : Option Slot) (one : Slot)
+    → (place ≡ n → ⊥) → slice_get (slice_set slots place changed) n ≡ Some (Some one)
+    → slice_get slots n ≡ Some (Some one)
 at_other slots place n changed one apart at = sym (set_other slots place n changed apart) ∙ at
 
 same_some : (x y : Slot) → Some x ≡ Some y → x ≡ y
@@ -38,13 +48,21 @@ same_some x y same = cc same
 module _ (hub : HubValue) (is : AreNumbered hub) where
   -- a change of a link
   module _ (place : ℕ) (slot : Slot) (link : LinkValue) (found : IsAt hub place slot) where
-    before_changed : (n : ℕ) (one : Slot) (t : Bool) → (place == n) ≡ t → IsAt (with_link hub place slot.serial link) n one → (old : Slot) × IsAt hub n old × (old.serial ≡ one.serial)
+    before_changed : (n : ℕ) (one : Slot) (t : Bool) → (place == n) ≡ t
+        → IsAt (with_link hub place slot.serial link) n one → (old : Slot) × IsAt hub n old
+        × (old.serial ≡ one.serial)
     before_changed n one true e at =
         let same : place ≡ n = eqb-true place n e in
         let changed : Slot = record { serial = slot.serial; link = link } in
-        let is_it : changed ≡ one = same_some changed one (at_same hub.slots place n (Some slot) (Some changed) one same found at) in
+        let is_it : changed ≡ one = same_some changed one (at_same hub.slots place n (Some slot)
+        (Some changed) one same found at) in
         (slot, subst (λ m. IsAt hub m slot) same found, ap (λ (s : Slot). s.serial) is_it)
-    before_changed n one false e at = (one, at_other hub.slots place n (Some (record { serial = slot.serial; link = link })) one (eqb-false place n e) at, refl)
+    before_changed n one false e at = (
+      one,
+      at_other hub.slots place n (Some (record { serial = slot.serial; link = link })) one
+          (eqb-false place n e) at,
+      refl,
+    )
 
     pub numbered_changed : AreNumbered (with_link hub place slot.serial link)
     numbered_changed = record {
@@ -59,16 +77,20 @@ module _ (hub : HubValue) (is : AreNumbered hub) where
 
   -- the end of a connection
   module _ (place : ℕ) (slot : Slot) (found : IsAt hub place slot) where
-    before_ended : (n : ℕ) (one : Slot) (t : Bool) → (place == n) ≡ t → IsAt (with_slot hub place None) n one → IsAt hub n one
+    before_ended : (n : ℕ) (one : Slot) (t : Bool) → (place == n) ≡ t
+        → IsAt (with_slot hub place None) n one → IsAt hub n one
     before_ended n one true e at =
-        let no : None ≡ Some one = at_same hub.slots place n (Some slot) None one (eqb-true place n e) found at in
+        let no : None ≡ Some one = at_same hub.slots place n (Some slot) None one
+        (eqb-true place n e) found at in
         absurd (cc no)
     before_ended n one false e at = at_other hub.slots place n None one (eqb-false place n e) at
 
     pub numbered_ended : AreNumbered (with_slot hub place None)
     numbered_ended = record {
       earlier = λ n one at. is.earlier n one (before_ended n one (place == n) refl at);
-      apart = λ n m one two at_one at_two same. is.apart n m one two (before_ended n one (place == n) refl at_one) (before_ended m two (place == m) refl at_two) same;
+      apart = λ n m one two at_one at_two same. is.apart n m one two
+          (before_ended n one (place == n) refl at_one) (before_ended m two (place == m) refl
+          at_two) same;
     }
 
   -- a new connection
@@ -78,26 +100,52 @@ module _ (hub : HubValue) (is : AreNumbered hub) where
       Newest : place ≡ n → one.serial ≡ hub.opened → OpenedAt n one
       Older : IsAt hub n one → OpenedAt n one
 
-    which_opened : (n : ℕ) (one : Slot) (t : Bool) → (place == n) ≡ t → slice_get (slice_set hub.slots place (Some (record { serial = hub.opened; link = new_link now }))) n ≡ Some (Some one) → OpenedAt n one
+    which_opened : (n : ℕ) (one : Slot) (t : Bool) → (place == n) ≡ t
+        → slice_get (slice_set hub.slots place (Some (record {
+          serial = hub.opened;
+          link = new_link now;
+        }))) n ≡ Some (Some one) → OpenedAt n one
     which_opened n one true e at =
         let same : place ≡ n = eqb-true place n e in
         let opened : Slot = record { serial = hub.opened; link = new_link now } in
-        let is_it : opened ≡ one = same_some opened one (at_same hub.slots place n None (Some opened) one same free at) in
+        let is_it : opened ≡ one = same_some opened one (at_same hub.slots place n None
+        (Some opened) one same free at) in
         Newest same (ap (λ (s : Slot). s.serial) (sym is_it))
-    which_opened n one false e at = Older (at_other hub.slots place n (Some (record { serial = hub.opened; link = new_link now })) one (eqb-false place n e) at)
+    which_opened n one false e at =
+        Older (at_other hub.slots place n (Some (record {
+          serial = hub.opened;
+          link = new_link now;
+        })) one (eqb-false place n e) at)
 
     opened_earlier : (n : ℕ) (one : Slot) → OpenedAt n one → one.serial < suc hub.opened
     opened_earlier n one (Newest same serial_is) = omega (arith, serial_is)
-    opened_earlier n one (Older at) = let before : one.serial < hub.opened = is.earlier n one at in omega (arith, before)
+    opened_earlier n one (Older at) = let before : one.serial < hub.opened = is.earlier n one at in
+        omega (arith, before)
 
-    opened_apart : (n m : ℕ) (one two : Slot) → OpenedAt n one → OpenedAt m two → one.serial ≡ two.serial → n ≡ m
-    opened_apart n m one two (Newest same serial_is) (Newest other_same other_serial) serials = sym same ∙ other_same
-    opened_apart n m one two (Newest same serial_is) (Older at) serials = let before : two.serial < hub.opened = is.earlier m two at in absurd (omega (arith, before, serial_is, serials))
-    opened_apart n m one two (Older at) (Newest same serial_is) serials = let before : one.serial < hub.opened = is.earlier n one at in absurd (omega (arith, before, serial_is, serials))
-    opened_apart n m one two (Older at) (Older other_at) serials = is.apart n m one two at other_at serials
+    opened_apart : (n m : ℕ) (one two : Slot) → OpenedAt n one → OpenedAt m two
+        → one.serial ≡ two.serial → n ≡ m
+    opened_apart n m one two (Newest same serial_is) (Newest other_same other_serial) serials =
+        sym same ∙ other_same
+    opened_apart n m one two (Newest same serial_is) (Older at) serials =
+        let before : two.serial < hub.opened = is.earlier m two at in
+        absurd (omega (arith, before, serial_is, serials))
+    opened_apart n m one two (Older at) (Newest same serial_is) serials =
+        let before : one.serial < hub.opened = is.earlier n one at in
+        absurd (omega (arith, before, serial_is, serials))
+    opened_apart n m one two (Older at) (Older other_at) serials =
+        is.apart n m one two at other_at serials
 
-    pub numbered_opened : AreNumbered (record { slots = slice_set hub.slots place (Some (record { serial = hub.opened; link = new_link now })); opened = suc hub.opened })
+    pub numbered_opened : AreNumbered
+        (record {
+          slots = slice_set hub.slots place (Some (record {
+            serial = hub.opened;
+            link = new_link now;
+          }));
+          opened = suc hub.opened;
+        })
     numbered_opened = record {
       earlier = λ n one at. opened_earlier n one (which_opened n one (place == n) refl at);
-      apart = λ n m one two at_one at_two same. opened_apart n m one two (which_opened n one (place == n) refl at_one) (which_opened m two (place == m) refl at_two) same;
+      apart = λ n m one two at_one at_two same. opened_apart n m one two
+          (which_opened n one (place == n) refl at_one) (which_opened m two (place == m) refl
+          at_two) same;
     }

@@ -1,5 +1,7 @@
 -- Every run of a server is a run of its hub.
-use Rattle.std.proofs.Common.{◌≡◌, ◌∙◌, ◌==◌, ◌<◌, ◌≤◌, ℕ, zero, suc, Bool, true, false, List, [], ◌∷◌, ◌++◌, Option, Some, None, refl, sym, ap, subst, inl, inr, append_assoc, arith, cond, drop, length, slice_get, slice_set, take}
+use Rattle.std.proofs.Common.{◌≡◌, ◌∙◌, ◌==◌, ◌<◌, ◌≤◌, ℕ, zero, suc, Bool, true, false, List, []}
+use Rattle.std.proofs.Common.{◌∷◌, ◌++◌, Option, Some, None, refl, sym, ap, subst, inl, inr}
+use Rattle.std.proofs.Common.{append_assoc, arith, cond, drop, length, slice_get, slice_set, take}
 use Rattle.std.proofs.lemmas.Bool.{eqb-false, eqb-true, eq-eqb, ne_eqb}
 use Rattle.std.proofs.lemmas.List.{append-nil, length-take-le, take-append-drop}
 use Rattle.http_requests.specs.HandlerRuns.{HandlerRelation, FaultReplies}
@@ -7,20 +9,27 @@ use Rattle.http_hub.specs.FedPieces.{FedPiece, octets_in, pieces_of}
 use Rattle.http_hub.specs.BoundedHubs.{ReceivesWithin}
 use Rattle.http_hub.specs.HubRuns.{DoesStep, HubRuns, HubStep, RefusesPieceAt, pieces_in, sent_to}
 use Rattle.http_hub.specs.HubRuns.HubStep.{Opens, Receives, Fails, Refuses, Sends, Ends}
-use Rattle.http_hub.specs.Hubs.{EndsAt, FailsAt, HubValue, IsAt, OpensAt, ReceivesAt, SendsAt, with_link, with_slot}
-use Rattle.http_hub.specs.Links.{LinkValue, link_after_failure, link_after_refusal, link_after_sent, new_link}
+use Rattle.http_hub.specs.Hubs.{EndsAt, FailsAt, HubValue, IsAt, OpensAt, ReceivesAt, SendsAt}
+use Rattle.http_hub.specs.Hubs.{with_link, with_slot}
+use Rattle.http_hub.specs.Links.{LinkValue, link_after_failure, link_after_refusal, link_after_sent}
+use Rattle.http_hub.specs.Links.{new_link}
 use Rattle.http_hub.specs.declared.slot.Slot.{Slot}
 use Rattle.http_hub.proofs.HubLemmas.{hubs_separate_connections, refused_link}
 use Rattle.http_hub.proofs.PlaceLemmas.{set_other, set_same}
 use Rattle.hub_server.specs.Seats.{SeatValue, new_seat, next_piece, seat_after_step, seat_asleep}
-use Rattle.hub_server.specs.ServerActs.{AcceptsConnection, ClosesConnection, DoesAct, EndCause, ReadsOctets, ServerAct, WritesOctets}
-use Rattle.hub_server.specs.ServerActs.ServerAct.{Awaits, AcceptsAt, FindsNoConnection, DefersAccepting, ReadsFrom, FindsNoInput, WritesTo, FindsNoOutput, ClosesAt}
-use Rattle.hub_server.specs.ServerLaws.{ServerRunsAreHubRuns, input_of, octets_read_by, octets_written_by, output_of}
+use Rattle.hub_server.specs.ServerActs.{AcceptsConnection, ClosesConnection, DoesAct, EndCause}
+use Rattle.hub_server.specs.ServerActs.{ReadsOctets, ServerAct, WritesOctets}
+use Rattle.hub_server.specs.ServerActs.ServerAct.{Awaits, AcceptsAt, FindsNoConnection}
+use Rattle.hub_server.specs.ServerActs.ServerAct.{DefersAccepting, ReadsFrom, FindsNoInput}
+use Rattle.hub_server.specs.ServerActs.ServerAct.{WritesTo, FindsNoOutput, ClosesAt}
+use Rattle.hub_server.specs.ServerLaws.{ServerRunsAreHubRuns, input_of, octets_read_by}
+use Rattle.hub_server.specs.ServerLaws.{octets_written_by, output_of}
 use Rattle.hub_server.specs.ServerRuns.{ServerRuns, ServerStep}
 use Rattle.hub_server.specs.ServerRuns.ServerStep.{Acts, Feeds}
 use Rattle.hub_server.specs.Servers.{IsSeatedAt, ServerValue, new_server, with_seat}
 use Rattle.hub_server.specs.declared.limits.ServeLimits.{ServeLimits}
-use Rattle.hub_server.proofs.NumberLemmas.{AreNumbered, none_there, numbered_changed, numbered_ended, numbered_new, numbered_opened}
+use Rattle.hub_server.proofs.NumberLemmas.{AreNumbered, none_there, numbered_changed}
+use Rattle.hub_server.proofs.NumberLemmas.{numbered_ended, numbered_new, numbered_opened}
 use Rattle.hub_server.proofs.NeedLemmas.{same_slot}
 use Rattle.hub_server.proofs.SeatLemmas.{piece_front, wait_unfed}
 
@@ -29,7 +38,8 @@ use Rattle.hub_server.proofs.SeatLemmas.{piece_front, wait_unfed}
 -- these are the octets that were read of each connection and not fed yet, by its serial number
 pub record AreUnfed (a : ServerValue) (held : ℕ → List ℕ) : Type 0 where
   pub numbered : AreNumbered a.hub
-  pub there : (place : ℕ) (slot : Slot) (seat : SeatValue) → IsSeatedAt a place slot seat → held slot.serial ≡ seat.unfed
+  pub there : (place : ℕ) (slot : Slot) (seat : SeatValue) → IsSeatedAt a place slot seat
+      → held slot.serial ≡ seat.unfed
   pub none_later : (serial : ℕ) → a.hub.opened ≤ serial → held serial ≡ []
 
 -- other octets of one connection
@@ -44,166 +54,262 @@ held_other : (b : Bool) (octets old : List ℕ) → b ≡ false → cond b octet
 held_other true octets old is = absurd (cc is)
 held_other false octets old is = refl
 
-with_same : (held : ℕ → List ℕ) (serial connection : ℕ) (octets : List ℕ) → serial ≡ connection → with_held held serial octets connection ≡ octets
-with_same held serial connection octets same = held_same (serial == connection) octets (held connection) (eq-eqb serial connection same)
+with_same : (held : ℕ → List ℕ) (serial connection : ℕ) (octets : List ℕ) → serial ≡ connection
+    → with_held held serial octets connection ≡ octets
+with_same held serial connection octets same =
+    held_same (serial == connection) octets (held connection) (eq-eqb serial connection same)
 
-with_other : (held : ℕ → List ℕ) (serial connection : ℕ) (octets : List ℕ) → (serial ≡ connection → ⊥) → with_held held serial octets connection ≡ held connection
-with_other held serial connection octets apart = held_other (serial == connection) octets (held connection) (ne_eqb serial connection apart)
+with_other : (held : ℕ → List ℕ) (serial connection : ℕ) (octets : List ℕ)
+    → (serial ≡ connection → ⊥) → with_held held serial octets connection ≡ held connection
+with_other held serial connection octets apart =
+    held_other (serial == connection) octets (held connection) (ne_eqb serial connection apart)
 
 -- a change of the place of one connection, which stays there
-module _ (a b : ServerValue) (held : ℕ → List ℕ) (unfed : AreUnfed a held) (place : ℕ) (slot : Slot) (seat next : SeatValue) (seated : IsSeatedAt a place slot seat)
-    (link : LinkValue) (hub : HubValue) (hub_is : hub ≡ with_link a.hub place slot.serial link) (is : b ≡ with_seat a place hub next) where
+module _ (a b : ServerValue) (held : ℕ → List ℕ) (unfed : AreUnfed a held) (place : ℕ) (slot : Slot)
+    (seat next : SeatValue) (seated : IsSeatedAt a place slot seat)
+    (link : LinkValue) (hub : HubValue) (hub_is : hub ≡ with_link a.hub place slot.serial link)
+    (is : b ≡ with_seat a place hub next) where
   changed_hub : b.hub ≡ with_link a.hub place slot.serial link
   changed_hub = ap (λ (x : ServerValue). x.hub) is ∙ hub_is
 
-  changed_there : (other : ℕ) (one : Slot) (its : SeatValue) (t : Bool) → (place == other) ≡ t → IsSeatedAt b other one its → with_held held slot.serial next.unfed one.serial ≡ its.unfed
+  changed_there : (other : ℕ) (one : Slot) (its : SeatValue) (t : Bool) → (place == other) ≡ t
+      → IsSeatedAt b other one its → with_held held slot.serial next.unfed one.serial ≡ its.unfed
   changed_there other one its true e there =
       let same : place ≡ other = eqb-true place other e in
       let changed : Slot = record { serial = slot.serial; link = link } in
-      let at : slice_get (slice_set a.hub.slots place (Some changed)) place ≡ Some (Some one) = ap (λ (h : HubValue). slice_get h.slots place) (sym changed_hub) ∙ ap (λ n. slice_get b.hub.slots n) same ∙ there.at_slot in
-      let here : slice_get (slice_set a.hub.slots place (Some changed)) place ≡ Some (Some changed) = set_same a.hub.slots place (Some changed) (Some slot) seated.at_slot in
+      let at : slice_get (slice_set a.hub.slots place (Some changed)) place ≡ Some (Some one) =
+      ap (λ (h : HubValue). slice_get h.slots place) (sym changed_hub)
+      ∙ ap (λ n. slice_get b.hub.slots n) same ∙ there.at_slot in
+      let here : slice_get (slice_set a.hub.slots place (Some changed)) place
+      ≡ Some (Some changed) = set_same a.hub.slots place (Some changed) (Some slot)
+      seated.at_slot in
       let slot_is : changed ≡ one = cc (at, here) in
-      let seat_at : slice_get (slice_set a.seats place next) place ≡ Some its = ap (λ (x : ServerValue). slice_get x.seats place) (sym is) ∙ ap (λ n. slice_get b.seats n) same ∙ there.at_seat in
-      let seat_here : slice_get (slice_set a.seats place next) place ≡ Some next = set_same a.seats place next seat seated.at_seat in
+      let seat_at : slice_get (slice_set a.seats place next) place ≡ Some its =
+      ap (λ (x : ServerValue). slice_get x.seats place) (sym is)
+      ∙ ap (λ n. slice_get b.seats n) same ∙ there.at_seat in
+      let seat_here : slice_get (slice_set a.seats place next) place ≡ Some next =
+      set_same a.seats place next seat seated.at_seat in
       let seat_is : next ≡ its = cc (seat_at, seat_here) in
-      with_same held slot.serial one.serial next.unfed (ap (λ (x : Slot). x.serial) slot_is) ∙ ap (λ (x : SeatValue). x.unfed) seat_is
+      with_same held slot.serial one.serial next.unfed (ap (λ (x : Slot). x.serial) slot_is)
+      ∙ ap (λ (x : SeatValue). x.unfed) seat_is
   changed_there other one its false e there =
       let apart : place ≡ other → ⊥ = eqb-false place other e in
       let changed : Slot = record { serial = slot.serial; link = link } in
-      let at : slice_get a.hub.slots other ≡ Some (Some one) = sym (set_other a.hub.slots place other (Some changed) apart) ∙ ap (λ (h : HubValue). slice_get h.slots other) (sym changed_hub) ∙ there.at_slot in
-      let seat_at : slice_get a.seats other ≡ Some its = sym (set_other a.seats place other next apart) ∙ ap (λ (x : ServerValue). slice_get x.seats other) (sym is) ∙ there.at_seat in
-      with_other held slot.serial one.serial next.unfed (λ same. apart (unfed.numbered.apart place other slot one seated.at_slot at same))
+      let at : slice_get a.hub.slots other ≡ Some (Some one) =
+      sym (set_other a.hub.slots place other (Some changed) apart)
+      ∙ ap (λ (h : HubValue). slice_get h.slots other) (sym changed_hub) ∙ there.at_slot in
+      let seat_at : slice_get a.seats other ≡ Some its =
+      sym (set_other a.seats place other next apart)
+      ∙ ap (λ (x : ServerValue). slice_get x.seats other) (sym is) ∙ there.at_seat in
+      with_other held slot.serial one.serial next.unfed
+      (λ same. apart (unfed.numbered.apart place other slot one seated.at_slot at same))
       ∙ unfed.there other one its (record { at_slot = at; at_seat = seat_at })
 
   pub unfed_changed : AreUnfed b (with_held held slot.serial next.unfed)
   unfed_changed = record {
-    numbered = subst (λ (h : HubValue). AreNumbered h) (sym changed_hub) (numbered_changed a.hub unfed.numbered place slot link seated.at_slot);
+    numbered = subst (λ (h : HubValue). AreNumbered h) (sym changed_hub)
+        (numbered_changed a.hub unfed.numbered place slot link seated.at_slot);
     there = λ other one its there. changed_there other one its (place == other) refl there;
     none_later = λ serial later.
         let opened : b.hub.opened ≡ a.hub.opened = ap (λ (h : HubValue). h.opened) changed_hub in
-        let earlier : slot.serial < a.hub.opened = unfed.numbered.earlier place slot seated.at_slot in
+        let earlier : slot.serial < a.hub.opened =
+        unfed.numbered.earlier place slot seated.at_slot in
         let past : a.hub.opened ≤ serial = subst (λ n. n ≤ serial) opened later in
-        with_other held slot.serial serial next.unfed (λ same. let is_it : slot.serial ≡ serial = same in omega (arith, is_it, earlier, past)) ∙ unfed.none_later serial past;
+        with_other held slot.serial serial next.unfed (λ same. let is_it : slot.serial
+        ≡ serial = same in omega (arith, is_it, earlier, past)) ∙ unfed.none_later serial past;
   }
 
 -- the connection of a place is closed
-module _ (a b : ServerValue) (held : ℕ → List ℕ) (unfed : AreUnfed a held) (place : ℕ) (slot : Slot) (found : IsAt a.hub place slot)
-    (hub : HubValue) (hub_is : hub ≡ with_slot a.hub place None) (is : b ≡ with_seat a place hub new_seat) where
+module _ (a b : ServerValue) (held : ℕ → List ℕ) (unfed : AreUnfed a held) (place : ℕ) (slot : Slot)
+    (found : IsAt a.hub place slot)
+    (hub : HubValue) (hub_is : hub ≡ with_slot a.hub place None) (is :
+    b ≡ with_seat a place hub new_seat) where
   closed_hub : b.hub ≡ with_slot a.hub place None
   closed_hub = ap (λ (x : ServerValue). x.hub) is ∙ hub_is
 
-  closed_there : (other : ℕ) (one : Slot) (its : SeatValue) (t : Bool) → (place == other) ≡ t → IsSeatedAt b other one its → held one.serial ≡ its.unfed
+  closed_there : (other : ℕ) (one : Slot) (its : SeatValue) (t : Bool) → (place == other) ≡ t
+      → IsSeatedAt b other one its → held one.serial ≡ its.unfed
   closed_there other one its true e there =
       let same : place ≡ other = eqb-true place other e in
-      let at : slice_get (slice_set a.hub.slots place None) place ≡ Some (Some one) = ap (λ (h : HubValue). slice_get h.slots place) (sym closed_hub) ∙ ap (λ n. slice_get b.hub.slots n) same ∙ there.at_slot in
-      let here : slice_get (slice_set a.hub.slots place None) place ≡ Some None = set_same a.hub.slots place None (Some slot) found in
+      let at : slice_get (slice_set a.hub.slots place None) place ≡ Some (Some one) =
+      ap (λ (h : HubValue). slice_get h.slots place) (sym closed_hub)
+      ∙ ap (λ n. slice_get b.hub.slots n) same ∙ there.at_slot in
+      let here : slice_get (slice_set a.hub.slots place None) place ≡ Some None =
+      set_same a.hub.slots place None (Some slot) found in
       absurd (cc (at, here))
   closed_there other one its false e there =
       let apart : place ≡ other → ⊥ = eqb-false place other e in
-      let at : slice_get a.hub.slots other ≡ Some (Some one) = sym (set_other a.hub.slots place other None apart) ∙ ap (λ (h : HubValue). slice_get h.slots other) (sym closed_hub) ∙ there.at_slot in
-      let seat_at : slice_get a.seats other ≡ Some its = sym (set_other a.seats place other new_seat apart) ∙ ap (λ (x : ServerValue). slice_get x.seats other) (sym is) ∙ there.at_seat in
+      let at : slice_get a.hub.slots other ≡ Some (Some one) =
+      sym (set_other a.hub.slots place other None apart)
+      ∙ ap (λ (h : HubValue). slice_get h.slots other) (sym closed_hub) ∙ there.at_slot in
+      let seat_at : slice_get a.seats other ≡ Some its =
+      sym (set_other a.seats place other new_seat apart)
+      ∙ ap (λ (x : ServerValue). slice_get x.seats other) (sym is) ∙ there.at_seat in
       unfed.there other one its (record { at_slot = at; at_seat = seat_at })
 
   pub unfed_closed : AreUnfed b held
   unfed_closed = record {
-    numbered = subst (λ (h : HubValue). AreNumbered h) (sym closed_hub) (numbered_ended a.hub unfed.numbered place slot found);
+    numbered = subst (λ (h : HubValue). AreNumbered h) (sym closed_hub)
+        (numbered_ended a.hub unfed.numbered place slot found);
     there = λ other one its there. closed_there other one its (place == other) refl there;
-    none_later = λ serial later. unfed.none_later serial (subst (λ n. n ≤ serial) (ap (λ (h : HubValue). h.opened) closed_hub) later);
+    none_later = λ serial later. unfed.none_later serial
+        (subst (λ n. n ≤ serial) (ap (λ (h : HubValue). h.opened) closed_hub) later);
   }
 
 -- a connection is accepted
-seat_new : (seats : List SeatValue) (place : ℕ) (seat : SeatValue) → slice_get (slice_set seats place new_seat) place ≡ Some seat → new_seat ≡ seat
+seat_new : (seats : List SeatValue) (place : ℕ) (seat : SeatValue)
+    → slice_get (slice_set seats place new_seat) place ≡ Some seat → new_seat ≡ seat
 seat_new [] place seat found = absurd (cc found)
 seat_new (x ∷ seats) zero seat found = cc found
 seat_new (x ∷ seats) (suc place) seat found = seat_new seats place seat found
 
 module _ (a b : ServerValue) (held : ℕ → List ℕ) (unfed : AreUnfed a held) (place : ℕ)
-    (hub : HubValue) (opens : OpensAt place a.hub a.time hub) (seats_are : b.seats ≡ slice_set a.seats place new_seat) (is : b.hub ≡ hub) where
-  opened_there : (other : ℕ) (one : Slot) (its : SeatValue) (t : Bool) → (place == other) ≡ t → IsSeatedAt b other one its → held one.serial ≡ its.unfed
+    (hub : HubValue) (opens : OpensAt place a.hub a.time hub) (seats_are :
+    b.seats ≡ slice_set a.seats place new_seat) (is : b.hub ≡ hub) where
+  opened_there : (other : ℕ) (one : Slot) (its : SeatValue) (t : Bool) → (place == other) ≡ t
+      → IsSeatedAt b other one its → held one.serial ≡ its.unfed
   opened_there other one its true e there =
       let same : place ≡ other = eqb-true place other e in
       let opened : Slot = record { serial = a.hub.opened; link = new_link a.time } in
       let at : slice_get (slice_set a.hub.slots place (Some opened)) place ≡ Some (Some one) =
-      ap (λ (h : HubValue). slice_get h.slots place) (sym (is ∙ opens.after_is)) ∙ ap (λ n. slice_get b.hub.slots n) same ∙ there.at_slot in
-      let here : slice_get (slice_set a.hub.slots place (Some opened)) place ≡ Some (Some opened) = set_same a.hub.slots place (Some opened) None opens.was_free in
+      ap (λ (h : HubValue). slice_get h.slots place) (sym (is ∙ opens.after_is))
+      ∙ ap (λ n. slice_get b.hub.slots n) same ∙ there.at_slot in
+      let here : slice_get (slice_set a.hub.slots place (Some opened)) place ≡ Some (Some opened) =
+      set_same a.hub.slots place (Some opened) None opens.was_free in
       let slot_is : opened ≡ one = cc (at, here) in
       let serial_is : a.hub.opened ≡ one.serial = ap (λ (x : Slot). x.serial) slot_is in
-      let seat_at : slice_get (slice_set a.seats place new_seat) place ≡ Some its = ap (λ (x : List SeatValue). slice_get x place) (sym seats_are) ∙ ap (λ n. slice_get b.seats n) same ∙ there.at_seat in
-      unfed.none_later one.serial (omega (arith, serial_is)) ∙ ap (λ (x : SeatValue). x.unfed) (seat_new a.seats place its seat_at)
+      let seat_at : slice_get (slice_set a.seats place new_seat) place ≡ Some its =
+      ap (λ (x : List SeatValue). slice_get x place) (sym seats_are)
+      ∙ ap (λ n. slice_get b.seats n) same ∙ there.at_seat in
+      unfed.none_later one.serial (omega (arith, serial_is))
+      ∙ ap (λ (x : SeatValue). x.unfed) (seat_new a.seats place its seat_at)
   opened_there other one its false e there =
       let apart : place ≡ other → ⊥ = eqb-false place other e in
       let opened : Slot = record { serial = a.hub.opened; link = new_link a.time } in
       let at : slice_get a.hub.slots other ≡ Some (Some one) =
-      sym (set_other a.hub.slots place other (Some opened) apart) ∙ ap (λ (h : HubValue). slice_get h.slots other) (sym (is ∙ opens.after_is)) ∙ there.at_slot in
-      let seat_at : slice_get a.seats other ≡ Some its = sym (set_other a.seats place other new_seat apart) ∙ ap (λ (x : List SeatValue). slice_get x other) (sym seats_are) ∙ there.at_seat in
+      sym (set_other a.hub.slots place other (Some opened) apart)
+      ∙ ap (λ (h : HubValue). slice_get h.slots other) (sym (is ∙ opens.after_is))
+      ∙ there.at_slot in
+      let seat_at : slice_get a.seats other ≡ Some its =
+      sym (set_other a.seats place other new_seat apart)
+      ∙ ap (λ (x : List SeatValue). slice_get x other) (sym seats_are) ∙ there.at_seat in
       unfed.there other one its (record { at_slot = at; at_seat = seat_at })
 
   pub unfed_opened : AreUnfed b held
   unfed_opened = record {
-    numbered = subst (λ (h : HubValue). AreNumbered h) (sym (is ∙ opens.after_is)) (numbered_opened a.hub unfed.numbered place a.time opens.was_free);
+    numbered = subst (λ (h : HubValue). AreNumbered h) (sym (is ∙ opens.after_is))
+        (numbered_opened a.hub unfed.numbered place a.time opens.was_free);
     there = λ other one its there. opened_there other one its (place == other) refl there;
     none_later = λ serial later.
-        let opened : b.hub.opened ≡ suc a.hub.opened = ap (λ (h : HubValue). h.opened) (is ∙ opens.after_is) in
+        let opened : b.hub.opened ≡ suc a.hub.opened =
+        ap (λ (h : HubValue). h.opened) (is ∙ opens.after_is) in
         unfed.none_later serial (omega (arith, opened, later));
   }
 
 -- the hub and the unfed octets of each seat are the same
 unfed_same : (a b : ServerValue) (held : ℕ → List ℕ) → AreUnfed a held → b.hub ≡ a.hub
-    → ((place : ℕ) (seat : SeatValue) → slice_get b.seats place ≡ Some seat → (old : SeatValue) × (slice_get a.seats place ≡ Some old) × (old.unfed ≡ seat.unfed)) → AreUnfed b held
+    → ((place : ℕ) (seat : SeatValue) → slice_get b.seats place ≡ Some seat → (old : SeatValue)
+    × (slice_get a.seats place ≡ Some old) × (old.unfed ≡ seat.unfed)) → AreUnfed b held
 unfed_same a b held unfed hub_is seats_are = record {
   numbered = subst (λ (h : HubValue). AreNumbered h) (sym hub_is) unfed.numbered;
   there = λ place slot seat seated.
       let old = seats_are place seat seated.at_seat in
-      unfed.there place slot old.0 (record { at_slot = ap (λ (h : HubValue). slice_get h.slots place) (sym hub_is) ∙ seated.at_slot; at_seat = old.1 }) ∙ old.2;
-  none_later = λ serial later. unfed.none_later serial (subst (λ n. n ≤ serial) (ap (λ (h : HubValue). h.opened) hub_is) later);
+      unfed.there place slot old.0 (record {
+        at_slot = ap (λ (h : HubValue). slice_get h.slots
+            place) (sym hub_is) ∙ seated.at_slot;
+        at_seat = old.1;
+      }) ∙ old.2;
+  none_later = λ serial later. unfed.none_later serial
+      (subst (λ n. n ≤ serial) (ap (λ (h : HubValue). h.opened) hub_is) later);
 }
 
 -- the seat of one place is another, with the same unfed octets
-seat_changed : (seats : List SeatValue) (place other : ℕ) (old next seat : SeatValue) → slice_get seats place ≡ Some old → old.unfed ≡ next.unfed → slice_get (slice_set seats place next) other ≡ Some seat
-    → (t : Bool) → (place == other) ≡ t → (before : SeatValue) × (slice_get seats other ≡ Some before) × (before.unfed ≡ seat.unfed)
+seat_changed : (seats : List SeatValue) (place other : ℕ) (old next seat : SeatValue)
+    → slice_get seats place ≡ Some old → old.unfed ≡ next.unfed
+    → slice_get (slice_set seats place next) other ≡ Some seat
+    → (t : Bool) → (place == other) ≡ t → (before : SeatValue)
+    × (slice_get seats other ≡ Some before) × (before.unfed ≡ seat.unfed)
 seat_changed seats place other old next seat found kept at true e =
     let same : place ≡ other = eqb-true place other e in
-    let here : slice_get (slice_set seats place next) place ≡ Some next = set_same seats place next old found in
-    let there : slice_get (slice_set seats place next) place ≡ Some seat = ap (λ n. slice_get (slice_set seats place next) n) same ∙ at in
-    let next_is : next ≡ seat = cc (here, there) in
-    (old, ap (λ n. slice_get seats n) (sym same) ∙ found, kept ∙ ap (λ (x : SeatValue). x.unfed) next_is)
-seat_changed seats place other old next seat found kept at false e = (seat, sym (set_other seats place other next (eqb-false place other e)) ∙ at, refl)
+    let here : slice_get (slice_set seats place next) place ≡ Some next =
+    set_same seats place next old found in
+    let there : slice_get (slice_set seats place next) place ≡ Some seat =
+    ap (λ n. slice_get (slice_set seats place next) n) same ∙ at in
+    let next_is : next ≡ seat = cc (here, there) in (
+      old,
+      ap (λ n. slice_get seats n) (sym same) ∙ found,
+      kept
+          ∙ ap (λ (x : SeatValue). x.unfed) next_is,
+    )
+seat_changed seats place other old next seat found kept at false e =
+    (seat, sym (set_other seats place other next (eqb-false place other e)) ∙ at, refl)
 
-unfed_kept : (a b : ServerValue) (held : ℕ → List ℕ) → AreUnfed a held → (place : ℕ) (old next : SeatValue) → slice_get a.seats place ≡ Some old → old.unfed ≡ next.unfed → b ≡ with_seat a place a.hub next → AreUnfed b held
+unfed_kept : (a b : ServerValue) (held : ℕ → List ℕ) → AreUnfed a held
+    → (place : ℕ) (old next : SeatValue) → slice_get a.seats place ≡ Some old
+    → old.unfed ≡ next.unfed → b ≡ with_seat a place a.hub next → AreUnfed b held
 unfed_kept a b held unfed place old next found kept is =
     unfed_same a b held unfed (ap (λ (x : ServerValue). x.hub) is)
-    (λ other seat at. seat_changed a.seats place other old next seat found kept (ap (λ (x : ServerValue). slice_get x.seats other) (sym is) ∙ at) (place == other) refl)
+    (λ other seat at. seat_changed a.seats place other old next seat found kept
+    (ap (λ (x : ServerValue). slice_get x.seats other) (sym is) ∙ at) (place == other) refl)
 
-unfed_with : (a b : ServerValue) (held : ℕ → List ℕ) → AreUnfed a held → b.hub ≡ a.hub → b.seats ≡ a.seats → AreUnfed b held
-unfed_with a b held unfed hub_is seats_are = unfed_same a b held unfed hub_is (λ place seat at. (seat, ap (λ (x : List SeatValue). slice_get x place) (sym seats_are) ∙ at, refl))
+unfed_with : (a b : ServerValue) (held : ℕ → List ℕ) → AreUnfed a held → b.hub ≡ a.hub
+    → b.seats ≡ a.seats → AreUnfed b held
+unfed_with a b held unfed hub_is seats_are =
+    unfed_same a b held unfed hub_is (λ place seat at. (
+      seat,
+      ap (λ (x : List SeatValue). slice_get x place) (sym seats_are) ∙ at,
+      refl,
+    ))
 
-kept_by : (held : ℕ → List ℕ) (serial : ℕ) (octets : List ℕ) → held serial ≡ octets → (connection : ℕ) (t : Bool) → (serial == connection) ≡ t → with_held held serial octets connection ≡ held connection
-kept_by held serial octets same connection true e = held_same (serial == connection) octets (held connection) e ∙ sym same ∙ ap held (eqb-true serial connection e)
-kept_by held serial octets same connection false e = held_other (serial == connection) octets (held connection) e
+kept_by : (held : ℕ → List ℕ) (serial : ℕ) (octets : List ℕ) → held serial ≡ octets
+    → (connection : ℕ) (t : Bool) → (serial == connection) ≡ t
+    → with_held held serial octets connection ≡ held connection
+kept_by held serial octets same connection true e =
+    held_same (serial == connection) octets (held connection) e ∙ sym same
+    ∙ ap held (eqb-true serial connection e)
+kept_by held serial octets same connection false e =
+    held_other (serial == connection) octets (held connection) e
 
 -- octets of a connection are those that it had, where these are the same
-with_kept : (held : ℕ → List ℕ) (serial : ℕ) (octets : List ℕ) → held serial ≡ octets → (connection : ℕ) → with_held held serial octets connection ≡ held connection
-with_kept held serial octets same connection = kept_by held serial octets same connection (serial == connection) refl
+with_kept : (held : ℕ → List ℕ) (serial : ℕ) (octets : List ℕ) → held serial ≡ octets
+    → (connection : ℕ) → with_held held serial octets connection ≡ held connection
+with_kept held serial octets same connection =
+    kept_by held serial octets same connection (serial == connection) refl
 
 -- ---- steps of the hub
 
-set_found : {A : Type 0} (xs : List A) (i : ℕ) (x : A) → slice_get xs i ≡ Some x → slice_set xs i x ≡ xs
+set_found : {A : Type 0} (xs : List A) (i : ℕ) (x : A) → slice_get xs i ≡ Some x
+    → slice_set xs i x ≡ xs
 set_found [] i x found = refl
 set_found (y ∷ xs) zero x found = let same : y ≡ x = cc found in ap (λ t. t ∷ xs) (sym same)
 set_found (y ∷ xs) (suc i) x found = ap (λ t. y ∷ t) (set_found xs i x found)
 
 -- a link that doesn't change
-hub_found : (hub : HubValue) (place : ℕ) (slot : Slot) → IsAt hub place slot → hub ≡ with_link hub place slot.serial slot.link
+hub_found : (hub : HubValue) (place : ℕ) (slot : Slot) → IsAt hub place slot
+    → hub ≡ with_link hub place slot.serial slot.link
 hub_found hub place slot at =
-    let hub_with : List (Option Slot) → HubValue = λ slots. record { slots = slots; opened = hub.opened } in
+    let hub_with : List (Option Slot) → HubValue = λ slots. record {
+      slots = slots;
+      opened = hub.opened;
+    } in
     ap hub_with (sym (set_found hub.slots place (Some slot) at))
 
-sends_step : (place serial count now : ℕ) (offered : List ℕ) (before after : HubValue) (sends : SendsAt place before count now after) → sends.slot.serial ≡ serial → offered ≡ sends.slot.link.pending
-    → (sent : SendsAt place before (length (take count offered)) now after) × (sent.slot.serial ≡ serial) × (take count offered ≡ take (length (take count offered)) sent.slot.link.pending)
+sends_step : (place serial count now : ℕ) (offered : List ℕ) (before after : HubValue) (sends :
+    SendsAt place before count now after) → sends.slot.serial ≡ serial
+    → offered ≡ sends.slot.link.pending
+    → (sent : SendsAt place before (length (take count offered)) now after)
+    × (sent.slot.serial ≡ serial) × (take count offered ≡ take (length (take count offered))
+    sent.slot.link.pending)
 sends_step place serial count now offered before after sends serial_is offered_is =
-    let fits : count ≤ length offered = subst (λ (t : List ℕ). count ≤ length t) (sym offered_is) sends.count_fits in
+    let fits : count ≤ length offered = subst (λ (t : List ℕ). count ≤ length t) (sym offered_is)
+    sends.count_fits in
     let same : count ≡ length (take count offered) = sym (length-take-le count offered fits) in
-    subst (λ n. (sent : SendsAt place before n now after) × (sent.slot.serial ≡ serial) × (take count offered ≡ take n sent.slot.link.pending)) same (sends, serial_is, ap (λ (t : List ℕ). take count t) offered_is)
+    subst (λ n. (sent : SendsAt place before n now after) × (sent.slot.serial ≡ serial)
+    × (take count offered ≡ take n sent.slot.link.pending)) same (
+      sends,
+      serial_is,
+      ap (λ (t : List ℕ). take count t) offered_is,
+    )
 
 -- nothing was read before the start
 new_unfed : (limit : ℕ) → AreUnfed (new_server limit) (λ serial. [])
@@ -217,14 +323,17 @@ new_unfed limit = record {
 
 module _ {S : Type 0} (does : HandlerRelation S) (fault_reply : FaultReplies) where
   -- these steps of the hub are the steps of the server
-  pub record IsHubRun (a : ServerValue) (w : S) (held : ℕ → List ℕ) (steps : List ServerStep) (v : S) (b : ServerValue) : Type 0 where
+  pub record IsHubRun (a : ServerValue) (w : S) (held : ℕ → List ℕ) (steps : List ServerStep) (v :
+      S) (b : ServerValue) : Type 0 where
     pub hub_steps : List HubStep
     pub runs : HubRuns does fault_reply a.hub w hub_steps v b.hub
     pub rest : ℕ → List ℕ
-    pub fed : (connection : ℕ) → held connection ++ input_of connection steps ≡ octets_in (pieces_of connection (pieces_in hub_steps)) ++ rest connection
+    pub fed : (connection : ℕ) → held connection ++ input_of connection steps
+        ≡ octets_in (pieces_of connection (pieces_in hub_steps)) ++ rest connection
     pub written : (connection : ℕ) → output_of connection steps ≡ sent_to connection hub_steps
 
-  pub run_none : (a b : ServerValue) (w v : S) (held : ℕ → List ℕ) → a ≡ b → w ≡ v → IsHubRun a w held [] v b
+  pub run_none : (a b : ServerValue) (w v : S) (held : ℕ → List ℕ) → a ≡ b → w ≡ v
+      → IsHubRun a w held [] v b
   unfolding HubRuns
   run_none a b w v held same also = record {
     hub_steps = [];
@@ -235,103 +344,137 @@ module _ {S : Type 0} (does : HandlerRelation S) (fault_reply : FaultReplies) wh
   }
 
   -- an act that reads, writes and changes nothing of the hub
-  quiet_on : (act : ServerAct) (a b c : ServerValue) (w v : S) (held : ℕ → List ℕ) (steps : List ServerStep) → a.hub ≡ b.hub → ((connection : ℕ) → octets_read_by connection act ≡ []) → ((connection : ℕ) → octets_written_by connection act ≡ [])
+  quiet_on : (act : ServerAct) (a b c : ServerValue) (w v : S) (held : ℕ
+      → List ℕ) (steps : List ServerStep) → a.hub ≡ b.hub
+      → ((connection : ℕ) → octets_read_by connection act ≡ [])
+      → ((connection : ℕ) → octets_written_by connection act ≡ [])
       → IsHubRun b w held steps v c → IsHubRun a w held (Acts act ∷ steps) v c
   quiet_on act a b c w v held steps same reads writes run = record {
     hub_steps = run.hub_steps;
-    runs = subst (λ (h : HubValue). HubRuns does fault_reply h w run.hub_steps v c.hub) (sym same) run.runs;
+    runs = subst (λ (h : HubValue). HubRuns does fault_reply h w run.hub_steps v c.hub) (sym same)
+        run.runs;
     rest = run.rest;
-    fed = λ connection. ap (λ t. held connection ++ (t ++ input_of connection steps)) (reads connection) ∙ run.fed connection;
-    written = λ connection. ap (λ t. t ++ output_of connection steps) (writes connection) ∙ run.written connection;
+    fed = λ connection. ap (λ t. held connection ++ (t ++ input_of connection steps))
+        (reads connection) ∙ run.fed connection;
+    written = λ connection. ap (λ t. t ++ output_of connection steps) (writes connection)
+        ∙ run.written connection;
   }
 
   -- a step of the hub that feeds and sends nothing
-  step_on : (step : HubStep) (act : ServerAct) (a b c : ServerValue) (w v : S) (held : ℕ → List ℕ) (steps : List ServerStep) → DoesStep does fault_reply a.hub w step w b.hub
-      → ((more : List HubStep) → pieces_in (step ∷ more) ≡ pieces_in more) → ((connection : ℕ) (more : List HubStep) → sent_to connection (step ∷ more) ≡ octets_written_by connection act ++ sent_to connection more)
-      → ((connection : ℕ) → octets_read_by connection act ≡ []) → IsHubRun b w held steps v c → IsHubRun a w held (Acts act ∷ steps) v c
+  step_on : (step : HubStep) (act : ServerAct) (a b c : ServerValue) (w v : S) (held : ℕ
+      → List ℕ) (steps : List ServerStep) → DoesStep does fault_reply a.hub w step w b.hub
+      → ((more : List HubStep) → pieces_in (step ∷ more) ≡ pieces_in more)
+      → ((connection : ℕ) (more : List HubStep) → sent_to connection (step ∷ more)
+      ≡ octets_written_by connection act ++ sent_to connection more)
+      → ((connection : ℕ) → octets_read_by connection act ≡ []) → IsHubRun b w held steps v c
+      → IsHubRun a w held (Acts act ∷ steps) v c
   unfolding HubRuns
   step_on step act a b c w v held steps done feeds sends reads run = record {
     hub_steps = step ∷ run.hub_steps;
     runs = (b.hub, w, done, run.runs);
     rest = run.rest;
     fed = λ connection.
-        ap (λ t. held connection ++ (t ++ input_of connection steps)) (reads connection) ∙ run.fed connection
-        ∙ ap (λ (t : List FedPiece). octets_in (pieces_of connection t) ++ run.rest connection) (sym (feeds run.hub_steps));
-    written = λ connection. ap (λ t. octets_written_by connection act ++ t) (run.written connection) ∙ sym (sends connection run.hub_steps);
+        ap (λ t. held connection ++ (t ++ input_of connection steps)) (reads connection)
+        ∙ run.fed connection
+        ∙ ap (λ (t : List FedPiece). octets_in (pieces_of connection t) ++ run.rest connection)
+        (sym (feeds run.hub_steps));
+    written = λ connection. ap (λ t. octets_written_by connection act ++ t) (run.written connection)
+        ∙ sym (sends connection run.hub_steps);
   }
 
   -- octets were read
-  read_by : (t : Bool) (held octets input : List ℕ) → (t ≡ true → held ≡ []) → held ++ (cond t octets [] ++ input) ≡ cond t octets held ++ input
+  read_by : (t : Bool) (held octets input : List ℕ) → (t ≡ true → held ≡ [])
+      → held ++ (cond t octets [] ++ input) ≡ cond t octets held ++ input
   read_by true held octets input none = ap (λ x. x ++ (octets ++ input)) (none refl)
   read_by false held octets input none = refl
 
-  reads_on : (place serial : ℕ) (octets : List ℕ) (a b c : ServerValue) (w v : S) (held : ℕ → List ℕ) (steps : List ServerStep) → a.hub ≡ b.hub → held serial ≡ []
-      → IsHubRun b w (with_held held serial octets) steps v c → IsHubRun a w held (Acts (ReadsFrom place serial octets) ∷ steps) v c
+  reads_on : (place serial : ℕ) (octets : List ℕ) (a b c : ServerValue) (w v : S) (held : ℕ
+      → List ℕ) (steps : List ServerStep) → a.hub ≡ b.hub → held serial ≡ []
+      → IsHubRun b w (with_held held serial octets) steps v c
+      → IsHubRun a w held (Acts (ReadsFrom place serial octets) ∷ steps) v c
   reads_on place serial octets a b c w v held steps same none run = record {
     hub_steps = run.hub_steps;
-    runs = subst (λ (h : HubValue). HubRuns does fault_reply h w run.hub_steps v c.hub) (sym same) run.runs;
+    runs = subst (λ (h : HubValue). HubRuns does fault_reply h w run.hub_steps v c.hub) (sym same)
+        run.runs;
     rest = run.rest;
     fed = λ connection.
-        read_by (serial == connection) (held connection) octets (input_of connection steps) (λ e. ap held (sym (eqb-true serial connection e)) ∙ none) ∙ run.fed connection;
+        read_by (serial == connection) (held connection) octets (input_of connection steps)
+        (λ e. ap held (sym (eqb-true serial connection e)) ∙ none) ∙ run.fed connection;
     written = λ connection. run.written connection;
   }
 
   -- a piece was fed
-  fed_by : (t : Bool) (piece left held input : List ℕ) (replies : Option (List ℕ)) (pieces : List (List ℕ × Option (List ℕ))) (rest : List ℕ) → (t ≡ true → held ≡ piece ++ left) → cond t left held ++ input ≡ octets_in pieces ++ rest
+  fed_by : (t : Bool) (piece left held input : List ℕ) (replies : Option (List ℕ)) (pieces :
+      List (List ℕ × Option (List ℕ))) (rest : List ℕ) → (t ≡ true → held ≡ piece ++ left)
+      → cond t left held ++ input ≡ octets_in pieces ++ rest
       → held ++ input ≡ octets_in (cond t ((piece, replies) ∷ pieces) pieces) ++ rest
   fed_by true piece left held input replies pieces rest parts same =
-      ap (λ x. x ++ input) (parts refl) ∙ append_assoc piece left input ∙ ap (λ x. piece ++ x) same ∙ sym (append_assoc piece (octets_in pieces) rest)
+      ap (λ x. x ++ input) (parts refl) ∙ append_assoc piece left input ∙ ap (λ x. piece ++ x) same
+      ∙ sym (append_assoc piece (octets_in pieces) rest)
   fed_by false piece left held input replies pieces rest parts same = same
 
-  module _ (place serial : ℕ) (piece left : List ℕ) (a b c : ServerValue) (w v x : S) (held : ℕ → List ℕ) (steps : List ServerStep) (parts : held serial ≡ piece ++ left)
+  module _ (place serial : ℕ) (piece left : List ℕ) (a b c : ServerValue) (w v x : S) (held : ℕ
+      → List ℕ) (steps : List ServerStep) (parts : held serial ≡ piece ++ left)
       (run : IsHubRun b v (with_held held serial left) steps x c) where
-    receives_on : (received : ReceivesAt does fault_reply place a.hub w piece a.time v b.hub) → received.slot.serial ≡ serial → IsHubRun a w held (Feeds place serial piece ∷ steps) x c
+    receives_on : (received : ReceivesAt does fault_reply place a.hub w piece a.time v b.hub)
+        → received.slot.serial ≡ serial → IsHubRun a w held (Feeds place serial piece ∷ steps) x c
     unfolding HubRuns
     receives_on received serial_is = record {
       hub_steps = Receives serial piece received.receives.replies a.time ∷ run.hub_steps;
       runs = (b.hub, v, (place, received, serial_is, refl), run.runs);
       rest = run.rest;
       fed = λ connection.
-          fed_by (serial == connection) piece left (held connection) (input_of connection steps) (Some received.receives.replies) (pieces_of connection (pieces_in run.hub_steps)) (run.rest connection)
+          fed_by (serial == connection) piece left (held connection) (input_of connection steps)
+          (Some received.receives.replies) (pieces_of connection (pieces_in run.hub_steps))
+          (run.rest connection)
           (λ e. ap held (sym (eqb-true serial connection e)) ∙ parts) (run.fed connection);
       written = λ connection. run.written connection;
     }
 
-    fails_on : (failed : FailsAt does fault_reply place a.hub w piece v b.hub) → failed.slot.serial ≡ serial → IsHubRun a w held (Feeds place serial piece ∷ steps) x c
+    fails_on : (failed : FailsAt does fault_reply place a.hub w piece v b.hub)
+        → failed.slot.serial ≡ serial → IsHubRun a w held (Feeds place serial piece ∷ steps) x c
     unfolding HubRuns
     fails_on failed serial_is = record {
       hub_steps = Fails serial piece ∷ run.hub_steps;
       runs = (b.hub, v, (place, failed, serial_is), run.runs);
       rest = run.rest;
       fed = λ connection.
-          fed_by (serial == connection) piece left (held connection) (input_of connection steps) None (pieces_of connection (pieces_in run.hub_steps)) (run.rest connection)
+          fed_by (serial == connection) piece left (held connection) (input_of connection steps)
+          None (pieces_of connection (pieces_in run.hub_steps)) (run.rest connection)
           (λ e. ap held (sym (eqb-true serial connection e)) ∙ parts) (run.fed connection);
       written = λ connection. run.written connection;
     }
 
-    refuses_on : (reply : List ℕ) (refused : RefusesPieceAt does fault_reply place a.hub w piece reply a.time v b.hub) → refused.received.slot.serial ≡ serial → IsHubRun a w held (Feeds place serial piece ∷ steps) x c
+    refuses_on : (reply : List ℕ) (refused : RefusesPieceAt does fault_reply place a.hub w piece
+        reply a.time v b.hub) → refused.received.slot.serial ≡ serial
+        → IsHubRun a w held (Feeds place serial piece ∷ steps) x c
     unfolding HubRuns
     refuses_on reply refused serial_is = record {
       hub_steps = Refuses serial piece reply a.time ∷ run.hub_steps;
       runs = (b.hub, v, (place, refused, serial_is), run.runs);
       rest = run.rest;
       fed = λ connection.
-          fed_by (serial == connection) piece left (held connection) (input_of connection steps) None (pieces_of connection (pieces_in run.hub_steps)) (run.rest connection)
+          fed_by (serial == connection) piece left (held connection) (input_of connection steps)
+          None (pieces_of connection (pieces_in run.hub_steps)) (run.rest connection)
           (λ e. ap held (sym (eqb-true serial connection e)) ∙ parts) (run.fed connection);
       written = λ connection. run.written connection;
     }
 
   -- other octets that are the same
-  held_as : (a c : ServerValue) (w v : S) (held other : ℕ → List ℕ) (steps : List ServerStep) → ((connection : ℕ) → other connection ≡ held connection) → IsHubRun a w other steps v c → IsHubRun a w held steps v c
+  held_as : (a c : ServerValue) (w v : S) (held other : ℕ → List ℕ) (steps : List ServerStep)
+      → ((connection : ℕ) → other connection ≡ held connection) → IsHubRun a w other steps v c
+      → IsHubRun a w held steps v c
   held_as a c w v held other steps same run = record {
     hub_steps = run.hub_steps;
     runs = run.runs;
     rest = run.rest;
-    fed = λ connection. ap (λ t. t ++ input_of connection steps) (sym (same connection)) ∙ run.fed connection;
+    fed = λ connection. ap (λ t. t ++ input_of connection steps) (sym (same connection))
+        ∙ run.fed connection;
     written = run.written;
   }
 
-  sent_by : (t : Bool) (octets more : List ℕ) → cond t (octets ++ more) more ≡ cond t octets [] ++ more
+  sent_by : (t : Bool) (octets more : List ℕ) → cond t (octets ++ more) more ≡ cond t octets []
+      ++ more
   sent_by true octets more = refl
   sent_by false octets more = refl
 
@@ -342,156 +485,275 @@ module _ {S : Type 0} (does : HandlerRelation S) (fault_reply : FaultReplies) wh
   Continues b w steps v c = (held : ℕ → List ℕ) → AreUnfed b held → IsHubRun b w held steps v c
 
   -- the octets of a connection that were not fed
-  unfed_of : (a : ServerValue) (held : ℕ → List ℕ) → AreUnfed a held → (place serial : ℕ) (slot : Slot) (seat : SeatValue) → IsSeatedAt a place slot seat → slot.serial ≡ serial → held serial ≡ seat.unfed
-  unfed_of a held unfed place serial slot seat seated serial_is = ap held (sym serial_is) ∙ unfed.there place slot seat seated
+  unfed_of : (a : ServerValue) (held : ℕ → List ℕ) → AreUnfed a held
+      → (place serial : ℕ) (slot : Slot) (seat : SeatValue) → IsSeatedAt a place slot seat
+      → slot.serial ≡ serial → held serial ≡ seat.unfed
+  unfed_of a held unfed place serial slot seat seated serial_is = ap held (sym serial_is)
+      ∙ unfed.there place slot seat seated
 
-  on_reads : (place serial : ℕ) (octets : List ℕ) (a b c : ServerValue) (w v : S) (held : ℕ → List ℕ) (steps : List ServerStep) → AreUnfed a held → ReadsOctets a place serial octets b → Continues b w steps v c
+  on_reads : (place serial : ℕ) (octets : List ℕ) (a b c : ServerValue) (w v : S) (held : ℕ
+      → List ℕ) (steps : List ServerStep) → AreUnfed a held → ReadsOctets a place serial octets b
+      → Continues b w steps v c
       → IsHubRun a w held (Acts (ReadsFrom place serial octets) ∷ steps) v c
   on_reads place serial octets a b c w v held steps unfed done more =
-      let hub_is : a.hub ≡ with_link a.hub place done.slot.serial done.slot.link = hub_found a.hub place done.slot done.seated.at_slot in
+      let hub_is : a.hub ≡ with_link a.hub place done.slot.serial done.slot.link =
+      hub_found a.hub place done.slot done.seated.at_slot in
       let next : AreUnfed b (with_held held done.slot.serial octets) =
-      unfed_changed a b held unfed place done.slot done.seat (seat_after_step done.seat octets) done.seated done.slot.link a.hub hub_is done.after_is in
-      reads_on place serial octets a b c w v held steps (sym (ap (λ (x : ServerValue). x.hub) done.after_is)) (unfed_of a held unfed place serial done.slot done.seat done.seated done.serial_is ∙ done.wanted.none_unfed)
-      (more (with_held held serial octets) (subst (λ n. AreUnfed b (with_held held n octets)) done.serial_is next))
+      unfed_changed a b held unfed place done.slot done.seat (seat_after_step done.seat octets)
+      done.seated done.slot.link a.hub hub_is done.after_is in
+      reads_on place serial octets a b c w v held steps
+      (sym (ap (λ (x : ServerValue). x.hub) done.after_is)) (unfed_of a held unfed place serial
+      done.slot done.seat done.seated done.serial_is ∙ done.wanted.none_unfed)
+      (more (with_held held serial octets) (subst (λ n. AreUnfed b (with_held held n octets))
+      done.serial_is next))
 
-  on_writes : (place serial : ℕ) (offered : List ℕ) (count : ℕ) (a b c : ServerValue) (w v : S) (held : ℕ → List ℕ) (steps : List ServerStep) → AreUnfed a held → WritesOctets a place serial offered count b → Continues b w steps v c
+  on_writes : (place serial : ℕ) (offered : List ℕ) (count : ℕ) (a b c : ServerValue) (w v : S)
+      (held : ℕ → List ℕ) (steps : List ServerStep) → AreUnfed a held
+      → WritesOctets a place serial offered count b → Continues b w steps v c
       → IsHubRun a w held (Acts (WritesTo place serial offered count) ∷ steps) v c
   on_writes place serial offered count a b c w v held steps unfed done more =
-      let same : done.sends.slot ≡ done.slot = same_slot a.hub place done.sends.slot done.slot done.sends.found done.seated.at_slot in
+      let same : done.sends.slot ≡ done.slot =
+      same_slot a.hub place done.sends.slot done.slot done.sends.found done.seated.at_slot in
       let hub_is : b.hub ≡ done.hub = ap (λ (x : ServerValue). x.hub) done.after_is in
-      let offered_is : offered ≡ done.sends.slot.link.pending = done.wanted.all_pending ∙ ap (λ (s : Slot). s.link.pending) (sym same) in
+      let offered_is : offered ≡ done.sends.slot.link.pending = done.wanted.all_pending
+      ∙ ap (λ (s : Slot). s.link.pending) (sym same) in
       let sends : SendsAt place a.hub count a.time b.hub =
-      record { slot = done.sends.slot; found = done.sends.found; count_fits = done.sends.count_fits; after_is = hub_is ∙ done.sends.after_is } in
-      let moved = sends_step place serial count a.time offered a.hub b.hub sends (ap (λ (s : Slot). s.serial) same ∙ done.serial_is) offered_is in
+      record {
+        slot = done.sends.slot;
+        found = done.sends.found;
+        count_fits = done.sends.count_fits;
+        after_is = hub_is ∙ done.sends.after_is;
+      } in
+      let moved = sends_step place serial count a.time offered a.hub b.hub sends
+      (ap (λ (s : Slot). s.serial) same ∙ done.serial_is) offered_is in
       let next : AreUnfed b (with_held held done.slot.serial done.seat.unfed) =
-      unfed_changed a b held unfed place done.slot done.seat (seat_after_step done.seat done.seat.unfed) done.seated (link_after_sent done.sends.slot.link count a.time) done.hub
-      (done.sends.after_is ∙ ap (λ n. with_link a.hub place n (link_after_sent done.sends.slot.link count a.time)) (ap (λ (s : Slot). s.serial) same)) done.after_is in
-      step_on (Sends serial (take count offered) a.time) (WritesTo place serial offered count) a b c w v held steps (refl, place, moved.0, moved.1, moved.2) (λ more_steps. refl)
-      (λ connection more_steps. sent_by (serial == connection) (take count offered) (sent_to connection more_steps)) (λ connection. refl)
-      (held_as b c w v held (with_held held done.slot.serial done.seat.unfed) steps (with_kept held done.slot.serial done.seat.unfed (unfed.there place done.slot done.seat done.seated))
+      unfed_changed a b held unfed place done.slot done.seat
+      (seat_after_step done.seat done.seat.unfed) done.seated
+      (link_after_sent done.sends.slot.link count a.time) done.hub
+      (done.sends.after_is ∙ ap (λ n. with_link a.hub place n (link_after_sent done.sends.slot.link
+      count a.time)) (ap (λ (s : Slot). s.serial) same)) done.after_is in
+      step_on (Sends serial (take count offered) a.time) (WritesTo place serial offered count) a b c
+      w v held steps (refl, place, moved.0, moved.1, moved.2) (λ more_steps. refl)
+      (λ connection more_steps. sent_by (serial == connection) (take count offered)
+      (sent_to connection more_steps)) (λ connection. refl)
+      (held_as b c w v held (with_held held done.slot.serial done.seat.unfed) steps
+      (with_kept held done.slot.serial done.seat.unfed (unfed.there place done.slot done.seat
+      done.seated))
       (more (with_held held done.slot.serial done.seat.unfed) next))
 
-  on_closes : (limits : ServeLimits) (place serial : ℕ) (cause : EndCause) (a b c : ServerValue) (w v : S) (held : ℕ → List ℕ) (steps : List ServerStep) → AreUnfed a held → ClosesConnection limits a place serial cause b → Continues b w steps v c
+  on_closes : (limits : ServeLimits) (place serial : ℕ) (cause : EndCause) (a b c : ServerValue)
+      (w v : S) (held : ℕ → List ℕ) (steps : List ServerStep) → AreUnfed a held
+      → ClosesConnection limits a place serial cause b → Continues b w steps v c
       → IsHubRun a w held (Acts (ClosesAt place serial cause) ∷ steps) v c
   on_closes limits place serial cause a b c w v held steps unfed done more =
-      let same : done.ends.slot ≡ done.slot = same_slot a.hub place done.ends.slot done.slot done.ends.found done.seated.at_slot in
+      let same : done.ends.slot ≡ done.slot =
+      same_slot a.hub place done.ends.slot done.slot done.ends.found done.seated.at_slot in
       let hub_is : b.hub ≡ done.hub = ap (λ (x : ServerValue). x.hub) done.after_is in
-      let ends : EndsAt place a.hub b.hub = record { slot = done.ends.slot; found = done.ends.found; after_is = hub_is ∙ done.ends.after_is } in
-      step_on (Ends serial) (ClosesAt place serial cause) a b c w v held steps (refl, place, ends, ap (λ (s : Slot). s.serial) same ∙ done.serial_is) (λ more_steps. refl) (λ connection more_steps. refl) (λ connection. refl)
-      (more held (unfed_closed a b held unfed place done.ends.slot done.ends.found done.hub done.ends.after_is done.after_is))
+      let ends : EndsAt place a.hub b.hub = record {
+        slot = done.ends.slot;
+        found = done.ends.found;
+        after_is = hub_is ∙ done.ends.after_is;
+      } in
+      step_on (Ends serial) (ClosesAt place serial cause) a b c w v held steps (
+        refl,
+        place,
+        ends,
+        ap (λ (s : Slot). s.serial) same ∙ done.serial_is,
+      ) (λ more_steps. refl)
+      (λ connection more_steps. refl) (λ connection. refl)
+      (more held (unfed_closed a b held unfed place done.ends.slot done.ends.found done.hub
+      done.ends.after_is done.after_is))
 
-  on_accepts : (limits : ServeLimits) (place serial : ℕ) (a b c : ServerValue) (w v : S) (held : ℕ → List ℕ) (steps : List ServerStep) → AreUnfed a held → AcceptsConnection limits a place serial b → Continues b w steps v c
+  on_accepts : (limits : ServeLimits) (place serial : ℕ) (a b c : ServerValue) (w v : S) (held : ℕ
+      → List ℕ) (steps : List ServerStep) → AreUnfed a held
+      → AcceptsConnection limits a place serial b → Continues b w steps v c
       → IsHubRun a w held (Acts (AcceptsAt place serial) ∷ steps) v c
   on_accepts limits place serial a b c w v held steps unfed done more =
       let hub_is : b.hub ≡ done.hub = ap (λ (x : ServerValue). x.hub) done.after_is in
-      let opens : OpensAt place a.hub a.time b.hub = record { was_free = done.opens.was_free; after_is = hub_is ∙ done.opens.after_is } in
-      step_on (Opens a.time) (AcceptsAt place serial) a b c w v held steps (refl, place, opens) (λ more_steps. refl) (λ connection more_steps. refl) (λ connection. refl)
-      (more held (unfed_opened a b held unfed place done.hub done.opens (ap (λ (x : ServerValue). x.seats) done.after_is) hub_is))
+      let opens : OpensAt place a.hub a.time b.hub = record {
+        was_free = done.opens.was_free;
+        after_is = hub_is ∙ done.opens.after_is;
+      } in
+      step_on (Opens a.time) (AcceptsAt place serial) a b c w v held steps (
+        refl,
+        place,
+        opens,
+      ) (λ more_steps. refl) (λ connection more_steps. refl) (λ connection. refl)
+      (more held (unfed_opened a b held unfed place done.hub done.opens
+      (ap (λ (x : ServerValue). x.seats) done.after_is) hub_is))
 
-  on_act : (limits : ServeLimits) (act : ServerAct) (a b c : ServerValue) (w v : S) (held : ℕ → List ℕ) (steps : List ServerStep) → AreUnfed a held → DoesAct limits a act b → Continues b w steps v c → IsHubRun a w held (Acts act ∷ steps) v c
+  on_act : (limits : ServeLimits) (act : ServerAct) (a b c : ServerValue) (w v : S) (held : ℕ
+      → List ℕ) (steps : List ServerStep) → AreUnfed a held → DoesAct limits a act b
+      → Continues b w steps v c → IsHubRun a w held (Acts act ∷ steps) v c
   on_act limits (Awaits until ready listener time) a b c w v held steps unfed done more =
       let hub_is : b.hub ≡ a.hub = ap (λ (x : ServerValue). x.hub) done.2 in
-      quiet_on (Awaits until ready listener time) a b c w v held steps (sym hub_is) (λ connection. refl) (λ connection. refl)
-      (more held (unfed_same a b held unfed hub_is (λ place seat at. wait_unfed ready a.seats place seat (ap (λ (x : ServerValue). slice_get x.seats place) (sym done.2) ∙ at))))
-  on_act limits (AcceptsAt place serial) a b c w v held steps unfed done more = on_accepts limits place serial a b c w v held steps unfed done more
+      quiet_on (Awaits until ready listener time) a b c w v held steps (sym hub_is)
+      (λ connection. refl) (λ connection. refl)
+      (more held (unfed_same a b held unfed hub_is (λ place seat at. wait_unfed ready a.seats place
+      seat (ap (λ (x : ServerValue). slice_get x.seats place) (sym done.2) ∙ at))))
+  on_act limits (AcceptsAt place serial) a b c w v held steps unfed done more =
+      on_accepts limits place serial a b c w v held steps unfed done more
   on_act limits FindsNoConnection a b c w v held steps unfed done more =
       let hub_is : b.hub ≡ a.hub = ap (λ (x : ServerValue). x.hub) done.1 in
-      quiet_on FindsNoConnection a b c w v held steps (sym hub_is) (λ connection. refl) (λ connection. refl) (more held (unfed_with a b held unfed hub_is (ap (λ (x : ServerValue). x.seats) done.1)))
+      quiet_on FindsNoConnection a b c w v held steps (sym hub_is) (λ connection. refl)
+      (λ connection. refl) (more held (unfed_with a b held unfed hub_is
+      (ap (λ (x : ServerValue). x.seats) done.1)))
   on_act limits DefersAccepting a b c w v held steps unfed done more =
       let hub_is : b.hub ≡ a.hub = ap (λ (x : ServerValue). x.hub) done.1 in
-      quiet_on DefersAccepting a b c w v held steps (sym hub_is) (λ connection. refl) (λ connection. refl) (more held (unfed_with a b held unfed hub_is (ap (λ (x : ServerValue). x.seats) done.1)))
-  on_act limits (ReadsFrom place serial octets) a b c w v held steps unfed done more = on_reads place serial octets a b c w v held steps unfed done more
+      quiet_on DefersAccepting a b c w v held steps (sym hub_is) (λ connection. refl)
+      (λ connection. refl) (more held (unfed_with a b held unfed hub_is
+      (ap (λ (x : ServerValue). x.seats) done.1)))
+  on_act limits (ReadsFrom place serial octets) a b c w v held steps unfed done more =
+      on_reads place serial octets a b c w v held steps unfed done more
   on_act limits (FindsNoInput place serial) a b c w v held steps unfed done more =
       let hub_is : b.hub ≡ a.hub = ap (λ (x : ServerValue). x.hub) done.after_is in
-      quiet_on (FindsNoInput place serial) a b c w v held steps (sym hub_is) (λ connection. refl) (λ connection. refl)
-      (more held (unfed_kept a b held unfed place done.seat (seat_asleep done.seat) done.seated.at_seat refl done.after_is))
-  on_act limits (WritesTo place serial offered count) a b c w v held steps unfed done more = on_writes place serial offered count a b c w v held steps unfed done more
+      quiet_on (FindsNoInput place serial) a b c w v held steps (sym hub_is) (λ connection. refl)
+      (λ connection. refl)
+      (more held (unfed_kept a b held unfed place done.seat (seat_asleep done.seat)
+      done.seated.at_seat refl done.after_is))
+  on_act limits (WritesTo place serial offered count) a b c w v held steps unfed done more =
+      on_writes place serial offered count a b c w v held steps unfed done more
   on_act limits (FindsNoOutput place serial offered) a b c w v held steps unfed done more =
       let hub_is : b.hub ≡ a.hub = ap (λ (x : ServerValue). x.hub) done.after_is in
-      quiet_on (FindsNoOutput place serial offered) a b c w v held steps (sym hub_is) (λ connection. refl) (λ connection. refl)
-      (more held (unfed_kept a b held unfed place done.seat (seat_asleep done.seat) done.seated.at_seat refl done.after_is))
-  on_act limits (ClosesAt place serial cause) a b c w v held steps unfed done more = on_closes limits place serial cause a b c w v held steps unfed done more
+      quiet_on (FindsNoOutput place serial offered) a b c w v held steps (sym hub_is)
+      (λ connection. refl) (λ connection. refl)
+      (more held (unfed_kept a b held unfed place done.seat (seat_asleep done.seat)
+      done.seated.at_seat refl done.after_is))
+  on_act limits (ClosesAt place serial cause) a b c w v held steps unfed done more =
+      on_closes limits place serial cause a b c w v held steps unfed done more
 
   -- ---- a piece
 
-  parts_of : (a : ServerValue) (held : ℕ → List ℕ) → AreUnfed a held → (place serial : ℕ) (piece : List ℕ) (slot : Slot) (seat : SeatValue) → IsSeatedAt a place slot seat → slot.serial ≡ serial → piece ≡ next_piece seat.unfed
+  parts_of : (a : ServerValue) (held : ℕ → List ℕ) → AreUnfed a held
+      → (place serial : ℕ) (piece : List ℕ) (slot : Slot) (seat : SeatValue)
+      → IsSeatedAt a place slot seat → slot.serial ≡ serial → piece ≡ next_piece seat.unfed
       → held serial ≡ piece ++ drop (length piece) seat.unfed
   parts_of a held unfed place serial piece slot seat seated serial_is piece_is =
-      let front : take (length piece) seat.unfed ≡ piece = ap (λ (t : List ℕ). take (length t) seat.unfed) piece_is ∙ piece_front seat.unfed ∙ sym piece_is in
-      unfed_of a held unfed place serial slot seat seated serial_is ∙ sym (take-append-drop (length piece) seat.unfed) ∙ ap (λ (t : List ℕ). t ++ drop (length piece) seat.unfed) front
+      let front : take (length piece) seat.unfed ≡ piece =
+      ap (λ (t : List ℕ). take (length t) seat.unfed) piece_is ∙ piece_front seat.unfed
+      ∙ sym piece_is in
+      unfed_of a held unfed place serial slot seat seated serial_is
+      ∙ sym (take-append-drop (length piece) seat.unfed)
+      ∙ ap (λ (t : List ℕ). t ++ drop (length piece) seat.unfed) front
 
-  module _ (place serial : ℕ) (piece : List ℕ) (a b c : ServerValue) (w v x : S) (held : ℕ → List ℕ) (steps : List ServerStep) (unfed : AreUnfed a held) (slot : Slot) (seat : SeatValue)
-      (seated : IsSeatedAt a place slot seat) (serial_is : slot.serial ≡ serial) (piece_is : piece ≡ next_piece seat.unfed) (hub : HubValue)
-      (is : b ≡ with_seat a place hub (seat_after_step seat (drop (length piece) seat.unfed))) (more : Continues b v steps x c) where
-    continues : (link : LinkValue) → hub ≡ with_link a.hub place slot.serial link → IsHubRun b v (with_held held serial (drop (length piece) seat.unfed)) steps x c
+  module _ (place serial : ℕ) (piece : List ℕ) (a b c : ServerValue) (w v x : S) (held : ℕ
+      → List ℕ) (steps : List ServerStep) (unfed : AreUnfed a held) (slot : Slot) (seat : SeatValue)
+      (seated : IsSeatedAt a place slot seat) (serial_is : slot.serial ≡ serial) (piece_is :
+      piece ≡ next_piece seat.unfed) (hub : HubValue)
+      (is : b ≡ with_seat a place hub (seat_after_step seat (drop (length piece) seat.unfed)))
+      (more : Continues b v steps x c) where
+    continues : (link : LinkValue) → hub ≡ with_link a.hub place slot.serial link
+        → IsHubRun b v (with_held held serial (drop (length piece) seat.unfed)) steps x c
     continues link hub_is =
         let next : AreUnfed b (with_held held slot.serial (drop (length piece) seat.unfed)) =
-        unfed_changed a b held unfed place slot seat (seat_after_step seat (drop (length piece) seat.unfed)) seated link hub hub_is is in
-        more (with_held held serial (drop (length piece) seat.unfed)) (subst (λ n. AreUnfed b (with_held held n (drop (length piece) seat.unfed))) serial_is next)
+        unfed_changed a b held unfed place slot seat
+        (seat_after_step seat (drop (length piece) seat.unfed)) seated link hub hub_is is in
+        more (with_held held serial (drop (length piece) seat.unfed))
+        (subst (λ n. AreUnfed b (with_held held n (drop (length piece) seat.unfed))) serial_is
+        next)
 
-    on_received : ReceivesAt does fault_reply place a.hub w piece a.time v hub → IsHubRun a w held (Feeds place serial piece ∷ steps) x c
+    on_received : ReceivesAt does fault_reply place a.hub w piece a.time v hub
+        → IsHubRun a w held (Feeds place serial piece ∷ steps) x c
     on_received received =
-        let same : received.slot ≡ slot = same_slot a.hub place received.slot slot received.found seated.at_slot in
+        let same : received.slot ≡ slot = same_slot a.hub place received.slot slot received.found
+        seated.at_slot in
         let serials : received.slot.serial ≡ slot.serial = ap (λ (s : Slot). s.serial) same in
         let hub_is : b.hub ≡ hub = ap (λ (y : ServerValue). y.hub) is in
         let there : ReceivesAt does fault_reply place a.hub w piece a.time v b.hub =
-        record { slot = received.slot; next = received.next; found = received.found; receives = received.receives; after_is = hub_is ∙ received.after_is } in
-        receives_on place serial piece (drop (length piece) seat.unfed) a b c w v x held steps (parts_of a held unfed place serial piece slot seat seated serial_is piece_is)
-        (continues received.next (received.after_is ∙ ap (λ n. with_link a.hub place n received.next) serials)) there (serials ∙ serial_is)
+        record {
+          slot = received.slot;
+          next = received.next;
+          found = received.found;
+          receives = received.receives;
+          after_is = hub_is ∙ received.after_is;
+        } in
+        receives_on place serial piece (drop (length piece) seat.unfed) a b c w v x held steps
+        (parts_of a held unfed place serial piece slot seat seated serial_is piece_is)
+        (continues received.next (received.after_is
+        ∙ ap (λ n. with_link a.hub place n received.next) serials)) there (serials ∙ serial_is)
 
-    on_failed : FailsAt does fault_reply place a.hub w piece v hub → IsHubRun a w held (Feeds place serial piece ∷ steps) x c
+    on_failed : FailsAt does fault_reply place a.hub w piece v hub
+        → IsHubRun a w held (Feeds place serial piece ∷ steps) x c
     on_failed failed =
-        let same : failed.slot ≡ slot = same_slot a.hub place failed.slot slot failed.found seated.at_slot in
+        let same : failed.slot ≡ slot = same_slot a.hub place failed.slot slot failed.found
+        seated.at_slot in
         let serials : failed.slot.serial ≡ slot.serial = ap (λ (s : Slot). s.serial) same in
         let hub_is : b.hub ≡ hub = ap (λ (y : ServerValue). y.hub) is in
         let there : FailsAt does fault_reply place a.hub w piece v b.hub =
-        record { slot = failed.slot; found = failed.found; feeds_in_part = failed.feeds_in_part; after_is = hub_is ∙ failed.after_is } in
-        fails_on place serial piece (drop (length piece) seat.unfed) a b c w v x held steps (parts_of a held unfed place serial piece slot seat seated serial_is piece_is)
-        (continues (link_after_failure failed.slot.link) (failed.after_is ∙ ap (λ n. with_link a.hub place n (link_after_failure failed.slot.link)) serials)) there (serials ∙ serial_is)
+        record {
+          slot = failed.slot;
+          found = failed.found;
+          feeds_in_part = failed.feeds_in_part;
+          after_is = hub_is ∙ failed.after_is;
+        } in
+        fails_on place serial piece (drop (length piece) seat.unfed) a b c w v x held steps
+        (parts_of a held unfed place serial piece slot seat seated serial_is piece_is)
+        (continues (link_after_failure failed.slot.link) (failed.after_is
+        ∙ ap (λ n. with_link a.hub place n (link_after_failure failed.slot.link)) serials))
+        there (serials ∙ serial_is)
 
-    on_refused : (reply : List ℕ) → RefusesPieceAt does fault_reply place a.hub w piece reply a.time v hub → IsHubRun a w held (Feeds place serial piece ∷ steps) x c
+    on_refused : (reply : List ℕ) → RefusesPieceAt does fault_reply place a.hub w piece reply a.time
+        v hub → IsHubRun a w held (Feeds place serial piece ∷ steps) x c
     on_refused reply refused =
         let received = refused.received in
         let last : LinkValue = link_after_refusal reply a.time in
-        let same : received.slot ≡ slot = same_slot a.hub place received.slot slot received.found seated.at_slot in
+        let same : received.slot ≡ slot = same_slot a.hub place received.slot slot received.found
+        seated.at_slot in
         let serials : received.slot.serial ≡ slot.serial = ap (λ (s : Slot). s.serial) same in
         let hub_is : b.hub ≡ hub = ap (λ (y : ServerValue). y.hub) is in
         let link_is : hub ≡ with_link a.hub place received.slot.serial last =
-        refused_link a.hub refused.full hub place received.slot refused.refused.slot received.next last received.found received.after_is refused.refused.found refused.refused.after_is in
-        let there : RefusesPieceAt does fault_reply place a.hub w piece reply a.time v b.hub = record {
+        refused_link a.hub refused.full hub place received.slot refused.refused.slot received.next
+        last received.found received.after_is refused.refused.found refused.refused.after_is in
+        let there : RefusesPieceAt does fault_reply place a.hub w piece reply a.time v b.hub =
+        record {
           full = refused.full;
           received = received;
           reply_is = refused.reply_is;
-          refused = record { slot = refused.refused.slot; found = refused.refused.found; after_is = hub_is ∙ refused.refused.after_is };
+          refused = record {
+            slot = refused.refused.slot;
+            found = refused.refused.found;
+            after_is = hub_is ∙ refused.refused.after_is;
+          };
         } in
-        refuses_on place serial piece (drop (length piece) seat.unfed) a b c w v x held steps (parts_of a held unfed place serial piece slot seat seated serial_is piece_is)
-        (continues last (link_is ∙ ap (λ n. with_link a.hub place n last) serials)) reply there (serials ∙ serial_is)
+        refuses_on place serial piece (drop (length piece) seat.unfed) a b c w v x held steps
+        (parts_of a held unfed place serial piece slot seat seated serial_is piece_is)
+        (continues last (link_is ∙ ap (λ n. with_link a.hub place n last) serials)) reply there
+        (serials ∙ serial_is)
 
-    on_fed : (most : ℕ) → ReceivesWithin does fault_reply most place a.hub w piece a.time v hub → IsHubRun a w held (Feeds place serial piece ∷ steps) x c
+    on_fed : (most : ℕ) → ReceivesWithin does fault_reply most place a.hub w piece a.time v hub
+        → IsHubRun a w held (Feeds place serial piece ∷ steps) x c
     on_fed most (inl fits) = on_received fits.received
     on_fed most (inr (inl failed)) = on_failed failed
     on_fed most (inr (inr large)) = on_refused large.reply large.refused
 
   -- ---- all steps
 
-  law_from : (limits : ServeLimits) (steps : List ServerStep) (a c : ServerValue) (w x : S) (held : ℕ → List ℕ) → AreUnfed a held → ServerRuns does fault_reply limits a w steps x c → IsHubRun a w held steps x c
+  law_from : (limits : ServeLimits) (steps : List ServerStep) (a c : ServerValue) (w x : S) (held :
+      ℕ → List ℕ) → AreUnfed a held → ServerRuns does fault_reply limits a w steps x c
+      → IsHubRun a w held steps x c
   unfolding ServerRuns
   law_from limits [] a c w x held unfed runs = run_none a c w x held runs.0 runs.1
   law_from limits (Acts act ∷ steps) a c w x held unfed (b, v, (same, done), runs) =
-      let here : ServerRuns does fault_reply limits b w steps x c = subst (λ (z : S). ServerRuns does fault_reply limits b z steps x c) (sym same) runs in
-      on_act limits act a b c w x held steps unfed done (λ held_now unfed_now. law_from limits steps b c w x held_now unfed_now here)
+      let here : ServerRuns does fault_reply limits b w steps x c =
+      subst (λ (z : S). ServerRuns does fault_reply limits b z steps x c) (sym same) runs in
+      on_act limits act a b c w x held steps unfed done (λ held_now unfed_now. law_from limits steps
+      b c w x held_now unfed_now here)
   law_from limits (Feeds place serial piece ∷ steps) a c w x held unfed (b, v, done, runs) =
-      on_fed place serial piece a b c w v x held steps unfed done.slot done.seat done.seated done.serial_is done.piece_is done.hub done.after_is
-      (λ held_now unfed_now. law_from limits steps b c v x held_now unfed_now runs) limits.held done.fed
+      on_fed place serial piece a b c w v x held steps unfed done.slot done.seat done.seated
+      done.serial_is done.piece_is done.hub done.after_is
+      (λ held_now unfed_now. law_from limits steps b c v x held_now unfed_now runs) limits.held
+      done.fed
 
   pub server_runs_are_hub_runs : ServerRunsAreHubRuns does fault_reply
   server_runs_are_hub_runs keeps limits old new steps after runs =
-      let run = law_from limits steps (new_server limits.together) after old new (λ serial. []) (new_unfed limits.together) runs in
+      let run = law_from limits steps (new_server limits.together) after old new (λ serial. [])
+      (new_unfed limits.together) runs in
       record {
         hub_steps = run.hub_steps;
         runs = run.runs;
         rest = run.rest;
         fed = run.fed;
         written = run.written;
-        separate = hubs_separate_connections does fault_reply keeps limits.together old new run.hub_steps after.hub run.runs;
+        separate = hubs_separate_connections does fault_reply keeps limits.together old new
+            run.hub_steps after.hub run.runs;
       }

@@ -8,8 +8,10 @@ mod host_log;
 mod lines;
 mod log;
 mod notes;
+mod shown;
 
 pub use endpoint::LoggedEndpoint;
 pub use handler::LoggedHandler;
 pub use lines::{answered_text, lost_text, refused_text};
 pub use log::{RequestLog, SilentLog};
+pub use shown::write_shown;

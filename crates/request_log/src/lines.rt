@@ -6,6 +6,7 @@ ghost use Rattle.http_requests.specs.Guards.{writes};
 ghost use Rattle.request_log.specs.LogLines as lines;
 ghost use Rattle.request_log.specs.LogLines.{IsLogLine};
 
+use crate::shown::{write_escaped, write_shown};
 use base_types::NoMemory;
 use http_requests::{Head, HeadFault};
 use std::alloc::Global;
@@ -21,66 +22,6 @@ const USER_OCTETS_MAX: usize = 100;
 
 /// The most octets of a reply's JSON that are printed.
 const JSON_OCTETS_MAX: usize = 200;
-
-/// Whether the octet is a visible ASCII character other than the backslash.
-fn is_plain(octet: u8) -> bool
-    ensures { result ≡ lines.is_plain octet }
-{
-    b' ' < octet && octet < 127 && octet != b'\\'
-}
-
-/// The hexadecimal digit of a number.
-fn hex_digit(value: u8) -> u8
-    requires { value < 16 }
-    ensures { result ≡ lines.hex_digit value }
-{
-    if value < 10 {
-        b'0' + value
-    } else {
-        b'a' - 10 + value
-    }
-}
-
-/// Appends the octet, escaped if it isn't plain.
-fn write_octet(out: &mut Vec<u8>, octet: u8) -> Result<(), NoMemory>
-    ensures { OnOk result (out.new.items ≡ out.old.items ++ lines.escaped_octet octet) }
-{
-    if is_plain(octet) {
-        out.push(octet)?;
-    } else {
-        let digits = [
-            b'\\',
-            b'x',
-            hex_digit(octet / 16 % 16),
-            hex_digit(octet % 16),
-        ];
-        out.extend_from_slice(&digits)?;
-    }
-    Ok(())
-}
-
-/// Appends the octets, each escaped if it isn't plain.
-fn write_escaped(out: &mut Vec<u8>, octets: &[u8]) -> Result<(), NoMemory>
-    ensures { OnOk result (out.new.items ≡ out.old.items ++ lines.escaped octets.now) }
-{
-    for octet in octets {
-        write_octet(out, *octet)?;
-    }
-    Ok(())
-}
-
-/// Appends the first octets of a text, escaped, and two dots if there are more than `most`.
-fn write_shown(out: &mut Vec<u8>, octets: &[u8], most: usize) -> Result<(), NoMemory>
-    ensures { OnOk result (out.new.items ≡ out.old.items ++ lines.shown most octets.now) }
-{
-    if most < octets.len() {
-        write_escaped(out, &octets[..most])?;
-        out.extend_from_slice(b"..")?;
-    } else {
-        write_escaped(out, octets)?;
-    }
-    Ok(())
-}
 
 /// Appends the method and the target of a request.
 fn write_request(out: &mut Vec<u8>, head: &Head) -> Result<(), NoMemory>

@@ -7,8 +7,10 @@ use Rattle.book_http.proofs.answering.answer_with.Goals as goal
 
 pub returns-in-Ok-clause-no_memory : goal.returns-in-Ok-clause-no_memory
 returns-in-Ok-clause-no_memory g c =
-    let is : requested_command c.args.head.now.method c.args.head.now.target c.args.body.now ≡ Ok c.in-Ok.command = cc (c.in-Ok.ensures.command, c.as_str.ensures, c.as_str-2.ensures) in
-    let did : PerformsOnStore g.S.BookStore.model c.args.store.now c.in-Ok.command c.perform-reply.result c.perform-reply.new.store =
+    let is : requested_command c.args.head.now.method c.args.head.now.target c.args.body.now
+    ≡ Ok c.in-Ok.command = cc (c.in-Ok.ensures.command, c.as_str.ensures, c.as_str-2.ensures) in
+    let did : PerformsOnStore g.S.BookStore.model c.args.store.now c.in-Ok.command
+    c.perform-reply.result c.perform-reply.new.store =
     record {
       terms = c.perform-reply.ensures.terms;
       fault = c.perform-reply.ensures.fault;
@@ -17,4 +19,8 @@ returns-in-Ok-clause-no_memory g c =
     } in
     let octets = reply_octets c.perform-reply.result c.args.head.now.close in
     on_err c.reply_bytes.result
-    (inr (octets, performed g.S.BookStore.model c.args.store.now c.perform-reply.new.store c.args.head.now c.args.body.now octets c.in-Ok.command c.perform-reply.result is did refl))
+    (inr (
+      octets,
+      performed g.S.BookStore.model c.args.store.now c.perform-reply.new.store
+          c.args.head.now c.args.body.now octets c.in-Ok.command c.perform-reply.result is did refl,
+    ))

@@ -32,4 +32,5 @@ pub returns-clause-faults : goal.returns-clause-faults
 returns-clause-faults g c = faults_leave_runs g.S.BookStore.model
 
 pub returns-clause-devices : goal.returns-clause-devices
-returns-clause-devices g c = readers_are_devices c.token_texts_are_unique.ensures c.texts_determine_pages.ensures
+returns-clause-devices g c = readers_are_devices c.token_texts_are_unique.ensures
+    c.texts_determine_pages.ensures

@@ -5,4 +5,5 @@ use Rattle.book_http.proofs.listening.serve_listener.Given as goal
 abbrev pub invariant-loop-connection : goal.invariant-loop-connection
 invariant-loop-connection g l =
     SoFar g.H.Handler.does g.H.Handler.fault_reply g.L.Stream.Connection.model
-    l._connection l.first (g.L.Listener.coming l.fn.listener) (g.L.Listener.coming l.listener) l.fn.handler l.handler
+    l._connection l.first (g.L.Listener.coming l.fn.listener) (g.L.Listener.coming l.listener)
+    l.fn.handler l.handler

@@ -6,17 +6,27 @@ use Rattle.book_http.proofs.pieces.send_replies.Goals as goal
 
 pub returns-in-Ok-clause-order : goal.returns-in-Ok-clause-order
 returns-in-Ok-clause-order g c = λ pieces.
-    leads_on (g.C.Connection.model.calls c.args.connection.now) (g.C.Connection.model.calls c.write_replies.new.connection) (g.C.Connection.model.calls c.flush.new.self) (Replies pieces) (Replies pieces) (Waits pieces)
+    leads_on (g.C.Connection.model.calls c.args.connection.now)
+    (g.C.Connection.model.calls c.write_replies.new.connection) (g.C.Connection.model.calls
+    c.flush.new.self) (Replies pieces) (Replies pieces) (Waits pieces)
     (c.in_ok-write_replies.ensures.order pieces)
-    (leads_one (g.C.Connection.model.calls c.write_replies.new.connection) (g.C.Connection.model.calls c.flush.new.self) Flushes (Replies pieces) (Waits pieces) c.in-Ok.ensures.called refl)
+    (leads_one (g.C.Connection.model.calls c.write_replies.new.connection)
+    (g.C.Connection.model.calls c.flush.new.self) Flushes (Replies pieces) (Waits pieces)
+    c.in-Ok.ensures.called refl)
 
 pub returns-in-Err-clause-order : goal.returns-in-Err-clause-order
 returns-in-Err-clause-order g c = λ pieces.
-    inl (leads_on (g.C.Connection.model.calls c.args.connection.now) (g.C.Connection.model.calls c.write_replies.new.connection) (g.C.Connection.model.calls c.flush.new.self) (Replies pieces) (Replies pieces) WriterFailed
+    inl (leads_on (g.C.Connection.model.calls c.args.connection.now)
+    (g.C.Connection.model.calls c.write_replies.new.connection) (g.C.Connection.model.calls
+    c.flush.new.self) (Replies pieces) (Replies pieces) WriterFailed
     (c.in_ok-write_replies.ensures.order pieces)
-    (leads_one (g.C.Connection.model.calls c.write_replies.new.connection) (g.C.Connection.model.calls c.flush.new.self) FailsToFlush (Replies pieces) WriterFailed c.in-Err.ensures.called refl))
+    (leads_one (g.C.Connection.model.calls c.write_replies.new.connection)
+    (g.C.Connection.model.calls c.flush.new.self) FailsToFlush (Replies pieces) WriterFailed
+    c.in-Err.ensures.called refl))
 
 pub returns-in-Err-clause-front : goal.returns-in-Err-clause-front
 returns-in-Err-clause-front g c =
-    all_were_written (g.C.Connection.model.contents c.args.connection.now) (g.C.Connection.model.contents c.write_replies.new.connection) (g.C.Connection.model.contents c.flush.new.self) c.args.replies.now
+    all_were_written (g.C.Connection.model.contents c.args.connection.now)
+    (g.C.Connection.model.contents c.write_replies.new.connection)
+    (g.C.Connection.model.contents c.flush.new.self) c.args.replies.now
     c.in_ok-write_replies.ensures.sent c.in-Err.ensures.written

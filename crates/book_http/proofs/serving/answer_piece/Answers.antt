@@ -17,7 +17,9 @@ pub returns-clause-answered : goal.returns-clause-answered
 returns-clause-answered g c = record {
   replies = c.in_ok-replies.replies.items;
   feeds = c.in_ok-replies.ensures.fed;
-  out = subst (Appends (g.C.Connection.model.contents c.args.connection.now) (g.C.Connection.model.contents c.send_replies.new.connection)) c.as_slice.ensures.value c.in_ok-send_replies.ensures.sent;
+  out = subst (Appends (g.C.Connection.model.contents c.args.connection.now)
+      (g.C.Connection.model.contents c.send_replies.new.connection)) c.as_slice.ensures.value
+      c.in_ok-send_replies.ensures.sent;
 }
 
 pub returns-clause-order : goal.returns-clause-order

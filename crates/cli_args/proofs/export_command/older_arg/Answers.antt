@@ -13,12 +13,15 @@ returns-in_default c =
 
 pub returns-in-Some-older_of : goal.returns-in-Some-older_of
 returns-in-Some-older_of c =
-    let some : first_of (codes "V") (rows_of (found_of c.args.matches.now)) ≡ Some c.in-Some.text.now =
+    let some : first_of (codes "V") (rows_of (found_of c.args.matches.now))
+    ≡ Some c.in-Some.text.now =
     sym (first_value-rows (found_of c.args.matches.now) (codes "V")) ∙ sym c.in-Some.ensures in
     ap (option_and_then older_of) some ∙ sym c.older_of.ensures ∙ c.in-Some-older_of.is
 
 pub returns-in-None : goal.returns-in-None
 returns-in-None c =
-    let some : first_of (codes "V") (rows_of (found_of c.args.matches.now)) ≡ Some c.in-Some.text.now =
+    let some : first_of (codes "V") (rows_of (found_of c.args.matches.now))
+    ≡ Some c.in-Some.text.now =
     sym (first_value-rows (found_of c.args.matches.now) (codes "V")) ∙ sym c.in-Some.ensures in
-    rw (ap (option_and_then older_of) some ∙ sym c.older_of.ensures ∙ c.in-None.is) c.refuse-in-None.ensures
+    rw (ap (option_and_then older_of) some ∙ sym c.older_of.ensures
+    ∙ c.in-None.is) c.refuse-in-None.ensures

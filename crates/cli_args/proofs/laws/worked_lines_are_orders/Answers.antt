@@ -41,7 +41,7 @@ returns-clause-serves c = (refl, refl, refl, refl)
 
 pub returns-clause-runs : goal.returns-clause-runs
 unfolding clap_on_literals
-returns-clause-runs c = (refl, refl, refl, refl, refl)
+returns-clause-runs c = (refl, refl, refl, refl, refl, refl, refl, refl)
 
 pub returns-clause-sockets : goal.returns-clause-sockets
 unfolding clap_on_literals

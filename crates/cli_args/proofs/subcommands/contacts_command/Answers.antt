@@ -11,8 +11,13 @@ bare a = on_top (λ (s : Shape). record s { no_binary_name = true }) a
 
 pub returns : goal.returns
 returns c =
-    let named = ap app_of_fields c.in_ok-bin_name.ensures.0 ∙ ap app_of_fields c.no_binary_name.ensures ∙ ap bare
-    (ap app_of_fields c.after_help.ensures ∙ ap app_of_fields c.about.ensures ∙ c.new.ensures.app) in
-    let top = c.in_ok-arg.ensures.shape c.version_flag.ensures.1 ∙ ap₂ with_rule named c.version_flag.ensures.0 in
+    let named = ap app_of_fields c.in_ok-bin_name.ensures.0
+    ∙ ap app_of_fields c.no_binary_name.ensures ∙ ap bare
+    (ap app_of_fields c.after_help.ensures ∙ ap app_of_fields c.about.ensures
+    ∙ c.new.ensures.app) in
+    let top = c.in_ok-arg.ensures.shape c.version_flag.ensures.1
+    ∙ ap₂ with_rule named c.version_flag.ensures.0 in
     IfOk-weaker c.subcommands.result _ _ (λ made adds.
-    lines-added (with_rule (bare (new_app (codes "contacts"))) version_flag) order_commands c.in_ok-arg.field-0 c.in_ok-order_commands.field-0.items made top c.in_ok-order_commands.ensures adds) c.subcommands.ensures
+    lines-added (with_rule (bare (new_app (codes "contacts"))) version_flag) order_commands
+    c.in_ok-arg.field-0 c.in_ok-order_commands.field-0.items made top
+    c.in_ok-order_commands.ensures adds) c.subcommands.ensures

@@ -13,12 +13,15 @@ returns-in_default c =
 
 pub returns-in-Some-form_of : goal.returns-in-Some-form_of
 returns-in-Some-form_of c =
-    let some : first_of (codes "F") (rows_of (found_of c.args.matches.now)) ≡ Some c.in-Some.text.now =
+    let some : first_of (codes "F") (rows_of (found_of c.args.matches.now))
+    ≡ Some c.in-Some.text.now =
     sym (first_value-rows (found_of c.args.matches.now) (codes "F")) ∙ sym c.in-Some.ensures in
     ap (option_and_then form_of) some ∙ sym c.form_of.ensures ∙ c.in-Some-form_of.is
 
 pub returns-in-None : goal.returns-in-None
 returns-in-None c =
-    let some : first_of (codes "F") (rows_of (found_of c.args.matches.now)) ≡ Some c.in-Some.text.now =
+    let some : first_of (codes "F") (rows_of (found_of c.args.matches.now))
+    ≡ Some c.in-Some.text.now =
     sym (first_value-rows (found_of c.args.matches.now) (codes "F")) ∙ sym c.in-Some.ensures in
-    rw (ap (option_and_then form_of) some ∙ sym c.form_of.ensures ∙ c.in-None.is) c.refuse-in-None.ensures
+    rw (ap (option_and_then form_of) some ∙ sym c.form_of.ensures
+    ∙ c.in-None.is) c.refuse-in-None.ensures

@@ -5,8 +5,10 @@ use Rattle.cli_args.proofs.values.given_text.Goals as goal
 
 pub returns-in_ok-copy_of-in-Some : goal.returns-in_ok-copy_of-in-Some
 returns-in_ok-copy_of-in-Some c =
-    ap Some (sym (first_value-rows (found_of c.args.matches.now) c.args.id.now) ∙ sym c.in-Some.ensures ∙ ap Some (sym c.in_ok-copy_of-in-Some.ensures))
+    ap Some (sym (first_value-rows (found_of c.args.matches.now) c.args.id.now)
+    ∙ sym c.in-Some.ensures ∙ ap Some (sym c.in_ok-copy_of-in-Some.ensures))
 
 pub returns-in-None : goal.returns-in-None
 returns-in-None c =
-    ap Some (sym (first_value-rows (found_of c.args.matches.now) c.args.id.now) ∙ sym c.in-None.ensures)
+    ap Some (sym (first_value-rows (found_of c.args.matches.now) c.args.id.now)
+    ∙ sym c.in-None.ensures)

@@ -10,8 +10,10 @@ texts found = Some (unwrap_or found [])
 
 pub returns-in_ok-copies_of-in-Some : goal.returns-in_ok-copies_of-in-Some
 returns-in_ok-copies_of-in-Some c =
-    ap texts (sym (raw_values-rows (found_of c.args.matches.now) c.args.id.now) ∙ sym c.in-Some.ensures) ∙ ap Some (sym c.in_ok-copies_of-in-Some.ensures)
+    ap texts (sym (raw_values-rows (found_of c.args.matches.now) c.args.id.now)
+    ∙ sym c.in-Some.ensures) ∙ ap Some (sym c.in_ok-copies_of-in-Some.ensures)
 
 pub returns-in-None : goal.returns-in-None
 returns-in-None c =
-    ap texts (sym (raw_values-rows (found_of c.args.matches.now) c.args.id.now) ∙ sym c.in-None.ensures) ∙ ap Some (sym c.new.ensures)
+    ap texts (sym (raw_values-rows (found_of c.args.matches.now) c.args.id.now)
+    ∙ sym c.in-None.ensures) ∙ ap Some (sym c.new.ensures)

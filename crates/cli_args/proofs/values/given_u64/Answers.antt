@@ -9,7 +9,8 @@ use Rattle.cli_args.proofs.values.given_u64.Goals as goal
 
 pub returns : goal.returns
 returns c =
-    sym (ap (option_and_then (number_upto (2 ^ 64 - 1))) (sym (one_text-rows (found_of c.args.matches.now) c.args.id.now))
+    sym (ap (option_and_then (number_upto (2 ^ 64 - 1)))
+    (sym (one_text-rows (found_of c.args.matches.now) c.args.id.now))
     ∙ one-read _ 64 (2 ^ 64 - 1) (omega arith) refl (omega arith)
     (λ bs r. ParsesUnsigned 64 10 bs r × ExplainsUnsignedError 10 bs r × HasUnsignedDigitsIfOk bs r)
     (λ text r gives. gives.0) _ c.get_one.result c.get_one.ensures.none c.get_one.ensures.value)

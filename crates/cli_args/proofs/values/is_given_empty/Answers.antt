@@ -6,8 +6,10 @@ use Rattle.cli_args.proofs.values.is_given_empty.Goals as goal
 
 pub returns-in-Some : goal.returns-in-Some
 returns-in-Some c =
-    c.is_empty.ensures ∙ ap is_empty_text (c.in-Some.ensures ∙ first_value-rows (found_of c.args.matches.now) c.args.id.now)
+    c.is_empty.ensures ∙ ap is_empty_text (c.in-Some.ensures
+    ∙ first_value-rows (found_of c.args.matches.now) c.args.id.now)
 
 pub returns-in-None : goal.returns-in-None
 returns-in-None c =
-    ap is_empty_text (c.in-None.ensures ∙ first_value-rows (found_of c.args.matches.now) c.args.id.now)
+    ap is_empty_text (c.in-None.ensures ∙ first_value-rows (found_of c.args.matches.now)
+    c.args.id.now)

@@ -10,10 +10,12 @@ later found = Some (drop 1 (unwrap_or found []))
 
 pub returns-in_ok-later_copies-in-Some : goal.returns-in_ok-later_copies-in-Some
 returns-in_ok-later_copies-in-Some c =
-    ap later (sym (raw_values-rows (found_of c.args.matches.now) c.args.id.now) ∙ sym c.in-Some.ensures)
+    ap later (sym (raw_values-rows (found_of c.args.matches.now) c.args.id.now)
+    ∙ sym c.in-Some.ensures)
     ∙ ap Some (sym c.in_ok-later_copies-in-Some.ensures)
 
 pub returns-in-None : goal.returns-in-None
 returns-in-None c =
-    ap later (sym (raw_values-rows (found_of c.args.matches.now) c.args.id.now) ∙ sym c.in-None.ensures)
+    ap later (sym (raw_values-rows (found_of c.args.matches.now) c.args.id.now)
+    ∙ sym c.in-None.ensures)
     ∙ ap Some (sym c.new.ensures)

@@ -9,7 +9,8 @@ use Rattle.cli_args.proofs.values.port_arg.Goals as goal
 
 pub returns-in-Some : goal.returns-in-Some
 returns-in-Some c =
-    ap (option_and_then (number_upto (2 ^ 16 - 1))) (sym (one_text-rows (found_of c.args.matches.now) (codes "P")))
+    ap (option_and_then (number_upto (2 ^ 16 - 1)))
+    (sym (one_text-rows (found_of c.args.matches.now) (codes "P")))
     ∙ one-read _ 16 (2 ^ 16 - 1) (omega arith) refl (omega arith)
     (λ bs r. ParsesUnsigned 16 10 bs r × ExplainsUnsignedError 10 bs r × HasUnsignedDigitsIfOk bs r)
     (λ text r gives. gives.0) _ c.get_one.result c.get_one.ensures.none c.get_one.ensures.value
@@ -17,7 +18,8 @@ returns-in-Some c =
 
 pub returns-in-None : goal.returns-in-None
 returns-in-None c =
-    rw (ap (option_and_then (number_upto (2 ^ 16 - 1))) (sym (one_text-rows (found_of c.args.matches.now) (codes "P")))
+    rw (ap (option_and_then (number_upto (2 ^ 16 - 1)))
+    (sym (one_text-rows (found_of c.args.matches.now) (codes "P")))
     ∙ one-read _ 16 (2 ^ 16 - 1) (omega arith) refl (omega arith)
     (λ bs r. ParsesUnsigned 16 10 bs r × ExplainsUnsignedError 10 bs r × HasUnsignedDigitsIfOk bs r)
     (λ text r gives. gives.0) _ c.get_one.result c.get_one.ensures.none c.get_one.ensures.value

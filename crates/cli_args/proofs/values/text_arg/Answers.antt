@@ -5,8 +5,10 @@ use Rattle.cli_args.proofs.values.text_arg.Goals as goal
 
 pub returns-in_ok-copy_of-in-Some : goal.returns-in_ok-copy_of-in-Some
 returns-in_ok-copy_of-in-Some c =
-    sym (first_value-rows (found_of c.args.matches.now) c.args.id.now) ∙ sym c.in-Some.ensures ∙ ap Some (sym c.in_ok-copy_of-in-Some.ensures)
+    sym (first_value-rows (found_of c.args.matches.now) c.args.id.now) ∙ sym c.in-Some.ensures
+    ∙ ap Some (sym c.in_ok-copy_of-in-Some.ensures)
 
 pub returns-in-None : goal.returns-in-None
 returns-in-None c =
-    rw (sym (first_value-rows (found_of c.args.matches.now) c.args.id.now) ∙ sym c.in-None.ensures) c.refuse.ensures
+    rw (sym (first_value-rows (found_of c.args.matches.now) c.args.id.now) ∙ sym c.in-None.ensures)
+    c.refuse.ensures

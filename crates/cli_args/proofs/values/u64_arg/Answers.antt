@@ -9,7 +9,8 @@ use Rattle.cli_args.proofs.values.u64_arg.Goals as goal
 
 pub returns-in-Some : goal.returns-in-Some
 returns-in-Some c =
-    ap (option_and_then (number_upto (2 ^ 64 - 1))) (sym (one_text-rows (found_of c.args.matches.now) c.args.id.now))
+    ap (option_and_then (number_upto (2 ^ 64 - 1)))
+    (sym (one_text-rows (found_of c.args.matches.now) c.args.id.now))
     ∙ one-read _ 64 (2 ^ 64 - 1) (omega arith) refl (omega arith)
     (λ bs r. ParsesUnsigned 64 10 bs r × ExplainsUnsignedError 10 bs r × HasUnsignedDigitsIfOk bs r)
     (λ text r gives. gives.0) _ c.get_one.result c.get_one.ensures.none c.get_one.ensures.value
@@ -17,7 +18,8 @@ returns-in-Some c =
 
 pub returns-in-None : goal.returns-in-None
 returns-in-None c =
-    rw (ap (option_and_then (number_upto (2 ^ 64 - 1))) (sym (one_text-rows (found_of c.args.matches.now) c.args.id.now))
+    rw (ap (option_and_then (number_upto (2 ^ 64 - 1)))
+    (sym (one_text-rows (found_of c.args.matches.now) c.args.id.now))
     ∙ one-read _ 64 (2 ^ 64 - 1) (omega arith) refl (omega arith)
     (λ bs r. ParsesUnsigned 64 10 bs r × ExplainsUnsignedError 10 bs r × HasUnsignedDigitsIfOk bs r)
     (λ text r gives. gives.0) _ c.get_one.result c.get_one.ensures.none c.get_one.ensures.value

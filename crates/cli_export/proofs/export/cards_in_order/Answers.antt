@@ -6,5 +6,7 @@ use Rattle.cli_export.proofs.export.cards_in_order.Goals as goal
 
 pub returns : goal.returns
 returns c =
-    let all : map deref_pair c.loop-stored.yielded ≡ c.args.cards.now.entries = search (rules, iter_end) in
-    c.loop-stored.invariant ∙ ap (map (λ e. e.1.card)) all ∙ sym (values-lines c.args.cards.now c.iter-stored-items.ensures.ordered)
+    let all : map deref_pair c.loop-stored.yielded ≡ c.args.cards.now.entries =
+    search (rules, iter_end) in
+    c.loop-stored.invariant ∙ ap (map (λ e. e.1.card)) all
+    ∙ sym (values-lines c.args.cards.now c.iter-stored-items.ensures.ordered)

@@ -3,32 +3,48 @@ use Rattle.std.proofs.lemmas.Result.{err_from_is_err_and}
 use Rattle.std.specs.Io.KnownBytes.{Appends}
 use Rattle.book_http.specs.Streams.{WritesPrefix}
 use Rattle.cli_host.specs.Hosts.{Copies}
-use Rattle.cli_host.proofs.CallLemmas.{copy_without_text, file_copied, file_copied_unprinted, file_uncopied}
+use Rattle.cli_host.proofs.CallLemmas.{copy_without_text, file_copied, file_copied_unprinted}
+use Rattle.cli_host.proofs.CallLemmas.{file_uncopied}
 use Rattle.cli_host.proofs.copying.run_copy.Goals as goal
 
 pub returns-in_err-books-clause-stopped : goal.returns-in_err-books-clause-stopped
 returns-in_err-books-clause-stopped g c =
-    let made : g.M.Host.calls (Copies c.args.file c.args.target c.args.without (Err c.in_err-books.field-0.0)) c.args.host.now c.copy_file.new.self = search (rules) in
+    let made : g.M.Host.calls (Copies c.args.file c.args.target c.args.without
+    (Err c.in_err-books.field-0.0)) c.args.host.now c.copy_file.new.self = search (rules) in
     let p = err_from_is_err_and c.from_residual.result c.from_residual.ensures.1 in
     rw (p.1, p.2)
-    (file_uncopied g.M.Host.calls c.args.host.now c.copy_file.new.self c.args.file c.args.target c.args.without c.in_err-books.field-0.0 (g.W.Write.contents c.args.writer.now) made)
+    (file_uncopied g.M.Host.calls c.args.host.now c.copy_file.new.self c.args.file c.args.target
+    c.args.without c.in_err-books.field-0.0 (g.W.Write.contents c.args.writer.now) made)
 
 pub returns-in_err-text-clause-stopped : goal.returns-in_err-text-clause-stopped
 returns-in_err-text-clause-stopped g c =
-    let made : g.M.Host.calls (Copies c.args.file c.args.target c.args.without (Ok c.in_ok-books.books)) c.args.host.now c.copy_file.new.self = search (rules) in
-    let p = err_from_is_err_and c.from_residual-in_err-text.result c.from_residual-in_err-text.ensures.1 in
+    let made : g.M.Host.calls (Copies c.args.file c.args.target c.args.without
+    (Ok c.in_ok-books.books)) c.args.host.now c.copy_file.new.self = search (rules) in
+    let p = err_from_is_err_and c.from_residual-in_err-text.result
+    c.from_residual-in_err-text.ensures.1 in
     rw (p.1, p.2)
-    (copy_without_text g.M.Host.calls c.args.host.now c.copy_file.new.self c.args.file c.args.target c.args.without c.in_ok-books.books (g.W.Write.contents c.args.writer.now) made)
+    (copy_without_text g.M.Host.calls c.args.host.now c.copy_file.new.self c.args.file c.args.target
+    c.args.without c.in_ok-books.books (g.W.Write.contents c.args.writer.now) made)
 
 pub returns-clause-done : goal.returns-clause-done
 returns-clause-done g c =
-    let made : g.M.Host.calls (Copies c.args.file c.args.target c.args.without (Ok c.in_ok-books.books)) c.args.host.now c.copy_file.new.self = search (rules) in
-    file_copied g.M.Host.calls c.write_out.result c.args.host.now c.copy_file.new.self c.args.file c.args.target c.args.without c.in_ok-books.books (g.W.Write.contents c.args.writer.now) (g.W.Write.contents c.write_out.new.writer) made
-    (subst (λ octets. OnOk c.write_out.result (Appends (g.W.Write.contents c.args.writer.now) (g.W.Write.contents c.write_out.new.writer) octets)) (c.as_slice-2.ensures.value ∙ c.in_ok-text.ensures) c.write_out.ensures.written)
+    let made : g.M.Host.calls (Copies c.args.file c.args.target c.args.without
+    (Ok c.in_ok-books.books)) c.args.host.now c.copy_file.new.self = search (rules) in
+    file_copied g.M.Host.calls c.write_out.result c.args.host.now c.copy_file.new.self c.args.file
+    c.args.target c.args.without c.in_ok-books.books (g.W.Write.contents c.args.writer.now)
+    (g.W.Write.contents c.write_out.new.writer) made
+    (subst (λ octets. OnOk c.write_out.result (Appends (g.W.Write.contents c.args.writer.now)
+    (g.W.Write.contents c.write_out.new.writer) octets)) (c.as_slice-2.ensures.value
+    ∙ c.in_ok-text.ensures) c.write_out.ensures.written)
 
 pub returns-clause-stopped : goal.returns-clause-stopped
 returns-clause-stopped g c =
-    let made : g.M.Host.calls (Copies c.args.file c.args.target c.args.without (Ok c.in_ok-books.books)) c.args.host.now c.copy_file.new.self = search (rules) in
-    file_copied_unprinted g.M.Host.calls c.write_out.result c.args.host.now c.copy_file.new.self c.args.file c.args.target c.args.without c.in_ok-books.books (g.W.Write.contents c.args.writer.now) (g.W.Write.contents c.write_out.new.writer) made
-    (subst (λ octets. WritesPrefix octets (g.W.Write.contents c.args.writer.now) (g.W.Write.contents c.write_out.new.writer)) (c.as_slice-2.ensures.value ∙ c.in_ok-text.ensures) c.write_out.ensures.prefix)
+    let made : g.M.Host.calls (Copies c.args.file c.args.target c.args.without
+    (Ok c.in_ok-books.books)) c.args.host.now c.copy_file.new.self = search (rules) in
+    file_copied_unprinted g.M.Host.calls c.write_out.result c.args.host.now c.copy_file.new.self
+    c.args.file c.args.target c.args.without c.in_ok-books.books
+    (g.W.Write.contents c.args.writer.now) (g.W.Write.contents c.write_out.new.writer) made
+    (subst (λ octets. WritesPrefix octets (g.W.Write.contents c.args.writer.now)
+    (g.W.Write.contents c.write_out.new.writer)) (c.as_slice-2.ensures.value
+    ∙ c.in_ok-text.ensures) c.write_out.ensures.prefix)
     c.write_out.ensures.stop

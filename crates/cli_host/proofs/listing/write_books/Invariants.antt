@@ -8,4 +8,5 @@ abbrev pub invariant-loop-line : goal.invariant-loop-line
 invariant-loop-line g l =
     (g.S.BookStore.model.premise l.store → g.S.BookStore.model.premise l.fn.store)
     × KeepsBooks g.S.BookStore.model l.fn.store l.store
-    × (g.S.BookStore.model.premise l.store → l.out.items ≡ l.fn.out.items ++ flat_map (listed_row (g.S.BookStore.model.books l.fn.store)) (take l.line-index l.lines))
+    × (g.S.BookStore.model.premise l.store → l.out.items ≡ l.fn.out.items
+    ++ flat_map (listed_row (g.S.BookStore.model.books l.fn.store)) (take l.line-index l.lines))

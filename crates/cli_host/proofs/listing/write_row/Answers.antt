@@ -9,4 +9,6 @@ returns c =
     c.in_ok-extend_from_slice.ensures.items
     ∙ ap (λ octets. c.args.out.now.items ++ octets)
     (c.as_bytes.ensures.value ∙ whole
-    ∙ ap (λ rest. codes "name " ++ rest) (end_apart line.name (decimal line.id) (decimal c.args.tally.now.cards) (decimal line.number) (decimal line.horizon) (decimal c.args.keep)))
+    ∙ ap (λ rest. codes "name " ++ rest) (end_apart line.name (decimal line.id)
+    (decimal c.args.tally.now.cards) (decimal line.number) (decimal line.horizon)
+    (decimal c.args.keep)))

@@ -8,20 +8,32 @@ use Rattle.cli_host.proofs.running.run_init.Goals as goal
 
 pub returns-in_err-_books-clause-stopped : goal.returns-in_err-_books-clause-stopped
 returns-in_err-_books-clause-stopped g c =
-    let made : g.M.Host.calls (Creates c.args.file (Err c.in_err-_books.field-0.0)) c.args.host.now c.create.new.self = search (rules) in
+    let made : g.M.Host.calls (Creates c.args.file (Err c.in_err-_books.field-0.0)) c.args.host.now
+    c.create.new.self = search (rules) in
     let p = err_from_is_err_and c.from_residual.result c.from_residual.ensures.1 in
     rw (p.1, p.2)
-    (store_uncreated g.M.Host.calls c.args.host.now c.create.new.self c.args.file c.in_err-_books.field-0.0 (g.W.Write.contents c.args.writer.now) made)
+    (store_uncreated g.M.Host.calls c.args.host.now c.create.new.self c.args.file
+    c.in_err-_books.field-0.0 (g.W.Write.contents c.args.writer.now) made)
 
 pub returns-clause-done : goal.returns-clause-done
 returns-clause-done g c =
-    let made : g.M.Host.calls (Creates c.args.file (Ok c.in_ok-_books._books)) c.args.host.now c.create.new.self = search (rules) in
-    store_made g.M.Host.calls c.write_out.result c.args.host.now c.create.new.self c.args.file c.in_ok-_books._books (g.W.Write.contents c.args.writer.now) (g.W.Write.contents c.write_out.new.writer) made
-    (subst (λ octets. OnOk c.write_out.result (Appends (g.W.Write.contents c.args.writer.now) (g.W.Write.contents c.write_out.new.writer) octets)) (c.as_bytes.ensures.value ∙ c.created_line.ensures) c.write_out.ensures.written)
+    let made : g.M.Host.calls (Creates c.args.file (Ok c.in_ok-_books._books)) c.args.host.now
+    c.create.new.self = search (rules) in
+    store_made g.M.Host.calls c.write_out.result c.args.host.now c.create.new.self c.args.file
+    c.in_ok-_books._books (g.W.Write.contents c.args.writer.now)
+    (g.W.Write.contents c.write_out.new.writer) made
+    (subst (λ octets. OnOk c.write_out.result (Appends (g.W.Write.contents c.args.writer.now)
+    (g.W.Write.contents c.write_out.new.writer) octets)) (c.as_bytes.ensures.value
+    ∙ c.created_line.ensures) c.write_out.ensures.written)
 
 pub returns-clause-stopped : goal.returns-clause-stopped
 returns-clause-stopped g c =
-    let made : g.M.Host.calls (Creates c.args.file (Ok c.in_ok-_books._books)) c.args.host.now c.create.new.self = search (rules) in
-    store_made_unprinted g.M.Host.calls c.write_out.result c.args.host.now c.create.new.self c.args.file c.in_ok-_books._books (g.W.Write.contents c.args.writer.now) (g.W.Write.contents c.write_out.new.writer) made
-    (subst (λ octets. WritesPrefix octets (g.W.Write.contents c.args.writer.now) (g.W.Write.contents c.write_out.new.writer)) (c.as_bytes.ensures.value ∙ c.created_line.ensures) c.write_out.ensures.prefix)
+    let made : g.M.Host.calls (Creates c.args.file (Ok c.in_ok-_books._books)) c.args.host.now
+    c.create.new.self = search (rules) in
+    store_made_unprinted g.M.Host.calls c.write_out.result c.args.host.now c.create.new.self
+    c.args.file c.in_ok-_books._books (g.W.Write.contents c.args.writer.now)
+    (g.W.Write.contents c.write_out.new.writer) made
+    (subst (λ octets. WritesPrefix octets (g.W.Write.contents c.args.writer.now)
+    (g.W.Write.contents c.write_out.new.writer)) (c.as_bytes.ensures.value
+    ∙ c.created_line.ensures) c.write_out.ensures.prefix)
     c.write_out.ensures.stop

@@ -6,17 +6,28 @@ use Rattle.cli_host.proofs.running.use_file.Goals as goal
 
 pub returns-in_err-store-clause-stopped : goal.returns-in_err-store-clause-stopped
 returns-in_err-store-clause-stopped g c =
-    let made : g.M.Host.calls (Opens c.args.file (Err c.in_err-store.field-0.0)) c.args.host.now c.open_watched.new.host = search (rules) in
+    let made : g.M.Host.calls (Opens c.args.file (Err c.in_err-store.field-0.0)) c.args.host.now
+    c.open_watched.new.host = search (rules) in
     let p = err_from_is_err_and c.from_residual.result c.from_residual.ensures.1 in
     rw (p.1, p.2)
-    (file_unopened g.S.BookStore.model g.M.Host.calls c.args.host.now c.open_watched.new.host c.args.file c.args.work c.in_err-store.field-0.0 (g.W.Write.contents c.args.writer.now) made)
+    (file_unopened g.S.BookStore.model g.M.Host.calls c.args.host.now c.open_watched.new.host
+    c.args.file c.args.work c.in_err-store.field-0.0 (g.W.Write.contents c.args.writer.now)
+    made)
 
 pub returns-clause-done : goal.returns-clause-done
 returns-clause-done g c =
-    let made : g.M.Host.calls (Opens c.args.file (Ok c.in_ok-store.store)) c.args.host.now c.open_watched.new.host = search (rules) in
-    file_used g.S.BookStore.model g.M.Host.calls c.do_store_work.result c.args.host.now c.open_watched.new.host c.do_store_work.new.host c.args.file c.args.work c.in_ok-store.store c.do_store_work.new.store (g.W.Write.contents c.args.writer.now) (g.W.Write.contents c.do_store_work.new.writer) made c.do_store_work.ensures.done
+    let made : g.M.Host.calls (Opens c.args.file (Ok c.in_ok-store.store)) c.args.host.now
+    c.open_watched.new.host = search (rules) in
+    file_used g.S.BookStore.model g.M.Host.calls c.do_store_work.result c.args.host.now
+    c.open_watched.new.host c.do_store_work.new.host c.args.file c.args.work c.in_ok-store.store
+    c.do_store_work.new.store (g.W.Write.contents c.args.writer.now)
+    (g.W.Write.contents c.do_store_work.new.writer) made c.do_store_work.ensures.done
 
 pub returns-clause-stopped : goal.returns-clause-stopped
 returns-clause-stopped g c =
-    let made : g.M.Host.calls (Opens c.args.file (Ok c.in_ok-store.store)) c.args.host.now c.open_watched.new.host = search (rules) in
-    file_stopped g.S.BookStore.model g.M.Host.calls c.do_store_work.result c.args.host.now c.open_watched.new.host c.do_store_work.new.host c.args.file c.args.work c.in_ok-store.store c.do_store_work.new.store (g.W.Write.contents c.args.writer.now) (g.W.Write.contents c.do_store_work.new.writer) made c.do_store_work.ensures.stopped
+    let made : g.M.Host.calls (Opens c.args.file (Ok c.in_ok-store.store)) c.args.host.now
+    c.open_watched.new.host = search (rules) in
+    file_stopped g.S.BookStore.model g.M.Host.calls c.do_store_work.result c.args.host.now
+    c.open_watched.new.host c.do_store_work.new.host c.args.file c.args.work c.in_ok-store.store
+    c.do_store_work.new.store (g.W.Write.contents c.args.writer.now)
+    (g.W.Write.contents c.do_store_work.new.writer) made c.do_store_work.ensures.stopped

@@ -5,4 +5,5 @@ use Rattle.cli_orders.proofs.card_rows.skip_rows.Given as goal
 
 -- the rows so far are skipped
 abbrev pub invariant-loop-row : goal.invariant-loop-row
-invariant-loop-row l = (text : List ℕ) (rows : List Row) → IsAfterRows l.fn.reader text rows → SkipsRows l.reader text rows l._row
+invariant-loop-row l = (text : List ℕ) (rows : List Row) → IsAfterRows l.fn.reader text rows
+    → SkipsRows l.reader text rows l._row

@@ -5,5 +5,8 @@ use Rattle.cli_orders.proofs.finding.names_card.Goals as goal
 
 pub returns-else-ends_with : goal.returns-else-ends_with
 returns-else-ends_with c =
-    let first : ends_with eqb c.args.name.now (codes ".vcf") ≡ false = sym (ends_text c.ends_with.result (codes ".vcf") c.args.name.now c.ends_with.ensures.cases) ∙ c.if-ends_with.false in
-    rw first (ends_text c.ends_with-else-ends_with.result (codes ".VCF") c.args.name.now c.ends_with-else-ends_with.ensures.cases)
+    let first : ends_with eqb c.args.name.now (codes ".vcf") ≡ false =
+    sym (ends_text c.ends_with.result (codes ".vcf") c.args.name.now c.ends_with.ensures.cases)
+    ∙ c.if-ends_with.false in
+    rw first (ends_text c.ends_with-else-ends_with.result (codes ".VCF") c.args.name.now
+    c.ends_with-else-ends_with.ensures.cases)

@@ -11,16 +11,22 @@ use Rattle.cli_orders.proofs.sentences.refused_sentence.Goals as goal
 
 -- every other refusal has its words
 other_refusal : (names : OrderNames) (refusal : Refusal) (cause : FoundCause)
-    → ((fault : CardFault) → refusal ≡ BadCard fault → ⊥) → ((row number : ℕ) → refusal ≡ BadImport row number → ⊥)
-    → about names.file (refusal_words refusal) (refusal_advice refusal) ≡ refused_sentence names refusal cause
+    → ((fault : CardFault) → refusal ≡ BadCard fault → ⊥)
+    → ((row number : ℕ) → refusal ≡ BadImport row number → ⊥)
+    → about names.file (refusal_words refusal) (refusal_advice refusal) ≡ refused_sentence names
+    refusal cause
 other_refusal names (BadCard fault) cause no_card no_import = absurd (no_card fault refl)
-other_refusal names (BadImport row number) cause no_card no_import = absurd (no_import row number refl)
+other_refusal names (BadImport row number) cause no_card no_import =
+    absurd (no_import row number refl)
 other_refusal names refusal cause no_card no_import = refl
 
-same_about : (f f' w w' : List ℕ) (a a' : Advice) → f ≡ f' → w ≡ w' → a ≡ a' → about f w a ≡ about f' w' a'
+same_about : (f f' w w' : List ℕ) (a a' : Advice) → f ≡ f' → w ≡ w' → a ≡ a'
+    → about f w a ≡ about f' w' a'
 same_about f f' w w' a a' p q r = cc
 
 pub returns-in_default : goal.returns-in_default
 returns-in_default c = subst (λ said. IfOk c.about.result (λ text. string_bytes text ≡ said))
-    (same_about _ _ _ _ _ _ c.as_str-in_default.ensures c.refusal_words-words.ensures c.refusal_advice.ensures
-    ∙ other_refusal c.args.names.now c.args.refusal c.args.cause c.in_default.not-BadCard c.in_default.not-BadImport) c.about.ensures
+    (same_about _ _ _ _ _ _ c.as_str-in_default.ensures c.refusal_words-words.ensures
+    c.refusal_advice.ensures
+    ∙ other_refusal c.args.names.now c.args.refusal c.args.cause c.in_default.not-BadCard
+    c.in_default.not-BadImport) c.about.ensures

@@ -6,4 +6,6 @@ use Rattle.http_requests.proofs.guarding.has_foreign_site.Goals as goal
 
 pub returns-then-is_foreign_site : goal.returns-then-is_foreign_site
 returns-then-is_foreign_site c =
-    sym (any_yes (is_foreign_site c.args.host.now) (header_bytes c.args.text.now) c.args.fields.now c.loop-i.i blank_field c.loop-i-test.true (sym c.is_foreign_site.ensures ∙ c.if-is_foreign_site.true))
+    sym (any_yes (is_foreign_site c.args.host.now) (header_bytes c.args.text.now) c.args.fields.now
+    c.loop-i.i blank_field c.loop-i-test.true (sym c.is_foreign_site.ensures
+    ∙ c.if-is_foreign_site.true))

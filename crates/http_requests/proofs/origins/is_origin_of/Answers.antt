@@ -8,4 +8,5 @@ pub returns-then-starts_ignoring_case : goal.returns-then-starts_ignoring_case
 returns-then-starts_ignoring_case c =
     rw (sym c.starts_ignoring_case.ensures ∙ c.if-starts_ignoring_case.true)
     (same_word c.eq_ignore_ascii_case.result _ _ c.eq_ignore_ascii_case.ensures.test
-    ∙ ap (λ t. equals_ignoring_case t c.args.host.now) (cut_rest c.args.value.now (length c.args.scheme.now)))
+    ∙ ap (λ t. equals_ignoring_case t c.args.host.now)
+    (cut_rest c.args.value.now (length c.args.scheme.now)))

@@ -5,5 +5,6 @@ use Rattle.request_log.proofs.lines.refused_text.Goals as goal
 
 pub returns-clause-one_line : goal.returns-clause-one_line
 returns-clause-one_line c =
-    let line_is : c.write_refused.new.out.items ≡ refused_line c.args.fault c.args.reply.now = search (rules) in
+    let line_is : c.write_refused.new.out.items ≡ refused_line c.args.fault c.args.reply.now =
+    search (rules) in
     subst IsLogLine (sym line_is) (refused_is c.args.fault c.args.reply.now (search (rules)))

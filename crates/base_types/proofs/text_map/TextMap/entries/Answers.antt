@@ -7,5 +7,8 @@ use Rattle.base_types.proofs.text_map.TextMap.entries.Goals as goal
 
 pub returns : goal.returns
 returns g c =
-    let all : map deref_pair c.loop-key.yielded ≡ c.self.inside.inner.entries = search (rules, iter_end) in
-    c.loop-key.invariant ∙ ap (map octet_entry) all ∙ sym (entries-texts c.self.inside.inner c.iter-key-items.ensures.ordered) ∙ ap finite.entries c.self.view_is
+    let all : map deref_pair c.loop-key.yielded ≡ c.self.inside.inner.entries =
+    search (rules, iter_end) in
+    c.loop-key.invariant ∙ ap (map octet_entry) all
+    ∙ sym (entries-texts c.self.inside.inner c.iter-key-items.ensures.ordered)
+    ∙ ap finite.entries c.self.view_is

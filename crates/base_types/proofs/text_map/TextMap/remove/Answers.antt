@@ -4,7 +4,9 @@ use Rattle.base_types.proofs.TextMapLemmas.{get-texts, texts-remove}
 use Rattle.base_types.proofs.text_map.TextMap.remove.Goals as goal
 
 pub returns-clause-value : goal.returns-clause-value
-returns-clause-value g c = c.remove.ensures.value ∙ sym (get-texts c.self.inside.inner c.args.key.now) ∙ ap (λ m. finite.get m c.args.key.now) c.self.view_is
+returns-clause-value g c = c.remove.ensures.value
+    ∙ sym (get-texts c.self.inside.inner c.args.key.now)
+    ∙ ap (λ m. finite.get m c.args.key.now) c.self.view_is
 
 pub returns-clause-removed : goal.returns-clause-removed
 returns-clause-removed g c =

@@ -6,7 +6,8 @@ use Rattle.http_hub.proofs.CallLemmas.{free_after_take, on_err_both, with_put_ba
 use Rattle.http_hub.proofs.hub.Hub.receive.Goals as goal
 
 pub put_slot-requires : goal.put_slot-requires
-put_slot-requires g c = free_after_take c.args.self.now c.take_slot-slot.new.self c.args.place c.take_slot-slot.result c.take_slot-slot.ensures.found c.take_slot-slot.ensures.freed
+put_slot-requires g c = free_after_take c.args.self.now c.take_slot-slot.new.self c.args.place
+    c.take_slot-slot.result c.take_slot-slot.ensures.found c.take_slot-slot.ensures.freed
 
 pub returns-clause-received : goal.returns-clause-received
 returns-clause-received g c =
@@ -17,7 +18,8 @@ returns-clause-received g c =
       found = c.take_slot-slot.ensures.found;
       receives = receives;
       after_is =
-          with_put_back c.args.self.now c.take_slot-slot.new.self c.put_slot.new.self c.args.place c.take_slot-slot.result.serial c.receive-received.new.self
+          with_put_back c.args.self.now c.take_slot-slot.new.self c.put_slot.new.self c.args.place
+          c.take_slot-slot.result.serial c.receive-received.new.self
           c.receive-received.new.self c.take_slot-slot.ensures.freed c.put_slot.ensures refl;
     })
     c.receive-received.ensures.received
@@ -25,14 +27,17 @@ returns-clause-received g c =
 pub returns-clause-no_memory : goal.returns-clause-no_memory
 returns-clause-no_memory g c =
     on_err_both c.receive-received.result
-    (FeedsPieceInPart g.H.Handler.does g.H.Handler.fault_reply c.take_slot-slot.result.link.session c.args.handler.now c.args.piece.now c.receive-received.new.handler)
+    (FeedsPieceInPart g.H.Handler.does g.H.Handler.fault_reply c.take_slot-slot.result.link.session
+    c.args.handler.now c.args.piece.now c.receive-received.new.handler)
     (c.receive-received.new.self ≡ link_after_failure c.take_slot-slot.result.link) _
     (λ in_part closed. record {
       slot = c.take_slot-slot.result;
       found = c.take_slot-slot.ensures.found;
       feeds_in_part = in_part;
       after_is =
-          with_put_back c.args.self.now c.take_slot-slot.new.self c.put_slot.new.self c.args.place c.take_slot-slot.result.serial c.receive-received.new.self
-          (link_after_failure c.take_slot-slot.result.link) c.take_slot-slot.ensures.freed c.put_slot.ensures closed;
+          with_put_back c.args.self.now c.take_slot-slot.new.self c.put_slot.new.self c.args.place
+          c.take_slot-slot.result.serial c.receive-received.new.self
+          (link_after_failure c.take_slot-slot.result.link) c.take_slot-slot.ensures.freed
+          c.put_slot.ensures closed;
     })
     c.receive-received.ensures.fed_in_part c.receive-received.ensures.no_memory_closes

@@ -27,6 +27,8 @@ returns c =
     || is_long_ago since now (patience + extra_time c.self.inside.request_len)) (plus_none patience)
     ∙ ap (λ n. is_long_ago (Some active) now (patience + 0) || is_long_ago since now (patience + n))
     (sym c.extra_time.ensures) in
-    subst (λ (x : LinkValue). IsFirstTime (λ now. has_expired x now patience) c.earlier.result) c.self.view_is
-    (first_time_as (λ now. is_long_ago (Some active) now (patience + 0) || is_long_ago since now (patience + c.extra_time.result))
+    subst (λ (x : LinkValue). IsFirstTime (λ now. has_expired x now patience) c.earlier.result)
+    c.self.view_is
+    (first_time_as (λ now. is_long_ago (Some active) now (patience + 0) || is_long_ago since now
+    (patience + c.extra_time.result))
     (λ now. has_expired seen now patience) c.earlier.result same both)

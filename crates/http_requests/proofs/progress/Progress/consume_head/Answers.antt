@@ -3,7 +3,8 @@
 -- are a shorter part of one (`beginning_more`), or are exactly as long as the bound (`bound_stop`):
 -- not less by the last test, and not more by the room that `scan` got.
 -- The bound is written as 16384 here: a new `HEAD_OCTETS_MAX` breaks all three.
-use Rattle.std.proofs.Common.{◌≡◌, ◌∙◌, ◌<◌, ◌-◌, ◌≢◌, ◌+◌, ℕ, List, length, sym, ap, refl, subst, [], ◌++◌, take, arith, true}
+use Rattle.std.proofs.Common.{◌≡◌, ◌∙◌, ◌<◌, ◌-◌, ◌≢◌, ◌+◌, ℕ, List, length, sym, ap, refl, subst}
+use Rattle.std.proofs.Common.{[], ◌++◌, take, arith, true}
 use Rattle.std.proofs.lemmas.List.{append-nil, length-append, length-take}
 use Rattle.http_requests.specs.declared.head_state.HeadState.TheVariants.{Ended}
 use Rattle.http_requests.specs.HeadEnds.{EndsAtLastOctet}
@@ -11,41 +12,58 @@ use Rattle.http_requests.specs.ParsedHeads.{IsBoundFault}
 use Rattle.http_requests.specs.internal.Progress.{IsPartialHead}
 use Rattle.http_requests.proofs.RunLemmas.{part_none}
 use Rattle.base_types.proofs.TextMapLemmas.{on_err_from}
-use Rattle.http_requests.proofs.StepLemmas.{scan_ends, still_going, beginning_more, bound_stop, grown_part, run_none_at}
+use Rattle.http_requests.proofs.StepLemmas.{scan_ends, still_going, beginning_more, bound_stop}
+use Rattle.http_requests.proofs.StepLemmas.{grown_part, run_none_at}
 use Rattle.http_requests.proofs.progress.Progress.consume_head.Goals as goal
 
 pub returns-in_err-extend_from_slice-clause-err : goal.returns-in_err-extend_from_slice-clause-err
 returns-in_err-extend_from_slice-clause-err g c = on_err_from c.from_residual.result
-    (part_none g.H.Handler.does g.H.Handler.fault_reply (c.args.self.now.held.items ++ c.args.piece.now) c.args.handler.now c.args.handler.now refl)
+    (part_none g.H.Handler.does g.H.Handler.fault_reply (c.args.self.now.held.items
+    ++ c.args.piece.now) c.args.handler.now c.args.handler.now refl)
 
 pub finish_head-requires-clause-ends : goal.finish_head-requires-clause-ends
 finish_head-requires-clause-ends g c =
     let ended : c.scan-used.result.1 ≡ Ended = c.has_ended.ensures.0 c.if-has_ended.true in
     subst EndsAtLastOctet (sym c.in_ok-extend_from_slice.ensures.items)
-    (scan_ends c.args.self.now.held.items c.args.piece.now c.args.state c.scan-used.result.1 (16384 - c.len.result) c.scan-used.result.0 c.requires.holds c.scan-used.ensures ended)
+    (scan_ends c.args.self.now.held.items c.args.piece.now c.args.state c.scan-used.result.1
+    (16384 - c.len.result) c.scan-used.result.0 c.requires.holds c.scan-used.ensures ended)
 
 pub returns-in_err-stays_open-clause-err : goal.returns-in_err-stays_open-clause-err
 returns-in_err-stays_open-clause-err g c = on_err_from c.from_residual-in_err-stays_open.result
-    (grown_part g.H.Handler.does g.H.Handler.fault_reply c.args.self.now.held.items c.args.piece.now c.extend_from_slice.new.self.items c.scan-used.result.0
-    c.args.handler.now c.finish_head.new.handler c.in_ok-extend_from_slice.ensures.items c.in_err-stays_open.ensures.err)
+    (grown_part g.H.Handler.does g.H.Handler.fault_reply c.args.self.now.held.items c.args.piece.now
+    c.extend_from_slice.new.self.items c.scan-used.result.0
+    c.args.handler.now c.finish_head.new.handler c.in_ok-extend_from_slice.ensures.items
+    c.in_err-stays_open.ensures.err)
 
 pub returns-in_err-refuse-clause-err : goal.returns-in_err-refuse-clause-err
 returns-in_err-refuse-clause-err g c = on_err_from c.from_residual-in_err-refuse.result
-    (part_none g.H.Handler.does g.H.Handler.fault_reply (c.args.self.now.held.items ++ c.args.piece.now) c.args.handler.now c.args.handler.now refl)
+    (part_none g.H.Handler.does g.H.Handler.fault_reply (c.args.self.now.held.items
+    ++ c.args.piece.now) c.args.handler.now c.args.handler.now refl)
 
-pub returns-then-len-lt-HEAD_OCTETS_MAX-clause-ok : goal.returns-then-len-lt-HEAD_OCTETS_MAX-clause-ok
+pub returns-then-len-lt-HEAD_OCTETS_MAX-clause-ok :
+    goal.returns-then-len-lt-HEAD_OCTETS_MAX-clause-ok
 returns-then-len-lt-HEAD_OCTETS_MAX-clause-ok g c =
     let s : List ℕ = c.args.self.now.held.items ++ take c.scan-used.result.0 c.args.piece.now in
     let grown : c.extend_from_slice.new.self.items ≡ s = c.in_ok-extend_from_slice.ensures.items in
-    let going : c.scan-used.result.1 ≢ Ended = λ e. let t : c.has_ended.result ≡ true = c.has_ended.ensures.1 e in cc (t, c.if-has_ended.false) in
-    let short : length s < 16384 = omega (arith, ap length grown, c.extend_from_slice.new.self.ok, c.if-len-lt-HEAD_OCTETS_MAX.true, c.len-else-has_ended.ensures) in
+    let going : c.scan-used.result.1 ≢ Ended = λ e. let t : c.has_ended.result ≡ true =
+    c.has_ended.ensures.1 e in cc (t, c.if-has_ended.false) in
+    let short : length s < 16384 = omega (
+      arith,
+      ap length grown,
+      c.extend_from_slice.new.self.ok,
+      c.if-len-lt-HEAD_OCTETS_MAX.true,
+      c.len-else-has_ended.ensures,
+    ) in
     record {
       holds = subst (λ (t : List ℕ). IsPartialHead t c.scan-used.result.1) (sym grown)
-          (beginning_more c.args.self.now.held.items c.args.piece.now c.args.state c.scan-used.result.1 (16384 - c.len.result) c.scan-used.result.0 c.requires.holds c.scan-used.ensures going short);
+          (beginning_more c.args.self.now.held.items c.args.piece.now c.args.state
+          c.scan-used.result.1 (16384 - c.len.result) c.scan-used.result.0 c.requires.holds
+          c.scan-used.ensures going short);
       is_open = λ h. h;
       added = [];
       out_is = sym (append-nil c.args.out.now.items);
-      runs = run_none_at g.H.Handler.does g.H.Handler.fault_reply s c.extend_from_slice.new.self.items c.args.handler.now grown;
+      runs = run_none_at g.H.Handler.does g.H.Handler.fault_reply s
+          c.extend_from_slice.new.self.items c.args.handler.now grown;
     }
 
 pub returns-in_ok-refuse-clause-ok : goal.returns-in_ok-refuse-clause-ok
@@ -54,16 +72,33 @@ returns-in_ok-refuse-clause-ok g c =
     let taken : List ℕ = take c.scan-used.result.0 c.args.piece.now in
     let s : List ℕ = held ++ taken in
     let grown : c.extend_from_slice.new.self.items ≡ s = c.in_ok-extend_from_slice.ensures.items in
-    let going : c.scan-used.result.1 ≢ Ended = λ e. let t : c.has_ended.result ≡ true = c.has_ended.ensures.1 e in cc (t, c.if-has_ended.false) in
+    let going : c.scan-used.result.1 ≢ Ended = λ e. let t : c.has_ended.result ≡ true =
+    c.has_ended.ensures.1 e in cc (t, c.if-has_ended.false) in
     let sum : length s ≡ length held + length taken = length-append held taken in
     let few = length-take c.scan-used.result.0 c.args.piece.now in
     let long : length s ≡ 16384 =
-    omega (arith, sum, few, c.scan-used.ensures.fits, c.len.ensures, c.args.self.now.held.ok, c.requires.holds.short, ap length grown, c.extend_from_slice.new.self.ok, c.if-len-lt-HEAD_OCTETS_MAX.false, c.len-else-has_ended.ensures) in
+    omega (
+      arith,
+      sum,
+      few,
+      c.scan-used.ensures.fits,
+      c.len.ensures,
+      c.args.self.now.held.ok,
+      c.requires.holds.short,
+      ap length grown,
+      c.extend_from_slice.new.self.ok,
+      c.if-len-lt-HEAD_OCTETS_MAX.false,
+      c.len-else-has_ended.ensures,
+    ) in
     record {
       is_closed = c.requires.closed;
       added = g.H.Handler.fault_reply c.bound_fault-fault.result;
       out_is = c.in_ok-refuse.ensures;
-      stopped = bound_stop g.H.Handler.does g.H.Handler.fault_reply s c.args.handler.now c.bound_fault-fault.result
-          (still_going held c.args.piece.now c.args.state c.scan-used.result.1 (16384 - c.len.result) c.scan-used.result.0 c.requires.holds c.scan-used.ensures going)
-          long (subst (λ (t : List ℕ). IsBoundFault t c.bound_fault-fault.result) (c.deref.ensures.value ∙ grown) c.bound_fault-fault.ensures);
+      stopped = bound_stop g.H.Handler.does g.H.Handler.fault_reply s c.args.handler.now
+          c.bound_fault-fault.result
+          (still_going held c.args.piece.now c.args.state c.scan-used.result.1
+          (16384 - c.len.result) c.scan-used.result.0 c.requires.holds c.scan-used.ensures
+          going)
+          long (subst (λ (t : List ℕ). IsBoundFault t c.bound_fault-fault.result)
+          (c.deref.ensures.value ∙ grown) c.bound_fault-fault.ensures);
     }

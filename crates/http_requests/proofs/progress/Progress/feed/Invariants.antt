@@ -9,8 +9,10 @@ invariant-loop-rest g l = record {
   holds : MatchesStage l.self.held.items l.self.stage;
   is_open : IsOpen l.self.stage;
   was_open : IsOpen l.fn.self.stage;
-  far : SoFar g.H.Handler.does g.H.Handler.fault_reply l.fn.self.held.items l.piece l.fn.handler l.out.items l.handler l.self.held.items l.rest;
-  asked : AskedSoFar g.H.Handler.does l.fn.self.held.items l.fn.self.stage l.piece l.handler l.self.held.items l.self.stage l.rest;
+  far : SoFar g.H.Handler.does g.H.Handler.fault_reply l.fn.self.held.items l.piece l.fn.handler
+      l.out.items l.handler l.self.held.items l.rest;
+  asked : AskedSoFar g.H.Handler.does l.fn.self.held.items l.fn.self.stage l.piece l.handler
+      l.self.held.items l.self.stage l.rest;
 }
 
 abbrev pub decreases-loop-rest : goal.decreases-loop-rest

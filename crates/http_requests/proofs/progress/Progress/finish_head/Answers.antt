@@ -9,40 +9,57 @@ use Rattle.http_requests.specs.declared.head_fault.HeadFault.TheVariants.{BadHea
 use Rattle.http_requests.proofs.AskingLemmas.{admits}
 use Rattle.http_requests.proofs.RunLemmas.{run_none, part_none}
 use Rattle.base_types.proofs.TextMapLemmas.{on_err_from}
-use Rattle.http_requests.proofs.StepLemmas.{waiting, head_whole, fault_stop, screened_stop, unreadable_stop}
+use Rattle.http_requests.proofs.StepLemmas.{waiting, head_whole, fault_stop, screened_stop}
+use Rattle.http_requests.proofs.StepLemmas.{unreadable_stop}
 use Rattle.http_requests.proofs.progress.Progress.finish_head.Goals as goal
 
 pub returns-in_err-head-clause-err : goal.returns-in_err-head-clause-err
 returns-in_err-head-clause-err g c = on_err_from c.from_residual.result
-    (part_none g.H.Handler.does g.H.Handler.fault_reply c.args.self.now.held.items c.args.handler.now c.args.handler.now refl)
+    (part_none g.H.Handler.does g.H.Handler.fault_reply c.args.self.now.held.items
+    c.args.handler.now c.args.handler.now refl)
 
 pub returns-in_err-refuse-in-Faulty-clause-err : goal.returns-in_err-refuse-in-Faulty-clause-err
-returns-in_err-refuse-in-Faulty-clause-err g c = on_err_from c.from_residual-in_err-refuse-in-Faulty.result
-    (part_none g.H.Handler.does g.H.Handler.fault_reply c.args.self.now.held.items c.args.handler.now c.args.handler.now refl)
+returns-in_err-refuse-in-Faulty-clause-err g c =
+    on_err_from c.from_residual-in_err-refuse-in-Faulty.result
+    (part_none g.H.Handler.does g.H.Handler.fault_reply c.args.self.now.held.items
+    c.args.handler.now c.args.handler.now refl)
 
 pub returns-in_err-refuse-in-Screened-clause-err : goal.returns-in_err-refuse-in-Screened-clause-err
-returns-in_err-refuse-in-Screened-clause-err g c = on_err_from c.from_residual-in_err-refuse-in-Screened.result
-    (part_none g.H.Handler.does g.H.Handler.fault_reply c.args.self.now.held.items c.args.handler.now c.args.handler.now refl)
+returns-in_err-refuse-in-Screened-clause-err g c =
+    on_err_from c.from_residual-in_err-refuse-in-Screened.result
+    (part_none g.H.Handler.does g.H.Handler.fault_reply c.args.self.now.held.items
+    c.args.handler.now c.args.handler.now refl)
 
-pub returns-in_err-refuse-in-Unreadable-clause-err : goal.returns-in_err-refuse-in-Unreadable-clause-err
-returns-in_err-refuse-in-Unreadable-clause-err g c = on_err_from c.from_residual-in_err-refuse-in-Unreadable.result
-    (part_none g.H.Handler.does g.H.Handler.fault_reply c.args.self.now.held.items c.args.handler.now c.args.handler.now refl)
+pub returns-in_err-refuse-in-Unreadable-clause-err :
+    goal.returns-in_err-refuse-in-Unreadable-clause-err
+returns-in_err-refuse-in-Unreadable-clause-err g c =
+    on_err_from c.from_residual-in_err-refuse-in-Unreadable.result
+    (part_none g.H.Handler.does g.H.Handler.fault_reply c.args.self.now.held.items
+    c.args.handler.now c.args.handler.now refl)
 
 pub handle-requires-clause-whole : goal.handle-requires-clause-whole
 handle-requires-clause-whole g c =
     let found = rw (c.deref.ensures.value, c.in-Good.is) at c.in_ok-head.ensures in
-    head_whole g.H.Handler.does g.H.Handler.fault_reply c.args.self.now.held.items c.in-Good.head c.len-start.result c.args.handler.now found.0 c.requires.ends found.1 found.2 found.3 found.4
+    head_whole g.H.Handler.does g.H.Handler.fault_reply c.args.self.now.held.items c.in-Good.head
+    c.len-start.result c.args.handler.now found.0 c.requires.ends found.1 found.2 found.3
+    found.4
     (omega (arith, c.len-start.ensures, c.args.self.now.held.ok)) c.if-head-eq0.true
 
 pub returns-in-Good-clause-ok : goal.returns-in-Good-clause-ok
 returns-in-Good-clause-ok g c =
     let found = rw (c.deref.ensures.value, c.in-Good.is) at c.in_ok-head.ensures in
     record {
-      holds = waiting c.args.self.now.held.items c.in-Good.head c.len-start.result _ found.0 c.requires.ends found.1 found.2 found.4 found.5 (omega (arith, c.len-start.ensures, c.args.self.now.held.ok)) refl c.if-head-eq0.false;
+      holds = waiting c.args.self.now.held.items c.in-Good.head c.len-start.result _ found.0
+          c.requires.ends found.1 found.2 found.4 found.5 (omega (
+            arith,
+            c.len-start.ensures,
+            c.args.self.now.held.ok,
+          )) refl c.if-head-eq0.false;
       is_open = λ h. h;
       added = [];
       out_is = sym (append-nil c.args.out.now.items);
-      runs = run_none g.H.Handler.does g.H.Handler.fault_reply c.args.self.now.held.items c.args.handler.now;
+      runs = run_none g.H.Handler.does g.H.Handler.fault_reply c.args.self.now.held.items
+          c.args.handler.now;
     }
 
 pub returns-in-Faulty-clause-ok : goal.returns-in-Faulty-clause-ok
@@ -52,7 +69,8 @@ returns-in-Faulty-clause-ok g c =
       is_closed = c.requires.closed;
       added = g.H.Handler.fault_reply c.in-Faulty.fault;
       out_is = c.in_ok-refuse-in-Faulty.ensures;
-      stopped = fault_stop g.H.Handler.does g.H.Handler.fault_reply c.args.self.now.held.items c.args.handler.now found.0 c.in-Faulty.fault found.1 found.2;
+      stopped = fault_stop g.H.Handler.does g.H.Handler.fault_reply c.args.self.now.held.items
+          c.args.handler.now found.0 c.in-Faulty.fault found.1 found.2;
     }
 
 pub returns-in-Screened-clause-ok : goal.returns-in-Screened-clause-ok
@@ -62,7 +80,8 @@ returns-in-Screened-clause-ok g c =
       is_closed = c.requires.closed;
       added = g.H.Handler.fault_reply c.in-Screened.fault;
       out_is = c.in_ok-refuse-in-Screened.ensures;
-      stopped = screened_stop g.H.Handler.does g.H.Handler.fault_reply c.args.self.now.held.items c.args.handler.now found.0 [] c.in-Screened.fault found.1 found.2 found.3;
+      stopped = screened_stop g.H.Handler.does g.H.Handler.fault_reply c.args.self.now.held.items
+          c.args.handler.now found.0 [] c.in-Screened.fault found.1 found.2 found.3;
     }
 
 pub returns-clause-ok : goal.returns-clause-ok
@@ -72,10 +91,12 @@ returns-clause-ok g c =
       is_closed = c.requires.closed;
       added = g.H.Handler.fault_reply BadHead;
       out_is = c.in_ok-refuse-in-Unreadable.ensures;
-      stopped = unreadable_stop g.H.Handler.does g.H.Handler.fault_reply c.args.self.now.held.items c.args.handler.now (inl c.requires.ends.ended) found;
+      stopped = unreadable_stop g.H.Handler.does g.H.Handler.fault_reply c.args.self.now.held.items
+          c.args.handler.now (inl c.requires.ends.ended) found;
     }
 
 pub returns-in-Good-clause-asked : goal.returns-in-Good-clause-asked
 returns-in-Good-clause-asked g c =
     let found = rw (c.deref.ensures.value, c.in-Good.is) at c.in_ok-head.ensures in
-    λ awaits. admits g.H.Handler.does c.args.handler.now c.args.self.now.held.items found.0 [] found.1 found.3
+    λ awaits. admits g.H.Handler.does c.args.handler.now c.args.self.now.held.items found.0 []
+    found.1 found.3

@@ -3,15 +3,19 @@ use Rattle.hub_server.proofs.ServingLemmas.{place_none, place_on}
 use Rattle.hub_server.proofs.server.Server.serve_place.Goals as goal
 
 pub loop-alloc-init : goal.loop-alloc-init
-loop-alloc-init g c = place_none g.H.Handler.does g.H.Handler.fault_reply g.E.Endpoint.calls c.args.limits c.args.place c.args.self.now c.args.handler.now c.args.endpoint.now
+loop-alloc-init g c = place_none g.H.Handler.does g.H.Handler.fault_reply g.E.Endpoint.calls
+    c.args.limits c.args.place c.args.self.now c.args.handler.now c.args.endpoint.now
 
 pub step-requires : goal.step-requires
 step-requires g c = c.has_turn.ensures.0 c.loop-alloc-test.true
 
 pub loop-alloc-preserved : goal.loop-alloc-preserved
 loop-alloc-preserved g c =
-    place_on g.H.Handler.does g.H.Handler.fault_reply g.E.Endpoint.calls c.args.limits c.args.place c.args.self.now c.loop-alloc.self c.step.new.self c.args.handler.now c.loop-alloc.handler c.step.new.handler
-    c.args.endpoint.now c.loop-alloc.endpoint c.step.new.endpoint c.loop-alloc.invariant c.step.ensures.steps c.step.ensures.others
+    place_on g.H.Handler.does g.H.Handler.fault_reply g.E.Endpoint.calls c.args.limits c.args.place
+    c.args.self.now c.loop-alloc.self c.step.new.self c.args.handler.now c.loop-alloc.handler
+    c.step.new.handler
+    c.args.endpoint.now c.loop-alloc.endpoint c.step.new.endpoint c.loop-alloc.invariant
+    c.step.ensures.steps c.step.ensures.others
 
 pub loop-alloc-smaller : goal.loop-alloc-smaller
 loop-alloc-smaller g c = c.step.ensures.less

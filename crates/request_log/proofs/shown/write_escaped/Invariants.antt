@@ -1,6 +1,6 @@
 use Rattle.std.proofs.Common.{◌≡◌, ◌++◌, take}
 use Rattle.request_log.specs.LogLines.{escaped}
-use Rattle.request_log.proofs.lines.write_escaped.Given as goal
+use Rattle.request_log.proofs.shown.write_escaped.Given as goal
 
 -- the octets so far are written
 abbrev pub invariant-loop-octet : goal.invariant-loop-octet

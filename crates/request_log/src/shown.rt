@@ -2,7 +2,7 @@
 ghost use Rattle.std.specs.Prelude.{◌≡◌, ◌++◌, ◌<◌, OnOk};
 ghost use Rattle.request_log.specs.LogLines as lines;
 
-use vcard_text::NoMemory;
+use base_types::NoMemory;
 
 /// Whether the octet is a visible ASCII character other than the backslash.
 fn is_plain(octet: u8) -> bool
@@ -42,7 +42,7 @@ fn write_octet(out: &mut Vec<u8>, octet: u8) -> Result<(), NoMemory>
 }
 
 /// Appends the octets, each escaped if it isn't plain.
-fn write_escaped(out: &mut Vec<u8>, octets: &[u8]) -> Result<(), NoMemory>
+pub(crate) fn write_escaped(out: &mut Vec<u8>, octets: &[u8]) -> Result<(), NoMemory>
     ensures { OnOk result (out.new.items ≡ out.old.items ++ lines.escaped octets.now) }
 {
     for octet in octets {
@@ -51,8 +51,9 @@ fn write_escaped(out: &mut Vec<u8>, octets: &[u8]) -> Result<(), NoMemory>
     Ok(())
 }
 
-/// Appends the first octets of a text, escaped, and two dots if there are more than `most`.
-pub(crate) fn write_shown(out: &mut Vec<u8>, octets: &[u8], most: usize) -> Result<(), NoMemory>
+/// Appends the first `most` octets of a text, and two dots if there are more. A backslash, a space
+/// and what isn't visible ASCII is written as `\\x` and two hexadecimal digits.
+pub fn write_shown(out: &mut Vec<u8>, octets: &[u8], most: usize) -> Result<(), NoMemory>
     ensures { OnOk result (out.new.items ≡ out.old.items ++ lines.shown most octets.now) }
 {
     if most < octets.len() {
