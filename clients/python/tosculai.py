@@ -46,7 +46,10 @@ class FrontAnswer(Error): """A front server answered. 401 and 403 are about the 
 
 
 class Refused(Error):
-    """The server refuses the request, and changes nothing. Each refusal is a class of its own."""
+    """The server refuses the request, and changes nothing. Each refusal is a class of its own.
+
+    A change of which the disk failed may have been made: that is a `LostReply`, not a `StoreFault`.
+    """
 
     classes: Dict[int, Type["Refused"]] = {}
 
@@ -181,8 +184,10 @@ class Office:
                 if connection:
                     connection.close()
                 error = fault
-            # Nothing is changed without a connection, or if the server itself says 503.
-            lost = lost or not (not connection or method == "GET" or isinstance(error, Refused))
+            # Nothing is changed without a connection, or if the server itself says 503; but the
+            # change may be made if its disk failed.
+            refused = isinstance(error, Refused) and not isinstance(error, StoreFault)
+            lost = lost or not (not connection or method == "GET" or refused)
             if not connection or lost and not safe:
                 break
         if isinstance(error, Refused) and not lost:

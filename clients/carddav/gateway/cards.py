@@ -15,6 +15,8 @@ from typing import Callable, Dict, Hashable, List, Set
 import vcard3
 from tosculai import UID, lines_of, uid_of
 
+from .values import parts_of
+
 FORM = "3"  # changes with each change of what clients read of a card, since ETags depend on it
 MEMBER = re.compile(r"((?:[\w-]+\.)?(?:X-ADDRESSBOOKSERVER-)?MEMBER(?:;[^:]*)?:)(.*)")
 URI = re.compile(r"[A-Za-z][A-Za-z0-9+.-]*:.")
@@ -109,8 +111,7 @@ def newer(text: str, base: str, has: Callable[[str], bool], uid: str,
     lines = [it for it in framed if name_of(it) not in (SHOWN, READ)]
     shown, as4 = _shown(framed), "VERSION:4.0" in lines
     _give_uid(lines, base, uid)
-    if not any(name_of(it) == "FN" for it in lines):
-        lines.insert(2, "FN:" + _made_name(lines))
+    _give_name(lines, lines_of(base))
     if base:
         lines[-1:-1] = left_out(lines, lines_of(written(base, as4)),
                                 lambda it: it in shown or knows(it))
@@ -161,12 +162,38 @@ def bare_uid(uid: str) -> str:
     return bare[len(URN):] if bare.lower().startswith(URN) else bare
 
 
+def _give_name(lines: List[str], base: List[str]) -> None:
+    """A card without FN gets one, and an empty FN the same name, unless the base's is empty too."""
+    at = [number for number, it in enumerate(lines) if name_of(it) == "FN"]
+    if not at:
+        lines.insert(2, "FN:" + _made_name(lines))
+    elif not _is_named(lines) and (not base or _is_named(base)):
+        lines[at[0]] = lines[at[0]].partition(":")[0] + ":" + _made_name(lines)
+
+
+def _is_named(lines: List[str]) -> bool:
+    """Whether a card has an FN that isn't empty."""
+    found = [vcard3.read_line(it) for it in lines if name_of(it) == "FN"]
+    return any(line and line.value.strip() for line in found)
+
+
 def _made_name(lines: List[str]) -> str:
-    """A name for a card without FN: a card must have one, and no phone's card is refused for it."""
-    found = {line.name: line.value for line in map(vcard3.read_line, reversed(lines)) if line}
-    family, given = (found.get("N", "") + ";").split(";")[:2]
-    whole = " ".join(it for it in (given, family) if it)
-    return whole or next((found[it] for it in ("ORG", "EMAIL", "TEL") if found.get(it)), "")
+    """A name for a card without one: a card must have one, and no phone's card is refused for it."""
+    found = [line for line in map(vcard3.read_line, lines) if line]
+    names = [_name_in(line) for it in ("N", "ORG", "EMAIL", "TEL") for line in found
+             if line.name == it]
+    return next((it for it in names if it), "")
+
+
+def _name_in(line: vcard3.Line) -> str:
+    """The name that a line gives: of N the given and the family name, of ORG the organization."""
+    if line.name in ("EMAIL", "TEL"):
+        return line.value.strip()
+    parts = parts_of(line.value, ";")
+    if line.name == "ORG":
+        return parts[0].strip()
+    words = [it for part in reversed(parts[:2]) for it in parts_of(part, ",")]
+    return " ".join(" ".join(words).split())
 
 
 def left_out(lines: List[str], base: List[str], knows: Callable[[str], bool]) -> List[str]:
