@@ -95,6 +95,11 @@ def odd(value):
                  "creations, the others removals")
 
 
+def no_host(value):
+    return error(f"invalid value '{value}' for '--host <NAME>': it needs a name without a port, as "
+                 "office.example, and one --host for each name")
+
+
 def no_form(value):
     possible = "\n  [possible values: cards, columns]"
     return error(f"invalid value '{value}' for '--form <F>'{possible}")
@@ -267,6 +272,17 @@ NO_VALUES = [
     ("mirror a.db staff --pages", no_value("--pages <P>")),
 ]
 
+# Names that no field Host has, or has beside a port alone.
+NO_HOSTS = [
+    *((["run", "a.db", f"--host={name}"], no_host(name)) for name in [
+        "", "office:443", "office:", ":443", "a b", " office", "*", "*.example", "office/", "a,b",
+        "http://office", "ann@office", "a\tb", "::1", "[::1", "::1]", "[::1]:443", "[]", "[[::1]]",
+        "[::1]x", "[g::1]", "[]:[]", "a[1]"]),
+    (["run", "--host", "office", "a.db", "--host", "a.example:8080", "--host", "*"],
+     no_host("a.example:8080")),
+    (["run", "--create", "--host", "", "a.db"], no_host("")),
+]
+
 # Numbers outside their ranges, and texts that are no numbers.
 NO_NUMBERS = [
     ("run a.db --port 65536", out_of_range(65536, "--port <P>", 0, 65535)),
@@ -382,7 +398,8 @@ GOOD = [
     "run a.db --max-held 16",
     "run a.db --max-held=1024",
     "run a.db --host office",
-    "run --host=office a.db --host office --host= --host a.example:8080",
+    "run --host=office a.db --host office --host a.EXAMPLE --host my_host-1.",
+    "run a.db --host 192.0.2.1 --host [::1] --host [2001:DB8::192.0.2.1] --host büro",
     "run --log -- a.db",
     "run --idle-timeout 5 a.db --host office --max-open 2 --log --port 0",
     "serve a.db",
@@ -434,5 +451,5 @@ GOOD = [
     "verify -- --version",
 ]
 
-BAD = [*MISSING, *TOO_MANY, *UNKNOWN_ORDERS, *UNKNOWN_OPTIONS, *DOUBLED, *NO_VALUES, *NO_NUMBERS,
-       *SOCKET_AND_PORT, *BOTH_ORDERS, *NO_FORMS, *NO_VERSIONS]
+BAD = [*MISSING, *TOO_MANY, *UNKNOWN_ORDERS, *UNKNOWN_OPTIONS, *DOUBLED, *NO_VALUES, *NO_HOSTS,
+       *NO_NUMBERS, *SOCKET_AND_PORT, *BOTH_ORDERS, *NO_FORMS, *NO_VERSIONS]

@@ -23,9 +23,6 @@ Springfield",1 Main St,Springfield,,IL,62701,US,,Spouse,Bob,Blog,https://ann.tes
 Anniversary,2010-06-01,Shoe size,42
 """
 
-# The titles of those in which a cell is read as Windows-1252 though nothing says that it is.
-GUESSED = {"an octet that isn't UTF-8 is a character of Latin-1"}
-
 EXPORTS = [
     Export(
         "Google's columns of today; a label that is no type of RFC 6350 goes to X-ABLABEL",
@@ -134,7 +131,7 @@ EXPORTS = [
             "EMAIL:a@x.test",
             "FN:A\u00ff",
         ],
-        [],
+        ["row 1, line 2: read as Windows-1252: 1 cell that isn't UTF-8"],
     ),
 ]
 
@@ -423,6 +420,36 @@ KNOWN_HEADERS = [
             "ORG:Acme",
             "TITLE:Boss",
         ],
+    ),
+    (
+        "labels that are types, in English and German",
+        "First Name,Phone 1 - Label,Phone 1 - Value,Phone 2 - Label,Phone 2 - Value,"
+        "Phone 3 - Label,Phone 3 - Value,Phone 4 - Label,Phone 4 - Value,Phone 5 - Label,"
+        "Phone 5 - Value,E-mail 1 - Label,E-mail 1 - Value\n"
+        "Ann,Fax,1,Other Fax,2,Cell,3,Mobil,4,Privat,5,* Arbeit,a@x.test\n",
+        [
+            "EMAIL;TYPE=work;PREF=1:a@x.test",
+            "FN:Ann",
+            "N:;Ann;;;",
+            "TEL;TYPE=cell:3",
+            "TEL;TYPE=cell:4",
+            "TEL;TYPE=fax:1",
+            "TEL;TYPE=fax:2",
+            "TEL;TYPE=home:5",
+        ],
+    ),
+    (
+        "Outlook's main and primary numbers",
+        "First Name,Last Name,E-mail Address,Business Phone,Company Main Phone,Primary Phone,"
+        "Other Phone\nAnn,Lee,a@x.test,1,2,3,4\n",
+        ["EMAIL:a@x.test", "FN:Ann Lee", "N:Lee;Ann;;;", "TEL:4", "TEL;TYPE=work,x-main:2",
+         "TEL;TYPE=work:1", "TEL;TYPE=x-primary:3"],
+    ),
+    (
+        "a year of zeros",
+        "First Name,Last Name,Birthday,Anniversary,E-mail Address\n"
+        "Ann,Lee,0000-04-15,15.04.0000,a@x.test\n",
+        ["ANNIVERSARY:--0415", "BDAY:--0415", "EMAIL:a@x.test", "FN:Ann Lee", "N:Lee;Ann;;;"],
     ),
     (
         "a birthday without its year in three columns",

@@ -27,14 +27,38 @@ def numbers(written, changed, aside, refused, files=None):
             f"{int(refused)} not carried{made}\n")
 
 
-def guesses(cells=0, lines=0):
-    """What is said of cells and lines that are read as Windows-1252 since they aren't UTF-8."""
-    told = ""
-    for count, thing in (cells, "cell"), (lines, "line"):
-        if count:
-            things = f"{count:,} {thing} that isn't" if count == 1 else f"{count:,} {thing}s that aren't"
-            told += f"read as Windows-1252: {things} UTF-8\n"
-    return told
+GUESS = re.compile(r"read as Windows-1252: ([\d,]+) (cell|line)s? that (?:isn't|aren't) UTF-8")
+MAC_ROMAN = ("lines end with CR alone, so the letters may be Mac Roman: if a name is wrong, convert "
+             "with --charset macintosh\n")
+
+
+def guess(count, thing):
+    """What is said of so many cells or lines that are read as Windows-1252 since they aren't UTF-8."""
+    things = f"{count:,} {thing} that isn't" if count == 1 else f"{count:,} {thing}s that aren't"
+    return f"read as Windows-1252: {things} UTF-8"
+
+
+def guesses(cells=0, lines=0, returns=False):
+    """What is said of them at the end. If lines end with a carriage return alone, they may be those
+    of a Mac."""
+    told = "".join(guess(count, thing) + "\n"
+                   for count, thing in ((cells, "cell"), (lines, "line")) if count)
+    return told + MAC_ROMAN * (returns and bool(told))
+
+
+def guessed_by(lines, returns):
+    """What is said at the end of the guesses that these lines list."""
+    counts = {"cell": 0, "line": 0}
+    for line in lines:
+        found = GUESS.fullmatch(line.split(": ", 1)[1])
+        if found:
+            counts[found[2]] += int(found[1].replace(",", ""))
+    return guesses(counts["cell"], counts["line"], returns)
+
+
+def are_changes(lines):
+    """Whether one of the lines says more than that something was read as Windows-1252."""
+    return any(not GUESS.fullmatch(line.split(": ", 1)[1]) for line in lines)
 
 
 def form_of(words):
@@ -54,13 +78,15 @@ def weight(line):
     return 2 if any(words in line for words in lost) else 1
 
 
-def digest(lines, written, changed, refused, files=None, guessed=""):
-    """What is printed if these lines are listed, each `card 1, line 2: WORDS` or `row ..`. `guessed`
-    is what is said of guesses."""
+def digest(lines, written, changed, refused, files=None, returns=False):
+    """What is printed if these lines are listed, each `card 1, line 2: WORDS` or `row ..`. `returns`
+    says that the lines of the file end with a carriage return alone."""
     forms, told, aside = {}, [], set()
     for line in lines:
         found = re.fullmatch(r"(?:(card|row) (\d+), )?line (\d+): (.*)", line)
         kind, number, place, words = found.groups()
+        if GUESS.fullmatch(words):
+            continue
         form = form_of(words)
         if form:
             forms[form] = forms.get(form, 0) + 1
@@ -83,7 +109,7 @@ def digest(lines, written, changed, refused, files=None, guessed=""):
     for (text, name, thing), count in forms.items():
         things = f"{count:,} {thing}" + ("" if count == 1 else "s")
         end.append(text.format(name=name, count=things, be="isn't" if count == 1 else "aren't"))
-    end += guessed.splitlines()
+    end += guessed_by(lines, returns).splitlines()
     if printed:
         end.append("look first at: " + max(printed, key=weight))
     return ("".join(line + "\n" for line in printed + end)

@@ -35,14 +35,6 @@ def added_uid(octets):
     return uuid.UUID(bytes=digest[:16], version=5).urn
 
 
-# How many lines of a card are read as Windows-1252 though nothing says that they are.
-GUESSED = {
-    "octets that Windows-1252 has no character for": 2,
-    "a line most of which is UTF-8 is UTF-8, and what is no character of it U+FFFD; any other "
-    "line is Windows-1252": 2,
-    "Windows-1252, a path, images without a TYPE, and encodings that can't be undone": 1,
-}
-
 CARDS = [
     Converted(
         "vCard 4.0 stays as it is",
@@ -167,7 +159,8 @@ CARDS = [
         card("3.0", "UID:a", "FN:M\udc81ller", "NOTE:\udc80\udc8d\udc8f\udc90\udc9d\udc9f"),
         ["UID:a", "FN:M\ufffdller", "NOTE:€\ufffd\ufffd\ufffd\ufffdŸ"],
         ["line 4: FN rewritten", "line 5: NOTE rewritten",
-         "line 1: FN has U+FFFD in place of characters that couldn't be read"],
+         "line 1: FN has U+FFFD in place of characters that couldn't be read",
+         "line 1: read as Windows-1252: 2 lines that aren't UTF-8"],
     ),
     Converted(
         "a line most of which is UTF-8 is UTF-8, and what is no character of it U+FFFD; any other "
@@ -179,7 +172,8 @@ CARDS = [
          "ORG:Österleü „Spaß“", "TITLE:Ã¼ü"],
         ["line 4: FN rewritten", "line 5: NOTE rewritten", "line 6: ORG rewritten",
          "line 7: TITLE rewritten",
-         "line 1: FN has U+FFFD in place of characters that couldn't be read"],
+         "line 1: FN has U+FFFD in place of characters that couldn't be read",
+         "line 1: read as Windows-1252: 2 lines that aren't UTF-8"],
     ),
     Converted(
         "a line that is no property is kept",
@@ -374,7 +368,43 @@ CARDS = [
          "PHOTO:data:image/gif;base64,R0lGODlh", "LOGO:data:image/png;base64,iVBORw==",
          "ROLE;X-CHARSET=GB2312:a", "SOUND;ENCODING=b:*", "UID:a"],
         ["line 4: NOTE rewritten", "line 5: NOTE rewritten", "line 6: TITLE rewritten",
-         "line 7: PHOTO rewritten", "line 8: LOGO rewritten", "line 9: ROLE rewritten"],
+         "line 7: PHOTO rewritten", "line 8: LOGO rewritten", "line 9: ROLE rewritten",
+         "line 1: read as Windows-1252: 1 line that isn't UTF-8"],
+    ),
+    Converted(
+        "quoted-printable that isn't UTF-8 is Windows-1252 if nothing says what it is",
+        card(
+            "2.1",
+            "UID:a",
+            "FN;ENCODING=QUOTED-PRINTABLE:J=F6rg M=FC=",
+            "ller",
+            "NOTE;CHARSET=UTF-8;ENCODING=QUOTED-PRINTABLE:=80 5",
+            "TITLE;CHARSET=windows-1252;ENCODING=QUOTED-PRINTABLE:Gesch=E4ft",
+            "ROLE;ENCODING=QUOTED-PRINTABLE:M=C3=BCller",
+            "TEL;FAX;X-A=FA;QUOTED-PRINTABLE:1",
+        ),
+        ["UID:a", "FN:Jörg Müller", "NOTE:€ 5", "TITLE:Geschäft", "ROLE:Müller",
+         "TEL;TYPE=fax;X-A=FA:1"],
+        ["line 4: FN rewritten", "line 6: NOTE rewritten", "line 7: TITLE rewritten",
+         "line 8: ROLE rewritten", "line 9: TEL rewritten",
+         "line 1: read as Windows-1252: 2 lines that aren't UTF-8"],
+    ),
+    Converted(
+        "a year of zeros is none",
+        card("3.0", "UID:a", "FN:Ann", "BDAY:0000-04-15", "ANNIVERSARY:00000501",
+             "X-ANNIVERSARY:0000-06-01", "BDAY;VALUE=text:0000-04-15", "BDAY:2000-04-15",
+             "NOTE:0000-04-15"),
+        ["UID:a", "FN:Ann", "BDAY:--0415", "ANNIVERSARY:--0501", "X-ANNIVERSARY:--0601",
+         "BDAY;VALUE=text:0000-04-15", "BDAY:20000415", "NOTE:0000-04-15"],
+        ["line 5: BDAY rewritten", "line 6: ANNIVERSARY rewritten",
+         "line 7: X-ANNIVERSARY rewritten", "line 9: BDAY rewritten"],
+    ),
+    Converted(
+        "Mac Roman, as Python's mac_roman reads it",
+        card("2.1", "UID:a", "FN;CHARSET=macintosh:J\udc9arg M\udc9fller",
+             "NOTE;CHARSET=x-mac-roman;QUOTED-PRINTABLE:=80=A7=DB=CA=F0"),
+        ["UID:a", "FN:Jörg Müller", "NOTE:Äß€\u00a0\uf8ff"],
+        ["line 4: FN rewritten", "line 5: NOTE rewritten"],
     ),
     Converted(
         "images whose TYPE names no format, by their first octets; one that does decides",

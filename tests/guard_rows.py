@@ -4,7 +4,7 @@ The server has the names NAMES beside those of the loopback. The rules are those
 written out by hand; `model.http.guard` computes the same.
 """
 
-NAMES = ["contacts.example", "Office", ""]
+NAMES = ["contacts.example", "Office"]
 
 # Values of a Host field.
 HOSTS = [

@@ -135,8 +135,11 @@ class Lossy:
     """A proxy that loses requests and replies. It serves one connection at a time.
 
     `losses` says what happens to the next requests, one after another: "request" is lost before it
-    reaches the server, "reply" after it was done, and "" arrives, as does all that follows.
+    reaches the server, "reply" after it was done, "fault" is done and replied as a failure of the
+    disk may be, and "" arrives, as does all that follows.
     """
+
+    FAULT = b'{"fault":"store-fault","number":19}'
 
     def __init__(self, server, losses=()):
         self.server, self.losses = server, list(losses)
@@ -174,6 +177,10 @@ class Lossy:
         self.before_request(octets)
         loss = self.losses.pop(0) if self.losses else self.draw()
         reply = b"" if loss == "request" else self.server.ask(octets)
+        if loss == "fault":
+            head = "HTTP/1.1 503 Service Unavailable\r\nContent-Type: application/json\r\n"
+            head += f"Content-Length: {len(self.FAULT)}\r\nConnection: close\r\n\r\n"
+            client.sendall(head.encode() + self.FAULT)
         if loss:
             self.after_loss()
             return False

@@ -73,6 +73,41 @@ class Merges(unittest.TestCase):
             with self.subTest(other):
                 self.assertNotEqual(cards.key_of(one), cards.key_of(other))
 
+    # The lines that a phone sends beside the UID, and the FN that the card gets.
+    NAMED = [
+        (["N:;;;;", "ORG:Acme;"], "FN:Acme"), (["FN:", "N:;;;;", "ORG:Acme;Sales"], "FN:Acme"),
+        (["FN:", "N:Lee;Ann;;;"], "FN:Ann Lee"), (["FN: ", "N:Lee"], "FN:Lee"),
+        (["FN;X-A=1:", "N:;Ann;;;"], "FN;X-A=1:Ann"), (["FN:", "N:Lee,Low;Ann,Bo;;;"],
+                                                      "FN:Ann Bo Lee Low"),
+        (["N:a\\;b\\,c;Ann;;;"], "FN:Ann a\\;b\\,c"), (["ORG:a\\;b;c"], "FN:a\\;b"),
+        (["N:;;;;", "ORG:;Sales", "EMAIL:a@x.test"], "FN:a@x.test"), (["ORG: Acme ;"], "FN:Acme"),
+        (["FN:", "TEL:+1"], "FN:+1"), (["FN:", "NOTE:a"], "FN:"), (["NOTE:a"], "FN:"),
+        (["FN:", "FN:Ann", "N:Lee;;;;"], "FN:"), (["FN:Ann", "N:Lee;Bo;;;"], "FN:Ann"),
+    ]
+
+    def test_names_that_are_made(self):
+        """Worked out by hand: N gives given and family names, ORG the organization."""
+        for form in "3.0", "4.0":
+            for lines, wanted in self.NAMED:
+                with self.subTest(form=form, lines=lines):
+                    sent = ["BEGIN:VCARD", f"VERSION:{form}", "UID:a", *lines, "END:VCARD"]
+                    made = self.newer("".join(it + "\r\n" for it in sent), "")
+                    names = [it for it in lines_of(made) if it.startswith("FN")]
+                    self.assertEqual(wanted, names[0])
+                    read_card(made.encode())
+
+    def test_an_empty_name_of_an_edit(self):
+        """It gets a name, unless it was empty before and nobody edited it."""
+        for form in "3.0", "4.0":
+            for before, wanted in ("FN:Ann Lee", "FN:Bo Lee"), ("FN:", "FN:"):
+                with self.subTest(form=form, before=before):
+                    base = card("a", "Ann Lee", "N:Lee;Ann;;;").replace("FN:Ann Lee", before)
+                    sent = ["BEGIN:VCARD", f"VERSION:{form}", "UID:a", "FN:", "N:Lee;Bo;;;",
+                            "END:VCARD"]
+                    made = self.newer("".join(it + "\r\n" for it in sent), base)
+                    self.assertEqual([wanted, "N:Lee;Bo;;;"], [
+                        it for it in lines_of(made) if it.startswith(("FN", "N"))])
+
     def test_a_uid_in_another_spelling(self):
         for uid, spelled in [("a,b;c", "a\\,b\\;c"), ("urn:uuid:7-7", "7-7"),
                              ("7-7", "urn:uuid:7-7"), ("a", None)]:

@@ -41,6 +41,25 @@ CELLS = [
         ["Anrede kept as X-ANREDE"],
     ),
     (
+        "several telephone numbers in a cell",
+        "Name,E-Mail,Phone,Mobile Phone,Home Phone\n"
+        'Ann,a@x.test,"030 11111; +49 30 22222","0171 33333\n0172 44444",030 55555 / 030 66666\n',
+        ["EMAIL:a@x.test", "FN:Ann", "TEL:+49 30 22222", "TEL:030 11111",
+         "TEL;TYPE=cell:0171 33333", "TEL;TYPE=cell:0172 44444", "TEL;TYPE=home:030 55555",
+         "TEL;TYPE=home:030 66666", "X-HOME-PHONE:030 55555 / 030 66666",
+         "X-MOBILE-PHONE:0171 33333\\n0172 44444", "X-PHONE:030 11111\\; +49 30 22222"],
+        ["Phone kept as X-PHONE", "Mobile Phone kept as X-MOBILE-PHONE",
+         "Home Phone kept as X-HOME-PHONE"],
+    ),
+    (
+        "one telephone number with signs in it",
+        "Name,E-Mail,Phone,Mobile Phone,Home Phone\n"
+        "Ann,a@x.test,030/11111,+1 800 5551234;12,030 55555 / 66666\n",
+        ["EMAIL:a@x.test", "FN:Ann", "TEL:030/11111", "TEL;TYPE=cell:+1 800 5551234\\;12",
+         "TEL;TYPE=home:030 55555 / 66666"],
+        [],
+    ),
+    (
         "three columns of a birthday",
         "Name,Primary Email,Birth Year,Birth Month,Birth Day\nAnn,a@x.test,1980,4,5\n",
         ["BDAY:19800405", "EMAIL:a@x.test", "FN:Ann"],

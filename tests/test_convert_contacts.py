@@ -11,8 +11,8 @@ import unittest
 import uuid
 import zipfile
 
-from contact_rows import EXPORTS, GUESSED, KNOWN_HEADERS
-from conversion_reports import digest, guesses, numbers
+from contact_rows import EXPORTS, KNOWN_HEADERS
+from conversion_reports import are_changes, digest, numbers
 from converted_cards import added_uid
 from order_trials import OrderTest
 from program import ROOT, Ended, run
@@ -178,7 +178,7 @@ class ConvertContacts(OrderTest):
         for title, octets, lines, changes in EXPORTS:
             with self.subTest(title):
                 ended = self.convert(octets)
-                due = digest(changes, 1, bool(changes), 0, guessed=guesses(cells=title in GUESSED))
+                due = digest(changes, 1, are_changes(changes), 0)
                 self.assertEqual(due, ended.err.decode())
                 [[uid, card]] = rows_of(ended.out)
                 self.assertEqual(lines[0], "UID:" + uid)

@@ -7,10 +7,11 @@ with what is converted of each of them alone.
 import csv
 import io
 import os
+import re
 import resource
 import unittest
 
-from conversion_reports import digest, guesses, numbers
+from conversion_reports import digest, guess, guesses, numbers
 from converted_cards import added_uid, card
 from order_trials import OrderTest
 from program import Ended, run
@@ -252,18 +253,64 @@ class ConvertFiles(OrderTest):
         self.write(a_vcf=text(lines).encode("latin-1"), b_vcf=text(
             card("3.0", "UID:a", "FN:A")).encode().replace(b"FN:A", b"FN:J\xc3\r\n \xb6rg"))
         listed = [f"card 1, line {line}" for line in
-                  ("4: FN rewritten", "5: NOTE rewritten", "6: TITLE rewritten")]
-        for name, changes, guessed in [("a.vcf", listed, guesses(lines=2)), ("b.vcf", [], "")]:
+                  ("4: FN rewritten", "5: NOTE rewritten", "6: TITLE rewritten",
+                   "1: " + guess(2, "line"))]
+        for name, changes in ("a.vcf", listed), ("b.vcf", []):
             with self.subTest(name):
                 ended = self.convert(name)
-                due = digest(changes, 1, bool(changes), 0, guessed=guessed)
+                due = digest(changes, 1, bool(changes), 0)
                 self.assertEqual((0, due), (ended.status, ended.err.decode()))
+
+    def test_each_guess_is_listed(self):
+        """The report in a file has a line for each row and card of which something is guessed."""
+        rows = "First Name,E-mail Address,Notes\nJörg,a@x.test,Grüße\nAnn,b@x.test,\nAndré,,\n"
+        self.write(a_csv=rows.encode("cp1252"), a_vcf=text(
+            card("3.0", "UID:a", "FN:Zoë", "NOTE:ü") + card("3.0", "UID:b", "FN:Ann")
+        ).encode("latin-1"))
+        for name, listed in [
+            ("a.csv", [f"row 1, line 2: {guess(2, 'cell')}", f"row 3, line 4: {guess(1, 'cell')}"]),
+            ("a.vcf", ["card 1, line 4: FN rewritten", "card 1, line 5: NOTE rewritten",
+                       f"card 1, line 1: {guess(2, 'line')}"]),
+        ]:
+            with self.subTest(name):
+                ended = self.convert(name, "--report", "r.txt")
+                report = (self.folder / "r.txt").read_text(encoding="utf-8")
+                whole = "".join(f"{line}\n" for line in listed) + ended.err.decode()
+                self.assertEqual((0, whole), (ended.status, report))
+                (self.folder / "r.txt").unlink()
+
+    def test_mac_roman(self):
+        """A file whose lines end with CR alone may be Mac Roman: so it is told, if a guess is made,
+        and read with its character set."""
+        rows = "Name;E-Mail;Ort\nJörg Müller;a@x.test;Gänßhöhe\nÄnne Groß;b@x.test;Köln\n"
+        names = ["Jörg Müller", "Änne Groß"]
+        cards = "".join(text(card("3.0", f"UID:{name}", f"FN:{name}"), "\n") for name in names)
+        for name, octets, told in [("a.csv", rows, guesses(cells=4, returns=True)),
+                                   ("a.vcf", cards, guesses(lines=4, returns=True))]:
+            for end in "\r", "\n":
+                with self.subTest(name, end=end):
+                    coded = octets.replace("\n", end).encode("mac_roman")
+                    (self.folder / name).write_bytes(coded)
+                    ended = self.convert(name)
+                    due = told if end == "\r" else told.split("\n")[0] + "\n"
+                    self.assertEqual(0, ended.status, ended)
+                    self.assertIn(due, ended.err.decode())
+                    self.assertEqual(end == "\r", "macintosh" in ended.err.decode(), ended)
+                    for option in "macintosh", "Macintosh", "x-mac-roman", "mac":
+                        ended = self.convert(name, "--charset", option)
+                        self.assertEqual((0, numbers(2, 0, 0, 0)),
+                                         (ended.status, ended.err.decode()))
+                        found = re.findall("^FN:(.*)\r$", ended.out.decode(), re.MULTILINE)
+                        self.assertEqual(names, found)
+        # A file in UTF-8 whose lines end so is no guess.
+        (self.folder / "a.csv").write_bytes(rows.replace("\n", "\r").encode())
+        self.assertEqual(numbers(2, 0, 0, 0), self.convert("a.csv").err.decode())
 
     def test_lost_characters_count_as_a_change(self):
         told = "FN has U+FFFD in place of characters that couldn't be read"
         self.write(a_csv=b"Name,Email\nJ\x81rg,a@x.test\nAnn,b@x.test\n")
         ended = self.convert("a.csv")
-        due = digest([f"row 1, line 2: {told}"], 2, 1, 0, guessed=guesses(cells=1))
+        due = digest([f"row 1, line 2: {told}", f"row 1, line 2: {guess(1, 'cell')}"], 2, 1, 0)
         self.assertEqual((0, due), (ended.status, ended.err.decode()))
         # A card of vCard 4.0 that has such a character is carried as it is.
         self.write(a_vcf=text(card("4.0", "UID:a", "FN:J\ufffdrg")).encode())

@@ -412,6 +412,7 @@ class ConvertOptions(OrderTest):
             ("KOI8-R", "koi8_r", "Иванов"), ("ISO-8859-7", "iso8859_7", "Ωμέγα"),
             ("UTF-16LE", "utf-16-le", "Łódź"), ("utf-16be", "utf-16-be", "Иванов"),
             ("UTF-16", "utf-16", "Ωμέγα"), ("UTF-8", "utf-8", "Łódź"),
+            ("macintosh", "mac_roman", "Ünal Groß"),
         ]:
             rows = [["Name", "E-Mail", "Note"], [text, "a@x.test", text * 3000]]
             card = f"BEGIN:VCARD\r\nVERSION:3.0\r\nFN:{text}\r\nN:{text};;;;\r\nEND:VCARD\r\n"
@@ -427,8 +428,10 @@ class ConvertOptions(OrderTest):
 
     def test_every_octet_of_a_charset(self):
         """Each octet that Python's codec has a character for."""
-        for name, codec in ("windows-1252", "cp1252"), ("koi8-u", "koi8_u"):
-            text = bytes(range(0xA0, 0x100)).decode(codec)
+        for name, codec in [("windows-1252", "cp1252"), ("koi8-u", "koi8_u"),
+                            ("macintosh", "mac_roman"), ("X-Mac-Roman", "mac_roman")]:
+            first = 0x80 if codec == "mac_roman" else 0xA0
+            text = bytes(range(first, 0x100)).decode(codec)
             octets = csv_text([["Name", "E-Mail"], [text, ""]]).encode(codec)
             [fn] = values(self.convert(octets, "--charset", name), "FN:")
             self.assertEqual(text, fn)

@@ -289,6 +289,28 @@ class Columns(ConvertTest):
         self.assertIn("NOTE:tea", part["rows"][0]["vcard"])
         self.assertNotIn("TEL", part["rows"][0]["vcard"])
 
+    def test_guesses_are_told(self):
+        """Each card and row of which something isn't UTF-8 and is read as Windows-1252."""
+        rows = "Name,E-Mail,Note\nJörg,a@x.test,Grüße\nAnn,b@x.test,\nAndré,c@x.test,\n"
+        cards = ("BEGIN:VCARD\nVERSION:4.0\nUID:a\nFN:Zoë\nEND:VCARD\n"
+                 "BEGIN:VCARD\nVERSION:4.0\nUID:b\nFN:Ann\nEND:VCARD\n"
+                 "BEGIN:VCARD\nVERSION:2.1\nUID:c\nFN:Bo\n"
+                 "NOTE;QUOTED-PRINTABLE:=FC=\n =E4\nTITLE:ä\nEND:VCARD\n")
+        for name, text, wanted in [
+            ("a.csv", rows, [(1, 2, "read as Windows-1252: 2 cells that aren't UTF-8"),
+                             (3, 4, "read as Windows-1252: 1 cell that isn't UTF-8")]),
+            ("a.vcf", cards, [(1, 4, "FN rewritten"),
+                              (1, 1, "read as Windows-1252: 1 line that isn't UTF-8"),
+                              (3, 15, "NOTE rewritten"), (3, 17, "TITLE rewritten"),
+                              (3, 11, "read as Windows-1252: 2 lines that aren't UTF-8")]),
+        ]:
+            with self.subTest(name):
+                octets = text.encode("latin-1")
+                part = self.part(octets)
+                found = [(it["card"], it["line"], it["text"]) for it in part["report"]]
+                self.assertEqual(wanted, found)
+                self.compare(octets, name)
+
     def test_dates_are_told(self):
         rows = [("05/04/1980", "unknown"), ("15/04/1980", "day"), ("04/15/1980", "month"),
                 ("1980-04-05", "none"), ("04/04/1980", "none"), ("", "none")]

@@ -235,7 +235,7 @@ class LostReplies(ClientTest):
         return sum(line["number"] for line in self.office.books())
 
     def test_changes_that_are_repeated(self):
-        for losses in [["request"], ["reply"], ["reply", "request", "reply"]]:
+        for losses in [["request"], ["reply"], ["fault"], ["reply", "request", "reply"]]:
             for at, (change, value, numbers) in enumerate(self.CHANGES):
                 with self.subTest(losses=losses, change=at):
                     self.doCleanups()
@@ -251,9 +251,10 @@ class LostReplies(ClientTest):
         """Without a version a repeated change might undo somebody else's."""
         self.staff.put(card("a", "Ann"))
         for call in [lambda staff: staff.put(card("a", "Anna")), lambda staff: staff.remove("a")]:
-            with Lossy(self.server, ["reply"]) as proxy:
-                self.refused(LostReply, call, office(proxy).book("staff"))
-                self.assertEqual(1, len(proxy.requests))
+            for loss in ["reply", "fault"]:
+                with self.subTest(loss), Lossy(self.server, [loss]) as proxy:
+                    self.refused(LostReply, call, office(proxy).book("staff"))
+                    self.assertEqual(1, len(proxy.requests))
 
     def test_somebody_edits_after_a_lost_reply(self):
         with Lossy(self.server, ["reply"]) as proxy:

@@ -404,9 +404,11 @@ class Options(OrderTest):
         self.assertEqual((0, b"verified 0\n"), run("verify", "b.db", cwd=self.folder)[:2])
 
     def test_several_names(self):
-        server = self.start("--create", "--host", "a.example", "--host=B.example", "--host", "")
+        server = self.start("--create", "--host", "a.example", "--host=B.example",
+                            "--host", "[2001:db8::1]")
         for host, status in [("A.example", 200), ("b.EXAMPLE:1", 200), ("localhost", 200),
-                             ("c.example", 421), ("", 421), (":1", 421)]:
+                             ("[2001:DB8::1]", 200), ("[2001:db8::1]:443", 200),
+                             ("c.example", 421), ("", 421), (":1", 421), ("2001:db8::1", 421)]:
             with self.subTest(host):
                 reply = server.ask(request("GET", "/books", fields=[f"Host: {host}"], host=False))
                 self.assertEqual(b"HTTP/1.1 %d" % status, reply[:12])
