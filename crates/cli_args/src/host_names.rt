@@ -1,10 +1,10 @@
 //! The names by which a server may be reached.
-ghost use Rattle.std.specs.Prelude.{◌≡◌, count_by};
+ghost use Rattle.std.specs.Prelude.{◌≡◌, count_by, find, map, not, option_copied};
 ghost use Rattle.std.specs.List.{list_all};
 ghost use Rattle.clap.specs.Words.{found_of, rows_of};
-ghost use Rattle.cli_args.specs.HostNames.{begins_and_ends, holds_two_brackets, is_address};
+ghost use Rattle.cli_args.specs.HostNames.{first_wrong, has_two_brackets, is_address};
 ghost use Rattle.cli_args.specs.HostNames.{is_address_octet, is_bracket, is_host_name};
-ghost use Rattle.cli_args.specs.HostNames.{is_name_octet};
+ghost use Rattle.cli_args.specs.HostNames.{is_in_brackets, is_name_octet};
 ghost use Rattle.cli_args.specs.ParsedOrders as parsed;
 
 use clap::ArgMatches;
@@ -45,14 +45,14 @@ fn are_address_octets(octets: &[u8]) -> bool
     octets.iter().all(|octet| is_address_octet(*octet))
 }
 
-fn begins_and_ends(octets: &[u8]) -> bool
-    ensures { result ≡ begins_and_ends octets.now }
+fn is_in_brackets(octets: &[u8]) -> bool
+    ensures { result ≡ is_in_brackets octets.now }
 {
     octets.starts_with(b"[") && octets.ends_with(b"]")
 }
 
-fn holds_two_brackets(octets: &[u8]) -> bool
-    ensures { result ≡ holds_two_brackets octets.now }
+fn has_two_brackets(octets: &[u8]) -> bool
+    ensures { result ≡ has_two_brackets octets.now }
 {
     octets.len() > 2 && count_brackets(octets) == 2
 }
@@ -62,7 +62,7 @@ fn is_address(text: &str) -> bool
     ensures { result ≡ is_address text.now }
 {
     let octets = text.as_bytes();
-    begins_and_ends(octets) && holds_two_brackets(octets) && are_address_octets(octets)
+    is_in_brackets(octets) && has_two_brackets(octets) && are_address_octets(octets)
 }
 
 /// Whether the text is a name that the field Host may have, without a port.
@@ -89,15 +89,29 @@ pub(crate) fn has_host_names(matches: &ArgMatches<'_>, id: &str) -> bool
     }
 }
 
-/// The first text of an option that isn't the name of a host. Empty if each is one.
-pub(crate) fn wrong_host_name<'a>(matches: &'a ArgMatches<'_>, id: &str) -> &'a str {
-    let Some(texts) = matches.get_strs(id) else {
-        return "";
-    };
-    for text in texts {
-        if !is_host_name(*text) {
-            return *text;
-        }
+fn find_wrong<'t, 'a>(texts: &'t [&'a str]) -> Option<&'t &'a str>
+    ensures { option_copied result ≡ find (λ text. not (is_host_name text.now)) texts.now }
+{
+    texts.iter().find(|text| !is_host_name(**text))
+}
+
+/// The first of the texts that isn't the name of a host. Empty if each is one.
+fn first_wrong<'a>(texts: &[&'a str]) -> &'a str
+    ensures { result.now ≡ first_wrong (map (λ text. text.now) texts.now) }
+{
+    match find_wrong(texts) {
+        Some(text) => *text,
+        None => "",
     }
-    ""
+}
+
+/// The first text of an option that isn't the name of a host. Empty if each is one.
+pub(crate) fn wrong_host_name<'a>(matches: &'a ArgMatches<'_>, id: &str) -> &'a str
+    ensures { result.now ≡ first_wrong
+        (parsed.texts_arg id.now (rows_of (found_of matches.now))) }
+{
+    match matches.get_strs(id) {
+        Some(texts) => first_wrong(texts),
+        None => "",
+    }
 }
