@@ -96,7 +96,7 @@ def odd(value):
 
 
 def no_host(value):
-    return error(f"invalid value '{value}' for '--host <NAME>': it needs a name without a port, as "
+    return error(f"invalid value '{value}' for '--host <NAME>': it needs the name of a host, as "
                  "office.example, and one --host for each name")
 
 
@@ -272,14 +272,13 @@ NO_VALUES = [
     ("mirror a.db staff --pages", no_value("--pages <P>")),
 ]
 
-# Names that no field Host has, or has beside a port alone.
+# Names that no browser sends.
 NO_HOSTS = [
     *((["run", "a.db", f"--host={name}"], no_host(name)) for name in [
-        "", "office:443", "office:", ":443", "a b", " office", "*", "*.example", "office/", "a,b",
-        "http://office", "ann@office", "a\tb", "::1", "[::1", "::1]", "[::1]:443", "[]", "[[::1]]",
-        "[::1]x", "[g::1]", "[]:[]", "a[1]"]),
-    (["run", "--host", "office", "a.db", "--host", "a.example:8080", "--host", "*"],
-     no_host("a.example:8080")),
+        "", "a b", " office", "*", "*.example", "office/", "a,b", "http://office", "ann@office",
+        "a\tb"]),
+    (["run", "--host", "office:8080", "a.db", "--host", "*.example", "--host", "*"],
+     no_host("*.example")),
     (["run", "--create", "--host", "", "a.db"], no_host("")),
 ]
 

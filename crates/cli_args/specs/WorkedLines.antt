@@ -117,7 +117,7 @@ WorkedRuns =
     × (order_from (over_file (codes "run") (codes "--connections=1" ∷ [])) ≡ None)
     × (order_from (over_file (codes "run") (codes "--host=[::1]" ∷ []))
     ≡ Some (order.Run db 8080 None (codes "[::1]" ∷ []) 256 60 64 false false None))
-    × (order_from (over_file (codes "run") (codes "--host=a" ∷ codes "--host=b:443" ∷ [])) ≡ None)
+    × (order_from (over_file (codes "run") (codes "--host=a" ∷ codes "--host=b c" ∷ [])) ≡ None)
     × (order_from (over_file (codes "run") (codes "--host" ∷ [] ∷ [])) ≡ None)
 
 abbrev pub WorkedSockets : Type 0

@@ -1,25 +1,11 @@
 //! The names by which a server may be reached.
-ghost use Rattle.std.specs.Prelude.{◌≡◌, count_by, find, map, not, option_copied};
+ghost use Rattle.std.specs.Prelude.{◌≡◌, find, map, not, option_copied};
 ghost use Rattle.std.specs.List.{list_all};
 ghost use Rattle.clap.specs.Words.{found_of, rows_of};
-ghost use Rattle.cli_args.specs.HostNames.{first_wrong, has_two_brackets, is_address};
-ghost use Rattle.cli_args.specs.HostNames.{is_address_octet, is_bracket, is_host_name};
-ghost use Rattle.cli_args.specs.HostNames.{is_in_brackets, is_name_octet};
+ghost use Rattle.cli_args.specs.HostNames.{first_wrong, is_bracket, is_host_name, is_host_octet};
 ghost use Rattle.cli_args.specs.ParsedOrders as parsed;
 
 use clap::ArgMatches;
-
-fn is_name_octet(octet: u8) -> bool
-    ensures { result ≡ is_name_octet octet }
-{
-    octet.is_ascii_alphanumeric() || octet == b'-' || octet == b'.' || octet == b'_' || octet >= 128
-}
-
-fn are_name_octets(octets: &[u8]) -> bool
-    ensures { result ≡ list_all is_name_octet octets.now }
-{
-    octets.iter().all(|octet| is_name_octet(*octet))
-}
 
 fn is_bracket(octet: u8) -> bool
     ensures { result ≡ is_bracket octet }
@@ -27,49 +13,29 @@ fn is_bracket(octet: u8) -> bool
     octet == b'[' || octet == b']'
 }
 
-fn count_brackets(octets: &[u8]) -> usize
-    ensures { result ≡ count_by is_bracket octets.now }
+fn is_host_octet(octet: u8) -> bool
+    ensures { result ≡ is_host_octet octet }
 {
-    octets.iter().filter(|octet| is_bracket(**octet)).count()
+    octet.is_ascii_alphanumeric()
+        || octet == b'-'
+        || octet == b'.'
+        || octet == b'_'
+        || octet == b':'
+        || is_bracket(octet)
+        || octet >= 128
 }
 
-fn is_address_octet(octet: u8) -> bool
-    ensures { result ≡ is_address_octet octet }
+fn are_host_octets(octets: &[u8]) -> bool
+    ensures { result ≡ list_all is_host_octet octets.now }
 {
-    octet.is_ascii_hexdigit() || octet == b':' || octet == b'.' || is_bracket(octet)
+    octets.iter().all(|octet| is_host_octet(*octet))
 }
 
-fn are_address_octets(octets: &[u8]) -> bool
-    ensures { result ≡ list_all is_address_octet octets.now }
-{
-    octets.iter().all(|octet| is_address_octet(*octet))
-}
-
-fn is_in_brackets(octets: &[u8]) -> bool
-    ensures { result ≡ is_in_brackets octets.now }
-{
-    octets.starts_with(b"[") && octets.ends_with(b"]")
-}
-
-fn has_two_brackets(octets: &[u8]) -> bool
-    ensures { result ≡ has_two_brackets octets.now }
-{
-    octets.len() > 2 && count_brackets(octets) == 2
-}
-
-/// Whether the text is an address of IPv6 in brackets.
-fn is_address(text: &str) -> bool
-    ensures { result ≡ is_address text.now }
-{
-    let octets = text.as_bytes();
-    is_in_brackets(octets) && has_two_brackets(octets) && are_address_octets(octets)
-}
-
-/// Whether the text is a name that the field Host may have, without a port.
+/// Whether the text may be the name of a host or an address, perhaps with a port.
 fn is_host_name(text: &str) -> bool
     ensures { result ≡ is_host_name text.now }
 {
-    is_address(text) || (text.len() > 0 && are_name_octets(text.as_bytes()))
+    text.len() > 0 && are_host_octets(text.as_bytes())
 }
 
 fn are_host_names(texts: &[&str]) -> bool

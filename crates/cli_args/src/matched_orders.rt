@@ -73,8 +73,8 @@ fn run_order_of(alloc: Global, matches: &ArgMatches<'_>) -> Result<Order, LineFa
 const EMPTY_PATH: &str = "'--socket <PATH>': it needs the path of a socket";
 
 /// What is wrong with a name that is none of a host, and the name of the option, for messages.
-const WRONG_HOST: &str = "'--host <NAME>': it needs a name without a port, as office.example, and \
-     one --host for each name";
+const WRONG_HOST: &str = "'--host <NAME>': it needs the name of a host, as office.example, and one \
+     --host for each name";
 
 /// The order `run`, if a socket and a port weren't both given, the socket has a path, and each name
 /// is that of a host.
