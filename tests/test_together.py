@@ -74,6 +74,7 @@ class TogetherTest(ServedTest):
         while waits.is_alive():
             self.ask_other(tally("staff"))
             waits.join(0.05)
+        self.assertTrue(ended, "the connection stays open")
         return ended[0]
 
     def send_in_time(self, octets):
@@ -167,27 +168,25 @@ class Patience(TogetherTest):
         talk.hear(octets)
         talk.end()
 
-    def end_of_slow_body(self, length):
-        """When a client's connection ends that sends an octet of such a body now and then."""
+    def end_of_slow_body(self, length, most):
+        """The seconds after which a client's connection ends, at most so many, that sends an octet
+        of such a body now and then."""
         begun, connection = time.monotonic(), self.connect()
         connection.send(HEAD % length)
         while not select.select([connection.socket], [], [], 0.1)[0]:
             connection.send(b"x")
             self.ask_other(books())
+            self.assertLess(time.monotonic() - begun, most)
         self.assertEqual(b"", connection.rest())
         return time.monotonic() - begun
 
     def test_body_without_end(self):
         """An octet now and then doesn't keep a connection open."""
-        seconds = self.end_of_slow_body(4_000)
-        self.assertGreater(seconds, 0.8)
-        self.assertLess(seconds, 1 + SLACK)
+        self.assertGreater(self.end_of_slow_body(4_000, 1 + SLACK), 0.8)
 
     def test_a_long_body_has_longer(self):
         """One second more for each 4,096 octets: two, for a request of 8,192 and some."""
-        seconds = self.end_of_slow_body(8_192)
-        self.assertGreater(seconds, 2.8)
-        self.assertLess(seconds, 3 + SLACK)
+        self.assertGreater(self.end_of_slow_body(8_192, 3 + SLACK), 2.8)
 
     def test_requests_one_after_another(self):
         """Each has its own time, so a client that goes on is served for longer than one has."""
