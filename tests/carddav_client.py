@@ -10,13 +10,14 @@ import shutil
 import signal
 import subprocess
 import sys
+import time
 import unittest
 import xml.etree.ElementTree as ET
 from http.client import HTTPConnection, HTTPException
 from urllib.parse import quote, unquote
 
 import resynced
-from program import PATIENCE, ROOT, Folder, Server, run
+from program import PATIENCE, ROOT, Folder, Server, free_port, processor_time, run
 from python_client import office
 
 FOLDER = ROOT / "clients/carddav"
@@ -27,7 +28,7 @@ from tosculai_urls import UnixConnection  # noqa: E402
 D, C, CS = "{DAV:}", "{urn:ietf:params:xml:ns:carddav}", "{http://calendarserver.org/ns/}"
 SPACES = ('xmlns:D="DAV:" xmlns:C="urn:ietf:params:xml:ns:carddav"'
           ' xmlns:CS="http://calendarserver.org/ns/"')
-REPLY = 4 * PATIENCE  # seconds that a reply may take: others may have the processors meanwhile
+SPARE = 10  # seconds after which a client opens a new connection: the gateway closes silent ones
 PASSWORD = "a pässword: long"
 # The hash takes 50 ms, so it is made once for all users of all tests in a process.
 HASH = accounts.hashed(PASSWORD, "salt")
@@ -106,18 +107,20 @@ class Client:
     """A program with a user, over one connection that it opens again."""
 
     def __init__(self, place, user="ann", password=PASSWORD, program="Test/1.0"):
-        self.place, self.connection = place, None
+        self.place, self.connection, self.used = place, None, 0
         pair = base64.b64encode(f"{user}:{password}".encode()).decode()
         self.fields = {"Authorization": "Basic " + pair, "User-Agent": program}
 
     def connect(self):
         if isinstance(self.place, str):
-            return UnixConnection(self.place, timeout=REPLY)
-        return HTTPConnection(*self.place, timeout=REPLY)
+            return UnixConnection(self.place, timeout=PATIENCE)
+        return HTTPConnection(*self.place, timeout=PATIENCE)
 
     def ask(self, method, path, body=b"", **fields):
         named = {name.replace("_", "-"): it for name, it in fields.items() if it is not None}
         octets = body.encode() if isinstance(body, str) else body
+        if time.monotonic() - self.used > SPARE:
+            self.close()
         self.connection = self.connection or self.connect()
         try:
             self.connection.request(method, path, octets, {**self.fields, **named})
@@ -126,6 +129,7 @@ class Client:
         except (OSError, HTTPException):
             self.close()
             raise
+        self.used = time.monotonic()
         if reply.will_close:
             self.close()
         return whole
@@ -164,10 +168,11 @@ class Stack:
 
     def __init__(self, folder, users=None, more=(), books=("staff", "clients"), socket=False):
         self.folder, self.more = folder, list(more)
-        self.place = str(folder / "gateway.sock") if socket else None
+        # Both are started again at the places that they had.
+        self.place = str(folder / "gateway.sock") if socket else ("127.0.0.1", free_port())
+        self.port = free_port()
         run("init", folder / "office.db")
-        self.server = Server(folder / "office.db")
-        self.port = self.server.address[1]
+        self.server = Server(folder / "office.db", port=self.port)
         self.url = f"http://127.0.0.1:{self.port}"
         self.office = office(self.server)
         self.books = [self.office.create(it) for it in books]
@@ -181,7 +186,7 @@ class Stack:
 
     def start(self):
         where = ["--socket", self.place] if isinstance(self.place, str) else \
-            ["--port", self.place[1] if self.place else 0]
+            ["--port", self.place[1]]
         self.log = open(self.folder / "log", "ab")
         self.gateway = subprocess.Popen(
             [sys.executable, str(FOLDER / "carddav"), "--server", self.url, "--state",
@@ -190,8 +195,6 @@ class Stack:
         line = self.gateway.stdout.readline().decode()
         if not line.startswith("listening "):
             raise AssertionError(f"no gateway: {line}{self.logged()}")
-        if not isinstance(self.place, str):
-            self.place = ("127.0.0.1", int(line.rpartition(":")[2]))
 
     def logged(self):
         return (self.folder / "log").read_text()
@@ -250,9 +253,7 @@ class Stack:
 
     def processor_time(self):
         """The seconds of processors that the gateway has had."""
-        with open(f"/proc/{self.gateway.pid}/stat", encoding="ascii") as file:
-            words = file.read().rpartition(")")[2].split()
-        return (int(words[11]) + int(words[12])) / os.sysconf("SC_CLK_TCK")
+        return processor_time(self.gateway.pid)
 
     def client(self, user="ann", **more):
         return Client(self.place, user, **more)

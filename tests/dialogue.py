@@ -6,6 +6,7 @@ exactly if the model does.
 
 import os
 import socket
+import time
 import unittest
 from contextlib import contextmanager
 
@@ -16,6 +17,33 @@ from program import Folder, Server, run
 
 # How often at most a test looks whether the server sleeps: then it has read what was sent.
 LOOKS_MAX = 100
+
+
+class Pace:
+    """The longest time between two marks, the first of which is the beginning."""
+
+    def __init__(self):
+        self.longest, self.last = 0, time.monotonic()
+
+    def mark(self):
+        now = time.monotonic()
+        self.longest, self.last = max(self.longest, now - self.last), now
+
+
+def again_if_slow(attempt, most):
+    """Makes the attempt of a client that the server gives up if it is too slow. It marks its steps.
+
+    If it fails, and a step took more than so many seconds, the machine was slow: then it is made
+    again, up to five times in all.
+    """
+    for left in reversed(range(5)):
+        pace = Pace()
+        try:
+            return attempt(pace)
+        except AssertionError:
+            pace.mark()
+            if pace.longest < most or not left:
+                raise
 
 
 class ServedTest(unittest.TestCase):

@@ -28,7 +28,7 @@ def pack(tree, out, mask, *more, **environment):
 
 def wait_for(process):
     """Waits until it has packed. It takes some seconds of a processor."""
-    said = process.communicate(timeout=4 * PATIENCE)[0]
+    said = process.communicate(timeout=PATIENCE)[0]
     if process.returncode:
         raise AssertionError(said.decode())
 

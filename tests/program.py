@@ -4,6 +4,7 @@ The program is the one that `./contacts` runs, or the file that the environment'
 Nothing here knows what the program should reply; tests/model computes that.
 """
 
+import itertools
 import os
 import shutil
 import socket
@@ -14,7 +15,10 @@ from pathlib import Path
 
 ROOT = Path(__file__).resolve().parent.parent
 PROGRAM = os.path.abspath(os.environ.get("CONTACTS") or ROOT / "crates/contacts/out/contacts")
-PATIENCE = 30  # seconds that any one wait may take before the test fails
+# Seconds that any one wait may take before the test fails. All take far less, unless the machine
+# does other work.
+PATIENCE = 120
+PORTS = itertools.count()
 
 # How the program ended: its status, and the octets of its standard output and standard error.
 Ended = namedtuple("Ended", "status out err")
@@ -30,6 +34,35 @@ def run(*arguments, input=b"", **options):
         **{**pipes, **options},
     )
     return Ended(done.returncode, done.stdout, done.stderr)
+
+
+def free_port():
+    """A port that nobody has, below those that the system gives for port 0.
+
+    So nobody else gets it while the test's own server is down. Each of a test's ports is another
+    one, and tests that run side by side have their own hundreds, as a rule.
+    """
+    first = 10_000 + os.getpid() % 220 * 100
+    for _ in range(100):
+        port = first + next(PORTS) % 100
+        with socket.socket() as bound:
+            try:
+                bound.bind(("127.0.0.1", port))
+                return port
+            except OSError:
+                continue
+    raise OSError("no port is free")
+
+
+def processor_time(pid):
+    """The seconds of processors that a process has had, or 0 where that can't be seen."""
+    try:
+        text = Path(f"/proc/{pid}/stat").read_text()
+    except OSError:
+        return 0
+    # After the program's name in brackets comes the third word.
+    words = text.rpartition(")")[2].split()
+    return (int(words[11]) + int(words[12])) / os.sysconf("SC_CLK_TCK")
 
 
 class Folder:

@@ -7,21 +7,19 @@ next block is their output. All blocks of a page run in their order, in one fold
 """
 
 import os
-import random
 import re
 import shutil
 import signal
-import socket
 import subprocess
 from collections import namedtuple
 
-from program import PATIENCE, PROGRAM, ROOT
+from program import PATIENCE, PROGRAM, ROOT, free_port
 
 # A command and the text that it prints.
 Step = namedtuple("Step", "command prints line")
 
 # The port of the pages, and how many others are tried in its place.
-PORT, TRIES = "8080", 100
+PORT = "8080"
 # What a reader's machine may lack.
 TOOLS = ["curl", "jq", "sqlite3"]
 # What isn't run here: the tests themselves, and what builds, proves, measures or installs.
@@ -70,24 +68,11 @@ def missing_tools(steps):
     return [tool for tool in used if not shutil.which(tool)]
 
 
-def free_port():
-    """A port that nothing listens at, below those that connections are given."""
-    for _ in range(TRIES):
-        port = random.randint(20_000, 32_000)
-        with socket.socket() as one:
-            try:
-                one.bind(("127.0.0.1", port))
-            except OSError:
-                continue
-            return str(port)
-    raise OSError("no free port")
-
-
 class Shell:
     """A shell in a folder with the program, examples and clients. 8080 is another port there."""
 
     def __init__(self, folder):
-        self.port = free_port()
+        self.port = str(free_port())
         (folder / "contacts").symlink_to(PROGRAM)
         for name in "examples", "clients":
             (folder / name).symlink_to(ROOT / name)

@@ -2,7 +2,6 @@
 
 import socket
 import threading
-import time
 import unittest
 from collections import Counter
 
@@ -92,13 +91,12 @@ class Bodies(GatewayTest):
     def test_too_large(self):
         """Of 100 MB nothing is read: the reply comes before them."""
         for method, path in [("PROPFIND", STAFF), ("REPORT", STAFF), ("PUT", STAFF + "a.vcf")]:
-            begun = time.monotonic()
             with socket.create_connection(self.stack.place, timeout=PATIENCE) as one:
                 head = [f"{method} {path} HTTP/1.1", "Host: x", "Content-Length: 100000000",
                         f"Authorization: {self.dav.fields['Authorization']}", "", ""]
                 one.sendall("\r\n".join(head).encode() + b"x" * 1000)
+                # Whoever waited for them would close a silent connection.
                 self.assertTrue(one.recv(1 << 16).startswith(b"HTTP/1.1 413 "))
-            self.assertLess(time.monotonic() - begun, 5)
 
     def test_many_lines(self):
         """The processor time of a card of many lines is in proportion to them."""
@@ -226,11 +224,11 @@ class Passwords(GatewayTest):
 
     def test_many_guesses_at_once(self):
         """Those that wait for their turn are counted, too; and an IPv6 network is one address."""
-        statuses = Counter()
+        told = []
 
         def guess(at):
             one = Client(self.stack.place, "ann", f"guess {at}")
-            statuses[one.ask("GET", STAFF, X_Real_IP=f"2001:db8:0:1::{at:x}").status] += 1
+            told.append(one.ask("GET", STAFF, X_Real_IP=f"2001:db8:0:1::{at:x}").status)
             one.close()
 
         threads = [threading.Thread(target=guess, args=(at,)) for at in range(40)]
@@ -238,6 +236,7 @@ class Passwords(GatewayTest):
             it.start()
         for it in threads:
             it.join()
+        statuses = Counter(told)
         # Two are tried at once, so one more may be tried.
         self.assertIn(statuses[401], (10, 11))
         self.assertEqual(40, statuses[401] + statuses[429])

@@ -44,7 +44,7 @@ class Between(BaseHTTPRequestHandler):
             self.pass_on(body) if made is None else self.refuse(*made)
 
     def pass_on(self, body):
-        passed = HTTPConnection(*self.server.real, timeout=10)
+        passed = HTTPConnection(*self.server.real, timeout=PATIENCE)
         passed.request(self.command, self.path, body or None, dict(self.headers))
         reply = passed.getresponse()
         octets = reply.read()

@@ -1,6 +1,7 @@
 """Groups as categories: others change things, or all stops, between the requests of one edit."""
 
 import threading
+import time
 import unittest
 
 from carddav_client import CATEGORIES, STAFF
@@ -114,10 +115,9 @@ class Between(BetweenTest, CategoriesTest):
         self.kill_at(2)
         self.stack.start()
         self.dav.ask("GET", STAFF + "a.vcf")
-        for _ in range(100):
-            if "New" in self.groups():
-                break
-            threading.Event().wait(0.05)
+        ends = time.monotonic() + PATIENCE
+        while "New" not in self.groups() and time.monotonic() < ends:
+            time.sleep(0.05)
         self.assertEqual(("+2", {"Board": [["b"]], "Choir": [["a", "b"]], "New": [["a"]]}),
                          self.state())
 

@@ -12,7 +12,7 @@ import threading
 import time
 import unittest
 
-from dialogue import ServedTest, Talk
+from dialogue import ServedTest, Talk, again_if_slow
 from http_requests import (
     COLUMNS,
     books,
@@ -29,6 +29,7 @@ from http_requests import (
 from model.http import Session
 from program import PATIENCE, Ended
 
+SLACK = 20  # seconds that a busy machine may need beside what is measured
 BODY_MAX = 8_388_608
 NOTE = 240_000  # octets that a card's note may have, with its folds
 NOTES = ["NOTE:" + "x" * 70] * 3_000  # lines of a big card
@@ -201,20 +202,25 @@ class Closing(ServedTest):
         octets = self.octets + b"x" * 1_000_000
         wanted = Session(self.office).feed(octets)
         self.assertGreater(len(wanted), len(NOTES) * len(NOTES[0]))
-        with self.connection() as connection:
-            connection.socket.setsockopt(socket.SOL_SOCKET, socket.SO_RCVBUF, 4096)
-            sender = threading.Thread(target=connection.send, args=[octets])
-            sender.start()
-            replied = b""
-            while len(replied) < len(wanted):
-                time.sleep(0.001)
-                taken = connection.take(4096)
-                if not taken:
-                    break
-                replied += taken
-            replied += connection.rest()
-            sender.join()
-        self.compare(octets, wanted, replied)
+
+        def attempt(pace):
+            with self.connection() as connection:
+                connection.socket.setsockopt(socket.SOL_SOCKET, socket.SO_RCVBUF, 4096)
+                sender = threading.Thread(target=connection.send, args=[octets])
+                sender.start()
+                replied = b""
+                while len(replied) < len(wanted):
+                    time.sleep(0.001)
+                    taken = connection.take(4096)
+                    if not taken:
+                        break
+                    replied += taken
+                replied += connection.rest()
+                sender.join()
+            self.compare(octets, wanted, replied)
+
+        # The rest of what it sends is waited for for a second.
+        again_if_slow(attempt, 0.8)
 
     def close(self):
         """A connection that the server has closed, with all of its replies."""
@@ -224,43 +230,53 @@ class Closing(ServedTest):
         self.compare(self.octets, Session(self.office).feed(self.octets), connection.rest())
         return connection
 
-    def seconds_to_end(self, connection, octets):
-        """Sends on and on, and returns the seconds until the server takes no more of it."""
-        begun = time.monotonic()
+    def send_to_end(self, connection, octets):
+        """Sends on and on until the server takes no more of it.
+
+        Returns the seconds, and how many octets it has taken.
+        """
+        begun, count = time.monotonic(), 0
         try:
             while time.monotonic() < begun + PATIENCE:
                 connection.socket.sendall(octets)
+                count += len(octets)
                 time.sleep(0.001 if len(octets) == 1 else 0)
         except (BrokenPipeError, ConnectionResetError):
             pass
-        return time.monotonic() - begun
+        return time.monotonic() - begun, count
 
     def test_silent_clients(self):
         """A client that neither sends nor closes after its last reply holds up nobody."""
-        times = []
-        for _ in range(11):
-            self.close()
-            begun = time.monotonic()
-            self.serve(books())
-            times.append(time.monotonic() - begun)
-        # Each of the silent ones is dropped after a second.
-        self.assertLess(sorted(times)[5], 0.8)
+        def attempt(pace):
+            times = []
+            for _ in range(11):
+                self.close()
+                begun = time.monotonic()
+                self.serve(books())
+                times.append(time.monotonic() - begun)
+            # Each of the silent ones is dropped after a second.
+            self.assertLess(sorted(times)[5], 0.8)
+
+        # A machine that does other work may be as slow for a while.
+        again_if_slow(attempt, 0)
 
     def test_client_that_sends_octet_by_octet(self):
         """A client that sends octets without end is given up after some 10 seconds. Meanwhile
         others are served."""
-        seconds = []
+        ended = []
         sender = threading.Thread(
-            target=lambda: seconds.append(self.seconds_to_end(self.close(), b"x")))
+            target=lambda: ended.append(self.send_to_end(self.close(), b"x")))
         sender.start()
         while sender.is_alive():
             self.serve(books())
             sender.join(0.1)
-        self.assertLess(seconds[0], 20)
+        self.assertLess(ended[0][0], 10 + SLACK)
 
     def test_client_that_sends_much(self):
-        """So is one that sends more than 16 MB."""
-        self.assertLess(self.seconds_to_end(self.close(), b"x" * 1_000_000), 9)
+        """So is one that sends more than 16 MB. Beside them there is what is on the way."""
+        seconds, count = self.send_to_end(self.close(), b"x" * 1_000_000)
+        self.assertLess(seconds, 10 + SLACK)
+        self.assertLess(count, 256_000_000)
 
 
 class Waiting(ServedTest):

@@ -22,8 +22,7 @@ from urllib.request import urlopen
 from help_texts import HELP
 from http_requests import create, get, put, remove
 from pages import Page
-from program import PATIENCE, PROGRAM, ROOT, Folder, Server, run
-from shells import free_port
+from program import PATIENCE, PROGRAM, ROOT, Folder, Server, free_port, run
 
 EXAMPLES = ROOT / "examples"
 # The commands that a backup needs, beside the shell's own.
@@ -59,7 +58,7 @@ class Look(unittest.TestCase):
     def test_the_desk_over_the_sample_office(self):
         with Folder() as folder:
             for again in range(2):
-                port = free_port()
+                port = str(free_port())
                 script = subprocess.Popen(
                     [str(EXAMPLES / "look.sh"), "--port", port], cwd=folder,
                     env={**os.environ, "CONTACTS": PROGRAM}, stdout=subprocess.PIPE)
@@ -97,13 +96,14 @@ class Listening(unittest.TestCase):
         """Starts the script."""
         return subprocess.Popen([str(EXAMPLES / "listening.sh"), str(process.pid), *options])
 
-    def listener(self, seconds, port):
-        """A program that listens at the port after some seconds."""
-        code = ("import socket, sys, time; time.sleep(float(sys.argv[1])); "
-                "it = socket.create_server(('127.0.0.1', int(sys.argv[2]))); time.sleep(60)")
-        process = subprocess.Popen([sys.executable, "-c", code, str(seconds), port])
+    def listener(self, port):
+        """A program that listens at the port once its input ends."""
+        code = ("import socket, sys, time; sys.stdin.read(); "
+                "it = socket.create_server(('127.0.0.1', int(sys.argv[1]))); time.sleep(3600)")
+        process = subprocess.Popen([sys.executable, "-c", code, port], stdin=subprocess.PIPE)
         self.addCleanup(process.wait)
         self.addCleanup(process.kill)
+        self.addCleanup(process.stdin.close)
         return process
 
     def test_a_server_that_listens(self):
@@ -135,16 +135,18 @@ class Listening(unittest.TestCase):
             self.assertEqual(1, self.wait_for(server.process, "--socket", path).wait(PATIENCE))
 
     def test_it_waits_until_the_port_is_listened_at(self):
-        port = free_port()
-        script = self.wait_for(self.listener(1, port), "--port", port)
+        port = str(free_port())
+        listener = self.listener(port)
+        script = self.wait_for(listener, "--port", port)
         with self.assertRaises(subprocess.TimeoutExpired):
             script.wait(0.5)
+        listener.stdin.close()
         self.assertEqual(0, script.wait(PATIENCE))
 
     def test_a_server_that_has_ended(self):
         ended = subprocess.Popen(["true"])
         ended.wait()
-        self.assertEqual(1, self.wait_for(ended, "--port", free_port()).wait(PATIENCE))
+        self.assertEqual(1, self.wait_for(ended, "--port", str(free_port())).wait(PATIENCE))
 
     def test_the_default_port_is_that_of_run(self):
         port = re.search(r"--port <P>.*\[default: (\d+)\]", HELP["run"])[1]
@@ -164,7 +166,7 @@ class QuickStart(unittest.TestCase):
             with self.subTest(shell=shell), Folder() as folder:
                 (folder / "contacts").symlink_to(PROGRAM)
                 (folder / "examples").symlink_to(EXAMPLES)
-                text = block.text.replace("8080", free_port())
+                text = block.text.replace("8080", str(free_port()))
                 for again in False, True:
                     done = subprocess.run([shell], input=text.encode(), cwd=folder,
                                           stdout=subprocess.PIPE, stderr=subprocess.STDOUT,

@@ -88,7 +88,7 @@ class Hooks(FollowTest):
                          hooks.run_hook("sleep 60 & sleep 60", {}, 0.3))
         self.assertEqual("status 127", hooks.run_hook("/nowhere/command", {}))
         self.assertEqual("", hooks.run_hook("true", {"uid": "x" * 1_000_000}))
-        self.assertLess(time.monotonic() - begun, 20)
+        self.assertLess(time.monotonic() - begun, 50)
 
     def test_each_version_is_told_at_least_once(self):
         """Whenever it is stopped; and in the end nothing is left to be told."""

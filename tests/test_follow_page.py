@@ -18,9 +18,8 @@ import unittest
 from http_requests import card
 from nginx import configuration
 from pages import Page
-from program import PATIENCE
+from program import PATIENCE, free_port
 from python_client import FOLDER
-from shells import free_port
 from test_follow import FollowTest
 
 BLOCKS = {it.info: it.text for it in Page("docs/CLIENTS.md").blocks()

@@ -19,8 +19,7 @@ from carddav_client import HASH, Client, Stack
 from carddav_client import PASSWORD as SECRET
 from nginx import configuration
 from pages import Page
-from program import PATIENCE, ROOT, Folder, Server, run
-from shells import free_port
+from program import PATIENCE, ROOT, Folder, Server, free_port, run
 
 from gateway import accounts, readers
 

@@ -11,6 +11,7 @@ from pathlib import Path
 
 from dialogue import ServedTest
 from http_requests import books, card, create, export, put, request, sync, tally
+from program import PATIENCE
 
 LARGEST = 8_388_608
 MIB = 1 << 20
@@ -30,6 +31,10 @@ class HeldTest(ServedTest):
     def setUp(self):
         super().setUp()
         self.serve(create("staff"), put("staff", "a", "Ann"))
+
+    def start(self, connections=None, more=()):
+        # No client is given up for silence, however slow the machine is.
+        super().start(connections, ["--idle-timeout", 3600, *more])
 
     def connect(self):
         connection = self.server.connect()
@@ -54,7 +59,7 @@ class HeldTest(ServedTest):
         except BlockingIOError:
             return False
         finally:
-            connection.socket.settimeout(30)
+            connection.socket.settimeout(PATIENCE)
         self.assertEqual(BUSY, came)
         return True
 
@@ -72,8 +77,7 @@ class HeldTest(ServedTest):
 class Bodies(HeldTest):
     def test_many_large_bodies(self):
         """Of 300 clients with the largest body seven fit into 64 MiB; the rest is told to wait."""
-        # No client is given up for silence, however slow the machine is.
-        self.restart(more=["--max-open", 400, "--idle-timeout", 3600])
+        self.restart(more=["--max-open", 400])
         clients = [self.announce(LARGEST) for _ in range(300)]
         self.let_finish()
         admitted = [it for it in clients if not self.has_refusal(it)]

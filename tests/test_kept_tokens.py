@@ -17,7 +17,7 @@ import unittest
 
 from histories import parts_of, path
 from http_requests import request
-from program import PATIENCE, Folder, Server
+from program import PATIENCE, Folder, Server, free_port
 from python_client import office
 from test_kills import BOOKS, SEEDS, UIDS, Changes, KillTrial, whole_replies
 
@@ -82,13 +82,11 @@ class ClientTrial(KillTrial):
         super().__init__(test, seed, folder)
         self.changes = Changes(seed, BOOKS, UIDS[:30])
         self.desks = [Desk(book) for book in BOOKS]
-        self.port = 0
+        self.port = free_port()
 
     def server(self):
         """A server at the same address each time, since a folder belongs to one."""
-        server = Server(self.file, port=self.port)
-        self.port = server.address[1]
-        return server
+        return Server(self.file, port=self.port)
 
     def go(self):
         sent, replies = [], []

@@ -163,11 +163,13 @@ class Strangers(LdapTest):
             self.addCleanup(own.server_close)
             threading.Thread(target=own.serve_forever, daemon=True).start()
             self.addCleanup(own.shutdown)
-            known = socket.create_connection(own.server_address, PATIENCE)
-            self.addCleanup(known.close)
-            bind = write(0x60, number(3), text("bob"), text(PASSWORD, 0x80))
-            known.sendall(write(0x30, number(1), bind))
-            self.assertIn(bytes([0x0A, 1, 0]), known.recv(1000))
+            known, replied = self.bind_bob(own.server_address)
+            for _ in range(4):
+                if replied:
+                    break
+                # The machine was slow, and it was sent away.
+                known, replied = self.bind_bob(own.server_address)
+            self.assertIn(bytes([0x0A, 1, 0]), replied)
             begun = time.monotonic()
             with socket.create_connection(own.server_address, PATIENCE) as one:
                 one.settimeout(0.2)
@@ -185,6 +187,17 @@ class Strangers(LdapTest):
             self.assertGreater(time.monotonic() - begun, 2.5)
             known.sendall(write(0x30, number(2), WHO))
             self.assertIn(b"u:bob", known.recv(1000))
+
+    def bind_bob(self, place):
+        """A connection that binds, and what is replied."""
+        known = socket.create_connection(place, PATIENCE)
+        self.addCleanup(known.close)
+        bind = write(0x60, number(3), text("bob"), text(PASSWORD, 0x80))
+        try:
+            known.sendall(write(0x30, number(1), bind))
+            return known, known.recv(1000)
+        except ConnectionError:
+            return known, b""
 
     def test_networks(self):
         for address, wanted in [("192.0.2.1", "192.0.2.1"), ("::ffff:192.0.2.1", "192.0.2.1"),

@@ -5,7 +5,6 @@ sqlite3, with the tables that its format declares.
 """
 
 import os
-import random
 import socket
 import unittest
 from pathlib import Path
@@ -16,7 +15,7 @@ from order_trials import (
     FIRST_STAFF, FIVE_CHANGES, LAST_STAFF, MORE_CHANGES, NEEDS_STRICT, TWO_BOOKS, OrderTest,
     mirrored, numbered,
 )
-from program import PATIENCE, Ended, Server, run
+from program import PATIENCE, Ended, Server, free_port, run
 
 
 def listening_addresses(port):
@@ -186,18 +185,6 @@ class Ports(OrderTest):
         self.make_books()
         self.file = self.folder / "a.db"
 
-    @staticmethod
-    def free_port():
-        """A port that nobody has, below those that the system gives for port 0."""
-        for port in random.sample(range(20_000, 32_000), 100):
-            with socket.socket() as bound:
-                try:
-                    bound.bind(("127.0.0.1", port))
-                    return port
-                except OSError:
-                    continue
-        raise AssertionError("no port is free")
-
     def serve(self, *arguments, connections=1, port=None):
         """Serves the file with these arguments, each connection with one request, to the end."""
         with Server(None, arguments=arguments, cwd=self.folder) as server:
@@ -218,12 +205,12 @@ class Ports(OrderTest):
 
     def test_ports_that_are_asked_for(self):
         for form in [["--port", "{}"], ["--port={}"], ["--port=+0{}"]]:
-            port = self.free_port()
+            port = free_port()
             self.serve("a.db", *(part.format(port) for part in form), port=port)
 
     def test_count_of_connections(self):
         self.serve("a.db", "--connections", "2", connections=2)
-        port = self.free_port()
+        port = free_port()
         self.serve("--connections=3", f"--port={port}", "a.db", connections=3, port=port)
 
     def test_connections_without_a_request(self):
@@ -242,7 +229,7 @@ class Ports(OrderTest):
 
     def test_address(self):
         """The port is bound at 127.0.0.1, which only programs of this host can connect to."""
-        for port in 0, self.free_port():
+        for port in 0, free_port():
             arguments = ["a.db", "--port", str(port), "--connections", "2"]
             with Server(None, arguments=arguments, cwd=self.folder) as server:
                 number = server.address[1]
@@ -274,7 +261,7 @@ class Ports(OrderTest):
 
     def test_port_again(self):
         """A port is free again as soon as the server has ended."""
-        port = self.free_port()
+        port = free_port()
         for _ in range(3):
             self.serve("a.db", f"--port={port}", port=port)
 

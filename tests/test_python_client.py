@@ -14,7 +14,7 @@ from histories import UIDS, Drawing
 from http_requests import COLUMNS, FULL_CARDS, card
 from model.cards import read_card
 from pages import Page
-from program import Folder, Server, run
+from program import Folder, Server, free_port, run
 from python_client import FOLDER, Lossy, cards_of, office, run_command
 
 import tosculai
@@ -38,7 +38,7 @@ class ClientTest(unittest.TestCase):
         self.folder = folder.__enter__()
         self.addCleanup(folder.__exit__)
         run("init", self.folder / "file")
-        self.server = Server(self.folder / "file")
+        self.server = Server(self.folder / "file", port=free_port())
         self.addCleanup(self.server.kill)
         self.office = office(self.server)
         self.staff, self.clients = map(self.office.create, ["staff", "clients"])

@@ -2,6 +2,7 @@
 
 import io
 import re
+import select
 import shutil
 import signal
 import socket
@@ -16,7 +17,7 @@ from contextlib import redirect_stdout
 from unittest import mock
 
 from http_requests import card
-from program import PATIENCE, ROOT, Folder, Server, run
+from program import PATIENCE, ROOT, Folder, Server, free_port, run
 from python_client import FOLDER, Forwarder, Lossy, run_command
 from test_python_client import ClientTest
 
@@ -82,16 +83,21 @@ class Watching(ClientTest):
     def test_both_sides_until_it_is_interrupted(self):
         self.staff.put(card("a", "Ann"))
         self.watch()
-        self.wait(self.has("Ann"))
+        self.says("1 pulled, 0 pushed")
+        self.assertTrue(self.has("Ann")())
         self.staff.put(card("a", "Anna"))
-        self.wait(self.has("Anna"))
+        self.says("1 pulled, 0 pushed")
+        self.assertTrue(self.has("Anna")())
         (self.cards / "a.vcf").write_bytes(card("a", "Bea").encode())
-        self.wait(lambda: "FN:Bea" in self.staff.get("a").text)
+        self.says("0 pulled, 1 pushed")
+        self.assertIn("FN:Bea", self.staff.get("a").text)
         time.sleep(0.5)  # rounds in which nothing happens, which print nothing
-        out, err, status = self.end()
-        self.assertEqual(("", 130), (err, status))
-        self.assertEqual(["1 pulled, 0 pushed", "1 pulled, 0 pushed", "0 pulled, 1 pushed"],
-                         out.splitlines())
+        self.assertEqual(("", "", 130), self.end())
+
+    def says(self, words):
+        """Waits for its next line, at the end of a round."""
+        self.assertTrue(select.select([self.process.stdout], [], [], PATIENCE)[0])
+        self.assertEqual(f"{words}\n", self.process.stdout.readline().decode())
 
     def test_a_server_that_comes_back(self):
         self.staff.put(card("a", "Ann"))
@@ -240,22 +246,20 @@ class DeadServers(unittest.TestCase):
                 client, _ = one.accept()
                 with client:
                     client.recv(1 << 16)
-                    time.sleep(1)
+                    time.sleep(1.5)
                     body = b'{"books":[]}'
                     client.sendall(b"HTTP/1.1 200 OK\r\nContent-Type: application/json\r\n"
                                    b"Content-Length: %d\r\n\r\n%s" % (len(body), body))
             thread = threading.Thread(target=reply, daemon=True)
             thread.start()
             url = f"http://127.0.0.1:{one.getsockname()[1]}"
-            self.assertEqual([], Office(url, connect_timeout=0.3, attempts=1).books())
+            self.assertEqual([], Office(url, connect_timeout=1, attempts=1).books())
             thread.join(PATIENCE)
 
     def test_a_server_that_is_started_meanwhile(self):
         with Folder(in_memory=True) as folder:
             run("init", folder / "file")
-            with Server(folder / "file") as before:
-                port = before.address[1]
-            started = []
+            port, started = free_port(), []
             timer = threading.Timer(
                 0.5, lambda: started.append(Server(folder / "file", port=port))
             )

@@ -15,7 +15,7 @@ from guard_rows import SEVERAL_HOSTS, SITES
 from http_requests import COLUMNS, books, card, create, export, get, put, request, tally
 from model.http import Session, fault_message
 from order_trials import OrderTest
-from program import Ended, Server, run
+from program import PATIENCE, Ended, Server, run
 
 OFFICE = ["--host", "office"]
 # The replies to what the guard refuses.
@@ -239,7 +239,8 @@ class Connections(RunTest):
                 connection.send(head[-1:])
                 before = time.monotonic()
                 self.assertEqual(REFUSED[number], connection.rest())
-                self.assertLess(time.monotonic() - before, 5)
+                # A server that waited for the body would close a silent connection after 60.
+                self.assertLess(time.monotonic() - before, 30)
         self.end()
 
     def test_with_a_body(self):
@@ -437,7 +438,7 @@ class Options(OrderTest):
             third.socket.settimeout(0.5)
             with self.assertRaises(OSError):
                 third.reply()
-            third.socket.settimeout(30)
+            third.socket.settimeout(PATIENCE)
             first.finish()
             self.assertEqual(b"HTTP/1.1 200", third.reply()[:12])
             second.send(books())
@@ -456,12 +457,19 @@ class Options(OrderTest):
     def test_idle_connections(self):
         server = self.start("--create", *OFFICE, "--idle-timeout", 1)
         for octets in b"", b"GET /books HTTP/1.1\r\n", books():
-            with self.subTest(octets), server.connect() as connection:
-                before = time.monotonic()
-                connection.send(octets)
-                rest = connection.rest()
+            with self.subTest(octets):
+                # A client that the machine stops for a second before it sends is given up, too.
+                for _ in range(5):
+                    before = time.monotonic()
+                    with server.connect() as connection:
+                        connection.send(octets)
+                        is_in_time = time.monotonic() - before < 0.8
+                        rest = connection.rest()
+                    seconds = time.monotonic() - before
+                    if is_in_time:
+                        break
                 self.assertEqual(octets == books(), rest.startswith(b"HTTP/1.1 200"))
-                self.assertTrue(0.9 < time.monotonic() - before < 10)
+                self.assertTrue(0.9 < seconds < 13)
 
     def test_the_log(self):
         server = self.start("--create", "--log")

@@ -13,11 +13,12 @@ import threading
 import time
 import unittest
 
-from dialogue import ServedTest, Talk
+from dialogue import ServedTest, Talk, again_if_slow
 from http_requests import books, card, create, export, get, put, request, tally
 from model.http import Session
-from program import Ended
+from program import PATIENCE, Ended
 
+SLACK = 12  # seconds that a busy machine may need beside what is measured
 NOTES = ["NOTE:" + "x" * 70] * 3_000  # lines of a big card
 
 
@@ -156,20 +157,25 @@ class Closing(ServedTest):
         """A megabyte follows the request that closes. A client that reads slowly gets the reply."""
         octets = self.octets + b"x" * 1_000_000
         wanted = Session(self.office).feed(octets)
-        with self.connection() as connection:
-            connection.socket.setsockopt(socket.SOL_SOCKET, socket.SO_RCVBUF, 4096)
-            sender = threading.Thread(target=connection.send, args=[octets])
-            sender.start()
-            replied = b""
-            while len(replied) < len(wanted):
-                time.sleep(0.001)
-                taken = connection.take(4096)
-                if not taken:
-                    break
-                replied += taken
-            replied += connection.rest()
-            sender.join()
-        self.compare(octets, wanted, replied)
+
+        def attempt(pace):
+            with self.connection() as connection:
+                connection.socket.setsockopt(socket.SOL_SOCKET, socket.SO_RCVBUF, 4096)
+                sender = threading.Thread(target=connection.send, args=[octets])
+                sender.start()
+                replied = b""
+                while len(replied) < len(wanted):
+                    time.sleep(0.001)
+                    taken = connection.take(4096)
+                    if not taken:
+                        break
+                    replied += taken
+                replied += connection.rest()
+                sender.join()
+            self.compare(octets, wanted, replied)
+
+        # The rest of what it sends is waited for for a second.
+        again_if_slow(attempt, 0.8)
 
     def seconds_to_the_next(self, client):
         """The seconds until the next client is served, while the first one does something else."""
@@ -189,7 +195,7 @@ class Closing(ServedTest):
 
     def test_silent_client(self):
         """A client that neither sends nor closes holds the server for about a second."""
-        self.assertLess(self.seconds_to_the_next(lambda connection, stops: stops.wait()), 5)
+        self.assertLess(self.seconds_to_the_next(lambda connection, stops: stops.wait()), 1 + SLACK)
 
     def test_client_that_sends_octet_by_octet(self):
         """A client that sends octets without end holds the server for at most a thousand reads."""
@@ -197,7 +203,7 @@ class Closing(ServedTest):
             while not stops.wait(0.001):
                 connection.send(b"x")
 
-        self.assertLess(self.seconds_to_the_next(send), 20)
+        self.assertLess(self.seconds_to_the_next(send), PATIENCE / 2)
 
 
 class Host(ServedTest):

@@ -19,7 +19,7 @@ from dialogue import ServedTest, Talk
 from http_requests import books, card, create, get, put, request, tally
 from model.http import Session
 from order_trials import OrderTest
-from program import Server, run
+from program import PATIENCE, Server, run
 from test_run import FOREIGN
 
 PATH_MAX = 107  # octets of the path of a socket, by the system
@@ -199,8 +199,8 @@ class Files(SocketTest):
             self.skipTest("curl is needed")
         self.start(more=["--log"])
         done = subprocess.run(
-            ["curl", "-q", "-s", "-m", "20", "--unix-socket", self.path, "http://office/books"],
-            stdout=subprocess.PIPE)
+            ["curl", "-q", "-s", "-m", str(PATIENCE), "--unix-socket", self.path,
+             "http://office/books"], stdout=subprocess.PIPE)
         self.assertEqual((0, b'{"books":[]}'), (done.returncode, done.stdout))
 
 
@@ -309,10 +309,10 @@ class Clients(ServedTest):
 
     def test_a_silent_client_is_given_up(self):
         self.restart(more=["--idle-timeout", 1])
+        begun = time.monotonic()
         with self.connection() as connection:
-            begun = time.monotonic()
             self.assertEqual(b"", connection.rest())
-            self.assertTrue(0.8 < time.monotonic() - begun < 13)
+        self.assertTrue(0.8 < time.monotonic() - begun < 13)
 
     def test_a_reply_that_closes(self):
         """It comes whole, though the client has sent more than is read."""

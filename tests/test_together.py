@@ -20,7 +20,7 @@ from pathlib import Path
 from threading import Thread
 
 import crowd
-from dialogue import ServedTest, Talk
+from dialogue import ServedTest, Talk, again_if_slow
 from histories import Copy
 from http_requests import books, card, create, export, get, put, request, tally
 from model.http import Session
@@ -58,22 +58,34 @@ class TogetherTest(ServedTest):
         self.addCleanup(connection.socket.close)
         return connection
 
-    def seconds_to_end(self, connection):
+    def end_of(self, connection):
         """Waits until the server has ended the connection, while it serves another client.
 
-        Returns the seconds, and what came before.
+        Returns the time, and what came before.
         """
-        begun, replied = time.monotonic(), []
+        ended = []
 
         def wait():
-            replied.append(connection.rest())
+            octets = connection.rest()
+            ended.append((time.monotonic(), octets))
 
         waits = Thread(target=wait)
         waits.start()
         while waits.is_alive():
             self.ask_other(tally("staff"))
             waits.join(0.05)
-        return time.monotonic() - begun, replied[0]
+        self.assertTrue(ended, "the connection stays open")
+        return ended[0]
+
+    def send_in_time(self, octets):
+        """A new connection on which the octets were sent long before a patience of a second ended,
+        and a time before the connection."""
+        for _ in range(5):
+            begun, connection = time.monotonic(), self.connect()
+            connection.send(octets)
+            if time.monotonic() - begun < 0.8:
+                break
+        return begun, connection
 
     def ask_other(self, octets):
         """The other client gets its reply at once."""
@@ -85,18 +97,23 @@ class TogetherTest(ServedTest):
         return len(os.listdir(f"/proc/{self.server.process.pid}/fd"))
 
     def wake_ups(self, seconds):
-        """How often the server wakes up in this time."""
+        """How often the server wakes up in a second, looked at for so many at least."""
         def count():
             lines = Path(f"/proc/{self.server.process.pid}/status").read_text().splitlines()
             return int([it for it in lines if it.startswith("voluntary_ctxt")][0].split()[1])
 
-        before = count()
+        before, begun = count(), time.monotonic()
         time.sleep(seconds)
-        return count() - before
+        return (count() - before) / (time.monotonic() - begun)
 
 
 class Patience(TogetherTest):
-    """A client that does nothing for `--idle-timeout` seconds is given up, and nobody else."""
+    """A client that does nothing for `--idle-timeout` seconds is given up, and nobody else.
+
+    A machine that does other work may stop a client for as long. So the clock begins before what
+    the server's patience begins with, and a client that has to be in time has far more of it than
+    it needs.
+    """
 
     def setUp(self):
         super().setUp()
@@ -105,17 +122,16 @@ class Patience(TogetherTest):
     def ask_other(self, octets):
         """The other client has a new connection each time, since it may be slow itself."""
         begun = time.monotonic()
-        self.serve(octets)
+        again_if_slow(lambda pace: self.serve(octets), 0.8)
         self.assertLess(time.monotonic() - begun, SLACK)
 
     def given_up(self, octets, replied=b""):
         """Such a client gets these replies, and then the connection's end after a second."""
-        connection = self.connect()
-        connection.send(octets)
-        seconds, came = self.seconds_to_end(connection)
+        begun, connection = self.send_in_time(octets)
+        ended, came = self.end_of(connection)
         self.assertEqual(replied, came)
-        self.assertGreater(seconds, 0.8)
-        self.assertLess(seconds, 1 + SLACK)
+        self.assertGreater(ended - begun, 0.8)
+        self.assertLess(ended - begun, 1 + SLACK)
 
     def test_silent_client(self):
         self.given_up(b"")
@@ -128,7 +144,7 @@ class Patience(TogetherTest):
 
     def test_head_without_end(self):
         """An octet now and then doesn't keep a connection open."""
-        connection, begun = self.connect(), time.monotonic()
+        begun, connection = time.monotonic(), self.connect()
         connection.send(b"GET /books HTTP/1.1\r\nHost: office\r\nX-Slow: ")
         while not select.select([connection.socket], [], [], 0.1)[0]:
             connection.send(b"x")
@@ -139,6 +155,8 @@ class Patience(TogetherTest):
 
     def test_body_octet_by_octet(self):
         """A body that comes slowly is handled if it is there in time, beside others."""
+        # Of each octet another client waits for its reply, which may take long in all.
+        self.restart(more=["--idle-timeout", 60])
         octets = put("staff", "b", "Bob")
         talk, rest = Talk(self), len(octets) - 30
         talk.connection.send(octets[:rest])
@@ -150,71 +168,87 @@ class Patience(TogetherTest):
         talk.hear(octets)
         talk.end()
 
-    def end_of_slow_body(self, length):
-        """When a client's connection ends that sends an octet of such a body now and then."""
-        connection, begun = self.connect(), time.monotonic()
+    def end_of_slow_body(self, length, most):
+        """The seconds after which a client's connection ends, at most so many, that sends an octet
+        of such a body now and then."""
+        begun, connection = time.monotonic(), self.connect()
         connection.send(HEAD % length)
         while not select.select([connection.socket], [], [], 0.1)[0]:
             connection.send(b"x")
             self.ask_other(books())
+            self.assertLess(time.monotonic() - begun, most)
         self.assertEqual(b"", connection.rest())
         return time.monotonic() - begun
 
     def test_body_without_end(self):
         """An octet now and then doesn't keep a connection open."""
-        seconds = self.end_of_slow_body(4_000)
-        self.assertGreater(seconds, 0.8)
-        self.assertLess(seconds, 1 + SLACK)
+        self.assertGreater(self.end_of_slow_body(4_000, 1 + SLACK), 0.8)
 
     def test_a_long_body_has_longer(self):
         """One second more for each 4,096 octets: two, for a request of 8,192 and some."""
-        seconds = self.end_of_slow_body(8_192)
-        self.assertGreater(seconds, 2.8)
-        self.assertLess(seconds, 3 + SLACK)
+        self.assertGreater(self.end_of_slow_body(8_192, 3 + SLACK), 2.8)
 
     def test_requests_one_after_another(self):
         """Each has its own time, so a client that goes on is served for longer than one has."""
-        talk = Talk(self)
-        for _ in range(6):
-            octets = tally("staff")
-            talk.connection.send(octets[:20])
-            time.sleep(0.3)
-            talk.connection.send(octets[20:])
-            talk.hear(octets)
-        talk.end()
+        self.restart(more=["--idle-timeout", 3])
+
+        def attempt(pace):
+            talk, octets = Talk(self), tally("staff")
+            for _ in range(6):
+                talk.connection.send(octets[:20])
+                time.sleep(0.6)
+                talk.connection.send(octets[20:])
+                talk.hear(octets)
+                pace.mark()
+            talk.end()
+
+        # Two steps in turn are within the patience.
+        again_if_slow(attempt, 1.2)
 
     def test_client_that_takes_nothing(self):
         """More is replied than fits on the way: the replies are cut off, but nothing is wrong."""
         self.serve(BIG)
         octets = get("staff", "big") * 60
         wanted = Session(self.office).feed(octets)
-        connection, begun = self.connect(), time.monotonic()
-        connection.send(octets)
-        while time.monotonic() < begun + 2.5:
-            self.ask_other(tally("staff"))
-            time.sleep(0.05)
-        came = connection.rest()
+        # The patience begins once the server has sent what fits, which a slow machine does late.
+        for seconds in 2.5, 5, 10, 20:
+            connection = self.connect()
+            connection.send(octets)
+            ends = time.monotonic() + seconds
+            while time.monotonic() < ends:
+                self.ask_other(tally("staff"))
+                time.sleep(0.05)
+            came = connection.rest()
+            self.assertTrue(wanted.startswith(came))
+            if len(came) < len(wanted):
+                break
         self.assertLess(len(came), len(wanted))
-        self.assertTrue(wanted.startswith(came))
 
     def test_slow_taker(self):
         """It takes some of its replies now and then, for longer than the patience."""
         self.serve(BIG)
+        self.restart(more=["--idle-timeout", 3])
         octets = get("staff", "big") * 90
         wanted = Session(self.office).feed(octets)
-        connection, came, begun = self.connect(), [], time.monotonic()
-        connection.send(octets)
-        left = len(wanted)
-        while left:
-            came.append(connection.take(min(left, 1_000_000)))
-            left -= len(came[-1])
-            self.assertTrue(came[-1], f"{left} octets before the end")
-            self.ask_other(tally("staff"))
-            time.sleep(0.12)
-        self.compare(octets, wanted, b"".join(came))
-        self.assertGreater(time.monotonic() - begun, 2)
-        connection.finish()
-        self.assertEqual(b"", connection.rest())
+
+        def attempt(pace):
+            connection, came, begun = self.connect(), [], time.monotonic()
+            connection.send(octets)
+            left = len(wanted)
+            while left:
+                came.append(connection.take(min(left, 1_000_000)))
+                left -= len(came[-1])
+                self.assertTrue(came[-1], f"{left} octets before the end")
+                self.ask_other(tally("staff"))
+                time.sleep(0.25)
+                pace.mark()
+            self.compare(octets, wanted, b"".join(came))
+            self.assertGreater(time.monotonic() - begun, 4)
+            connection.finish()
+            self.assertEqual(b"", connection.rest())
+
+        # Two steps in turn are within the patience.
+        again_if_slow(attempt, 1.2)
 
 
 class Together(TogetherTest):
@@ -251,10 +285,11 @@ class Together(TogetherTest):
 
     def test_silent_client_with_one_place(self):
         """It keeps the next one waiting for as long as its patience lasts."""
-        self.renew_other(more=["--max-open", 1, "--idle-timeout", 1])
-        self.other.ask(books())
-        second, begun = Talk(self), time.monotonic()
-        second.ask(tally("staff"))
+        self.restart(more=["--max-open", 1, "--idle-timeout", 1])
+        begun, first = self.send_in_time(books())
+        self.compare(books(), Session(self.office).feed(books()), first.reply())
+        _, second = self.send_in_time(tally("staff"))
+        self.compare(tally("staff"), Session(self.office).feed(tally("staff")), second.reply())
         self.assertGreater(time.monotonic() - begun, 0.8)
         self.assertLess(time.monotonic() - begun, 1 + SLACK)
 
@@ -289,7 +324,7 @@ class Together(TogetherTest):
             talk.hear(books())
         self.assertTrue(all(self.is_quiet(talk.connection, 0.02) for talk in talks[5:]))
         # It tries again now and then, and doesn't spin.
-        self.assertLess(self.wake_ups(0.5), 50)
+        self.assertLess(self.wake_ups(0.5), 100)
         for first, waiting in zip(talks, talks[5:]):
             self.ask_other(tally("staff"))
             first.end()
@@ -352,9 +387,10 @@ class BreakingOff(TogetherTest):
         self.serve(BIG)
         self.ask_other(books())
         self.let_finish()
-        before, begun = self.descriptors(), time.monotonic()
+        before = self.descriptors()
         for octets, wait in self.states():
             self.go(octets, wait, reset)
+        begun = time.monotonic()
         while self.descriptors() > before:
             self.assertLess(time.monotonic() - begun, SLACK)
             self.ask_other(books())
@@ -478,7 +514,7 @@ class Crowds(TogetherTest):
         """Curl prints what the model replies."""
         *options, target = arguments
         url = "http://%s:%d%s" % (*self.server.address, target)
-        command = ["curl", "-q", "-s", "-m", "20", "--noproxy", "*", *options, url]
+        command = ["curl", "-q", "-s", "-m", str(PATIENCE), "--noproxy", "*", *options, url]
         done = subprocess.run(command, input=input, stdout=subprocess.PIPE)
         wanted = Session(self.office).feed(asks)
         self.assertEqual((0, wanted.partition(b"\r\n\r\n")[2]), (done.returncode, done.stdout))
