@@ -32,7 +32,7 @@ KILLS = 6  # of processes, at least, and requests to forget
 AHEAD = 8  # changes by which the desk, which needs no gateway, is ahead of the slowest phone
 BETWEEN = 2  # acknowledged edits of phones between two kills, or
 PAUSE = 20  # seconds
-PATIENCE = 240  # seconds that this may take on a busy machine
+PATIENCE = 600  # seconds that this may take on a busy machine
 
 
 class Random(unittest.TestCase):

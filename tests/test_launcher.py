@@ -10,7 +10,7 @@ import subprocess
 import sys
 import unittest
 
-from program import ROOT, Folder
+from program import PATIENCE, ROOT, Folder
 
 # The system's commands that a first start needs, beside xz or python3.
 COMMANDS = """
@@ -56,7 +56,7 @@ def start(launcher, path, *arguments):
         stderr=subprocess.PIPE,
         cwd="/",
         env={"PATH": str(path)},
-        timeout=60,
+        timeout=PATIENCE,
     )
     return done.returncode, done.stdout, done.stderr.decode()
 
