@@ -8,13 +8,11 @@ says what is measured.
 import argparse
 import os
 import shutil
-import sqlite3
 import subprocess
 import sys
 import tempfile
 from collections import namedtuple
 from concurrent.futures import ThreadPoolExecutor
-from contextlib import closing
 from pathlib import Path
 from statistics import median
 from subprocess import SubprocessError
@@ -28,6 +26,9 @@ from instructions import CALLS, TIMES, count_run, have_valgrind
 from table import duration, instructions, machine, octets
 from tosculai import BOOKS, ROOT, Tosculai, digest, find_program
 from wire import Failure
+
+sys.path.append(str(ROOT / "tests"))
+from page_sums import changing  # noqa: E402
 
 PAGE = ROOT / "docs/OPERATING.md"
 BEGIN, END = "<!-- The table of growth begins. -->\n", "<!-- The table of growth ends. -->\n"
@@ -79,9 +80,8 @@ def make(program, folder, office, more=b""):
     finally:
         server.stop()
     if office.is_full:
-        with closing(sqlite3.connect(str(server.file))) as database:
+        with changing(server.file) as database:
             database.execute("UPDATE keeping SET keep = ?", [GONE])
-            database.commit()
 
 
 def count_call(program, template, name):

@@ -7,6 +7,7 @@ program doesn't have that order yet. No server may have the file open.
 import functools
 import sqlite3
 
+from page_sums import renew_sums
 from program import run
 
 CARDS_MAX = 10_000
@@ -54,3 +55,4 @@ def resync_rows(file, skip=SKIP):
         db.execute("COMMIT")
     finally:
         db.close()
+    renew_sums(file)

@@ -8,6 +8,7 @@ import sqlite3
 import unittest
 
 from model.cards import BadCard, read_card, write_card
+from page_sums import renew_sums
 
 # What a book counts, in the order of the columns: its changes, its horizon, and its changes by
 # their reasons.
@@ -51,9 +52,13 @@ class Text(bytes):
 
 
 class Tables:
-    """A database in memory, or in the file at the path."""
+    """A database in memory, or in the file at the path.
+
+    A file with sums of its pages has right ones once it is closed.
+    """
 
     def __init__(self, path=":memory:", foreign_keys=True):
+        self.path = path
         self.db = sqlite3.connect(str(path), isolation_level=None)
         self.db.text_factory = Text
         self.db.execute(f"PRAGMA foreign_keys = {'ON' if foreign_keys else 'OFF'}")
@@ -68,6 +73,8 @@ class Tables:
 
     def close(self):
         self.db.close()
+        if self.path != ":memory:":
+            renew_sums(self.path)
 
     def lay(self, filled):
         """Declares the tables, as far as they are given, and fills each with its rows."""

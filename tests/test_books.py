@@ -11,6 +11,7 @@ import unittest
 import order_rows as rows
 from order_texts import books_text
 from order_trials import FIVE_CHANGES, MORE_CHANGES, NEEDS_STRICT, OrderTest
+from page_sums import changing
 from program import ROOT, Ended, Folder, run
 from tables import Tables
 
@@ -72,9 +73,8 @@ class Books(OrderTest):
     def test_a_damaged_file(self):
         self.make_books()
         self.change("a.db", FIVE_CHANGES)
-        with sqlite3.connect(self.folder / "a.db") as connection:
+        with changing(self.folder / "a.db") as connection:
             connection.execute("UPDATE book SET number = number + 1")
-        connection.close()
         words = b"a.db: it is damaged; restore a backup; contacts verify a.db names the row\n"
         for arguments, said in (["books", "a.db"], words), (["tally", "a.db", "staff"], b""):
             with self.subTest(arguments):

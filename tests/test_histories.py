@@ -11,12 +11,12 @@ first 3; a failure names its seed, and the step at which it came.
 import os
 import sqlite3
 import unittest
-from contextlib import closing
 
 import order_texts
 from histories import BOOKS, ELSEWHERE, HEADER, Copy, Drawing, csv_text, parts_of, path
 from http_requests import request
 from model.http import Session
+from page_sums import changing
 from program import Ended, Folder, Server, run
 from trial import Trial
 
@@ -249,7 +249,7 @@ class ForgetfulHistory(History):
     def __init__(self, *arguments):
         super().__init__(*arguments)
         # A new book remembers 10,000: more removals than a test of seconds can make.
-        with closing(sqlite3.connect(str(self.file))) as connection, connection:
+        with changing(self.file) as connection:
             connection.execute("UPDATE keeping SET keep = 3")
         for book in self.office.books.values():
             book.keep = 3

@@ -48,11 +48,9 @@ class Limits(ServedTest):
     def change_often(self, book, count):
         """Gives the book a past in which a card, long removed and forgotten, was edited often."""
         self.server.kill()
-        database = sqlite3.connect(str(self.file))
-        with database:
+        with changing(self.file) as database:
             changes = "UPDATE book SET number = ?, horizon = ?, edited = ? WHERE name = ?"
             database.execute(changes, [count, count, count, book])
-        database.close()
         events = LongList()
         events.before = count
         self.office.books[book].events = events

@@ -8,7 +8,6 @@ is refused and changes nothing, and all works again once there is room.
 import resource
 import sqlite3
 import unittest
-from contextlib import closing
 from pathlib import Path
 
 from http_requests import (
@@ -16,6 +15,7 @@ from http_requests import (
 )
 from model.books import Office
 from office_files import up_to
+from page_sums import changing
 from program import Server
 from replies import WalkTest, card_text, fault, page, removed_member, reply, stored_member
 
@@ -181,7 +181,7 @@ class FullBooksTest(NoRoomTest):
             ("x", put("clients", "x", "Xen"), CREATED, '{"put":"created","version":1}'),
         ])
         self.server.kill()
-        with closing(sqlite3.connect(str(self.file))) as database, database:
+        with changing(self.file) as database:
             spend = "UPDATE book SET number = ?, edited = ? WHERE name = 'staff'"
             database.execute(spend, (CHANGES_MAX, CHANGES_MAX - 3))
         self.serve_again()

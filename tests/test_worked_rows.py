@@ -7,11 +7,11 @@ rows of a history follow one another on one server.
 
 import sqlite3
 import unittest
-from contextlib import closing
 
 from http_requests import (
     COLUMNS, SYNC, books, create, export, forget, get, import_rows, move, put, remove, sync, tally,
 )
+from page_sums import changing
 from program import Folder, Server, run
 
 PHRASES = {
@@ -261,7 +261,7 @@ class WorkedRows(unittest.TestCase):
             run("init", file)
             run("book", file, "desk")
             # A new book keeps 10,000: more removals than a test of seconds can make.
-            with closing(sqlite3.connect(str(file))) as connection, connection:
+            with changing(file) as connection:
                 connection.execute("UPDATE keeping SET keep = 1")
             self.go(file, KEEP_ONE)
 

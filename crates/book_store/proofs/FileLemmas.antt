@@ -1,5 +1,5 @@
 -- The state of a store after opening files.
-use Rattle.std.proofs.Common.{◌≡◌, ap, ◌∙◌, sym, subst}
+use Rattle.std.proofs.Common.{◌≡◌, Bool, true, ap, ◌∙◌, sym, subst}
 use Rattle.sqlite.specs.Effect.{Database}
 use Rattle.sqlite.specs.Files.{AreFoundIn}
 use Rattle.sqlite.specs.Start.{FindsIn}
@@ -11,6 +11,7 @@ use Rattle.store_check.specs.OpenResults.{max_limits}
 use Rattle.store_tables.specs.SchemaCreation.{empty_schema}
 use Rattle.store_lookups.specs.StoredBooks.{IsOpenOnHonestDisk}
 use Rattle.book_store.specs.OpenOutcomes.{AreNewStoreTrees, StartsWithoutTables}
+use Rattle.book_store.specs.PageSums.{IsNewFile}
 
 -- a connection that was just opened and only tested shows what the files held
 pub found_well_formed : (old new : State) → ChangesNothing old new
@@ -37,11 +38,16 @@ found_in_files image old new left opened found before order =
     }
 
 -- a store that was created in files began with what the files held, which had no tables
-pub created_start : {C : Type 0} (state_of : C → State) (image : Image) (old new : C)
+pub created_start : {C : Type 0} (state_of : C → State) (has_sums : C → Bool) (image : Image)
+    (old new : C)
     → (HasCleanDisk (state_of old) → FindsIn image (state_of old))
+    → (HasCleanDisk (state_of old) → IsNewFile image → has_sums old ≡ true)
     → (IsOpenOnHonestDisk (state_of new) → IsOpenOnHonestDisk (state_of old))
     → (state_of old).now.schema ≡ empty_schema
     → Survives (state_of old) (state_of new) AreNewStoreTrees
-    → IsOpenOnHonestDisk (state_of new) → StartsWithoutTables state_of image new
-created_start state_of image old new found before empty crash order =
-    record { start = old; found = found (before order).0; was_empty = empty; crash = crash }
+    → IsOpenOnHonestDisk (state_of new) → StartsWithoutTables state_of has_sums image new
+created_start state_of has_sums image old new found summed before empty crash order =
+    record {
+      start = old; found = found (before order).0; was_empty = empty;
+      sums = summed (before order).0; crash = crash
+    }

@@ -1,3 +1,4 @@
+pub mod PageSums
 pub mod OpenOutcomes
 pub mod StoreViews
 pub mod Answering

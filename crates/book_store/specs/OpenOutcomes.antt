@@ -1,5 +1,5 @@
 -- The results of creating and opening a store.
-use Rattle.std.specs.Prelude.{◌≡◌, IsTrue, Err, false}
+use Rattle.std.specs.Prelude.{◌≡◌, Bool, IsTrue, Err, false, true}
 use Rattle.sqlite.specs.Held.{Held, state}
 use Rattle.sqlite.specs.Recovery.{Image}
 use Rattle.sqlite.specs.Start.{FindsIn}
@@ -15,6 +15,7 @@ use Rattle.store_schema.specs.declared.open_fault.OpenFault.{OpenFault}
 use Rattle.store_schema.specs.declared.open_fault.OpenFault.TheVariants.{Store, NotEmpty, Memory}
 use Rattle.store_tables.specs.SchemaCreation.{empty_schema}
 use Rattle.store_check.specs.OpenResults.{IsOpenResult, max_limits}
+use Rattle.book_store.specs.PageSums.{IsNewFile}
 
 -- ---- new stores
 
@@ -49,13 +50,16 @@ IsCreationRefusal g old new fault = ⊥
 -- ---- new stores in files
 
 -- The files held a database without tables when they were opened. Then the tables were created: a
--- crash leaves what it could leave at the start, or the created tables.
+-- crash leaves what it could leave at the start, or the created tables. If the files were new, each
+-- page has a sum: `has_sums` says whether a connection's file has them.
 pub record StartsWithoutTables
-    {Connection : Type 0} (state_of : Connection → State) (image : Image) (new : Connection)
+    {Connection : Type 0} (state_of : Connection → State) (has_sums : Connection → Bool)
+    (image : Image) (new : Connection)
     : Type 0 where
   pub start : Connection
   pub found : FindsIn image (state_of start)
   pub was_empty : (state_of start).now.schema ≡ empty_schema
+  pub sums : IsNewFile image → has_sums start ≡ true
   pub crash : Survives (state_of start) (state_of new) AreNewStoreTrees
 
 -- ---- existing tables

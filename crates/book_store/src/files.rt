@@ -12,6 +12,7 @@ ghost use Rattle.book_store.specs.FileRefusals.{
 };
 ghost use Rattle.book_model.specs.Books.{Books};
 ghost use Rattle.book_store.specs.OpenOutcomes.{StartsWithoutTables};
+ghost use Rattle.book_store.specs.PageSums.{has_page_sums};
 ghost use Rattle.book_store.specs.Restarts.{HasPathCause, HoldsStore, declared_over};
 ghost use Rattle.store_check.specs.OpenResults.{max_limits};
 ghost use Rattle.store_rows.specs.SoundTables.{HoldsWellFormed};
@@ -138,7 +139,8 @@ pub(crate) fn open_refusal<S: Start>(
 
 impl<S: Start> SqlStore<FileStore<FileFrom<S>>> {
     /// Creates a store without books in the file at the path. The file is created if there is none,
-    /// and may exist if it is empty.
+    /// and may exist if it is empty. Each page of a new file ends in a sum of its octets, and an
+    /// opening refuses a file in which one is wrong.
     ///
     /// Fails with `NotEmpty` if it has tables, also if their rows break their declarations; with
     /// `NotOurs` if it is not a database; with `Memory` if memory runs out; and with `Store` if it
@@ -152,7 +154,7 @@ impl<S: Start> SqlStore<FileStore<FileFrom<S>>> {
         start: S,
     ) -> Result<FileBooksFrom<S>, FileRefusal<S>>
         ensures found { IfOk result (λ store. IsOpenOnHonestDisk (file_state store.conn)
-            → StartsWithoutTables file_state (image_at S.Start) store.conn) }
+            → StartsWithoutTables file_state has_page_sums (image_at S.Start) store.conn) }
         ensures books { IfOk result (λ store. IsOpenOnHonestDisk (file_state store.conn)
             → stored_books (file_state store.conn) ≡ finite.empty) }
         ensures limits { IfOk result (λ store. store.limits ≡ limits) }
@@ -162,7 +164,7 @@ impl<S: Start> SqlStore<FileStore<FileFrom<S>>> {
         ensures refused { IfErr result (λ refused.
             IsFileCreationRefusal (image_at S.Start) refused.0 refused.1) }
     {
-        match Connection::open_from(rt, path, false, start) {
+        match Connection::open_from(rt, path, true, start) {
             Ok(connection) => match SqlStore::try_adopt_new(rt.alloc(), connection, limits) {
                 Ok(store) => Ok(store),
                 Err((fault, conn)) => Err((fault, Some(Leftover::Store(conn.into_store())))),

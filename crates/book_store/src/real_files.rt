@@ -1,6 +1,9 @@
 //! The files of a program. Copying them is written over any disk: so the proof of each step needs
 //! none of the clauses of the real one.
-ghost use Rattle.std.specs.Prelude.{◌≡◌, IfOk, false};
+ghost use Rattle.book_store.specs.PageSums.{has_page_sums};
+ghost use Rattle.sqlite.specs.Files.{file_state};
+ghost use Rattle.sqlite.specs.State.{HasCleanDisk};
+ghost use Rattle.std.specs.Prelude.{◌≡◌, IfOk, false, true};
 
 use crate::closing::remove_new;
 use crate::files::open_standard;
@@ -35,9 +38,11 @@ fn open_new(
     target: &str,
     log: &str,
 ) -> Result<Connection<FileStore<FileFrom<Unknown>>>, OpenFault>
-    ensures { IfOk result (λ connection. connection.in_transaction ≡ false) }
+    ensures settled { IfOk result (λ connection. connection.in_transaction ≡ false) }
+    ensures sums { IfOk result (λ connection. HasCleanDisk (file_state connection)
+        → has_page_sums connection ≡ true) }
 {
-    match Connection::open_from(rt, target, false, Unknown) {
+    match Connection::open_with_sums(rt, target) {
         Ok(connection) => {
             // Before anything is written that others may not read.
             if take_mode(rt, path, target, log).is_err() {
@@ -46,7 +51,7 @@ fn open_new(
             }
             Ok(connection)
         }
-        Err((error, _left)) => {
+        Err(error) => {
             if is_empty_file(rt, target) {
                 remove_new(rt, target, log);
             }
@@ -65,7 +70,7 @@ pub(crate) trait OpensFiles<D: Disk + Drop> {
     ) -> Result<SqlStore<FileStore<D>>, OpenFault>;
 
     /// Opens a new file, with the mode of the file at the path. If that fails, an empty file is
-    /// removed.
+    /// removed. Each page of the file ends in a sum of its octets.
     fn open_new(
         &self,
         rt: &HostRuntime,
@@ -73,7 +78,9 @@ pub(crate) trait OpensFiles<D: Disk + Drop> {
         target: &str,
         log: &str,
     ) -> Result<Connection<FileStore<D>>, OpenFault>
-        ensures { IfOk result (λ connection. connection.in_transaction ≡ false) };
+        ensures settled { IfOk result (λ connection. connection.in_transaction ≡ false) }
+        ensures sums { IfOk result (λ connection. HasCleanDisk (file_state connection)
+            → has_page_sums connection ≡ true) };
 }
 
 /// The files of the system.

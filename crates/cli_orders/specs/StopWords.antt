@@ -33,6 +33,8 @@ store_words found.DiskFull = codes "its disk is full; make room"
 store_words found.Taken = codes "another program has it open"
 store_words found.HasJournal =
     codes "a journal of SQLite is beside it; open it with sqlite3 first"
+store_words found.Damaged =
+    codes "its pages are damaged, or sqlite3 wrote to it; restore a backup"
 store_words cause = codes "its disk failed or is full, or what it holds can't be read"
 
 -- Which order helps: one that makes the file, if it is missing. Who looks for the books of a file has

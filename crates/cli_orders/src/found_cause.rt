@@ -25,6 +25,8 @@ pub enum FoundCause {
     Taken,
     /// A rollback journal of SQLite is beside it.
     HasJournal,
+    /// A page isn't as it was written, or isn't one of a sound database.
+    Damaged,
     /// It has more octets than a file of rows may have.
     TooLong,
     /// It can't be read for another reason.

@@ -26,6 +26,7 @@ pub(crate) fn store_words(cause: FoundCause) -> &'static str
         FoundCause::DiskFull => "its disk is full; make room",
         FoundCause::Taken => "another program has it open",
         FoundCause::HasJournal => "a journal of SQLite is beside it; open it with sqlite3 first",
+        FoundCause::Damaged => "its pages are damaged, or sqlite3 wrote to it; restore a backup",
         _ => "its disk failed or is full, or what it holds can't be read",
     }
 }

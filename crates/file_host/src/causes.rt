@@ -6,6 +6,7 @@
 use crate::file_care::{log_of, remove_if_vacant};
 use crate::ports::loopback;
 use cli_orders::FoundCause;
+use sqlite::{Connection, Error, ErrorCode};
 use sqlite_std_file::{OpenError, Unknown};
 use std::fs::File;
 use std::io::{ErrorKind, Read, Write};
@@ -119,11 +120,26 @@ fn open_once(rt: &HostRuntime, file: &str) -> Option<FoundCause> {
     }
 }
 
-/// Why the store file or its log can't be opened, or else whether there is room.
-fn opening_cause(rt: &HostRuntime, file: &str) -> FoundCause {
-    match open_once(rt, file) {
-        Some(cause) => cause,
-        None => room_cause(rt, file),
+/// Whether an opening of the store file, which isn't empty, finds that its pages are damaged. It
+/// leaves no log that it made.
+fn has_damaged_pages(rt: &HostRuntime, file: &str) -> bool {
+    let is_damaged = match Connection::open_from(rt, file, false, Unknown) {
+        Err((Error::SqliteFailure(ErrorCode::DatabaseCorrupt), _left)) => true,
+        _ => false,
+    };
+    remove_vacant_log(rt, file);
+    is_damaged
+}
+
+/// Why the store file or its log can't be opened, or else whether its pages are damaged, or whether
+/// there is room.
+fn opening_cause(rt: &HostRuntime, file: &str, is_empty: bool) -> FoundCause {
+    if let Some(cause) = open_once(rt, file) {
+        cause
+    } else if !is_empty && has_damaged_pages(rt, file) {
+        FoundCause::Damaged
+    } else {
+        room_cause(rt, file)
     }
 }
 
@@ -158,7 +174,7 @@ pub(crate) fn store_cause(rt: &HostRuntime, file: &str, makes_file: bool) -> Fou
     } else if !found.is_file() || found.nlink() != 1 {
         FoundCause::NotPlain
     } else {
-        opening_cause(rt, file)
+        opening_cause(rt, file, found.len() == 0)
     }
 }
 

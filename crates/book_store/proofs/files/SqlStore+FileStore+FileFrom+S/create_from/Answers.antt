@@ -2,14 +2,15 @@ use Rattle.sqlite.specs.Files.{file_state}
 use Rattle.sqlite.specs.WalFiles.{image_at}
 use Rattle.store_schema.proofs.LeftoverLemmas.{seen_alike}
 use Rattle.book_store.proofs.FileLemmas.{created_start}
+use Rattle.book_store.specs.PageSums.{has_page_sums}
 use Rattle.book_store.proofs.RefusalLemmas.{created_fault, fails_over, refused_kind}
 use Rattle.book_store.proofs.files.SqlStore+FileStore+FileFrom+S.create_from.Goals as goal
 
 pub returns-in-Ok-try_adopt_new-clause-found : goal.returns-in-Ok-try_adopt_new-clause-found
 returns-in-Ok-try_adopt_new-clause-found g c =
     let e = c.in-Ok-try_adopt_new.ensures in
-    created_start file_state _ c.in-Ok.connection c.in-Ok-try_adopt_new.store.conn
-    c.in-Ok.ensures.found e.premise e.was_empty e.crash
+    created_start file_state has_page_sums _ c.in-Ok.connection c.in-Ok-try_adopt_new.store.conn
+    c.in-Ok.ensures.found c.in-Ok.ensures.sums e.premise e.was_empty e.crash
 
 pub returns-in-Err-try_adopt_new-clause-fault : goal.returns-in-Err-try_adopt_new-clause-fault
 returns-in-Err-try_adopt_new-clause-fault g c =
