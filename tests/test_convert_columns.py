@@ -85,6 +85,46 @@ CELLS = [
         ["Name kept as X-NAME"],
     ),
     (
+        "several postal addresses in Google's cells, of which the first has no region",
+        "First Name,Email,Address 1 - Label,Address 1 - Formatted,Address 1 - Street,"
+        "Address 1 - City,Address 1 - Region,Address 1 - Postal Code,Address 1 - Country\n"
+        'Ann,a@x.test,Home,"1 Main St\nBerlin ::: 2 Side St\nParis",1 Main St ::: 2 Side St,'
+        "Berlin ::: Paris, ::: IDF,10115 ::: 75001,\n",
+        ["ADR;TYPE=home;LABEL=1 Main St^nBerlin:;;1 Main St;Berlin;;10115;",
+         "ADR;TYPE=home;LABEL=2 Side St^nParis:;;2 Side St;Paris;IDF;75001;",
+         "EMAIL:a@x.test", "FN:Ann", "N:;Ann;;;"],
+        [],
+    ),
+    (
+        "several postal addresses with a label that is no type, and one more under another number",
+        "First Name,Email,Address 1 - Label,Address 1 - Formatted,Address 1 - Street,"
+        "Address 1 - City,Address 2 - Street\n"
+        "Ann,a@x.test,Summer,A ::: B ::: C,a ::: b ::: c,x ::: y ::: z,d\n",
+        ["ADR:;;d;;;;", "EMAIL:a@x.test", "FN:Ann", "N:;Ann;;;", "item1.ADR;LABEL=A:;;a;x;;;",
+         "item1.ADR;LABEL=B:;;b;y;;;", "item1.ADR;LABEL=C:;;c;z;;;", "item1.X-ABLABEL:Summer"],
+        [],
+    ),
+    (
+        "several postal addresses of which one has no label, and several labels without components",
+        "First Name,Email,Address 1 - Formatted,Address 1 - Street,Address 2 - Formatted\n"
+        "Ann,a@x.test,A :::  ::: C,a ::: b ::: c,D ::: E\n",
+        ["ADR:;;b;;;;", "ADR;LABEL=A:;;a;;;;", "ADR;LABEL=C:;;c;;;;", "ADR;LABEL=D:;;;;;;",
+         "ADR;LABEL=E:;;;;;;", "EMAIL:a@x.test", "FN:Ann", "N:;Ann;;;"],
+        [],
+    ),
+    (
+        "postal addresses of which it isn't clear what belongs together",
+        "First Name,Email,Address 1 - Formatted,Address 1 - Street,Address 1 - City,"
+        "Address 1 - Country\n"
+        "Ann,a@x.test,A ::: B,a ::: b,x,u ::: v ::: w\n",
+        ['ADR;LABEL="A ::: B":;;a ::: b;x;;;u ::: v ::: w',
+         "EMAIL:a@x.test", "FN:Ann", "N:;Ann;;;", "X-ADDRESS-1---COUNTRY:u ::: v ::: w",
+         "X-ADDRESS-1---FORMATTED:A ::: B", "X-ADDRESS-1---STREET:a ::: b"],
+        ["Address 1 - Formatted kept as X-ADDRESS-1---FORMATTED",
+         "Address 1 - Street kept as X-ADDRESS-1---STREET",
+         "Address 1 - Country kept as X-ADDRESS-1---COUNTRY"],
+    ),
+    (
         "several addresses in a cell",
         "Name,Email\nAnn,a@x.test; b@x.test\n",
         ["EMAIL:a@x.test", "EMAIL:b@x.test", "FN:Ann", "X-EMAIL:a@x.test\\; b@x.test"],

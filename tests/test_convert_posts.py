@@ -471,6 +471,9 @@ WORST = {
     "many cells":
         b"Name,Phone 1 - Value" + b",c" * 900 + b"\n" + (b"A,1" + b",v" * 900 + b"\n") * 4_000,
     "many values": GOOGLE.encode() + b"A," + b"a ::: " * 1_000_000 + b",,,\n",
+    "many addresses":
+        b"Name,Phone 1 - Value,Address 1 - Formatted,Address 1 - Street\n"
+        + (b"A,1," + b"a ::: " * 800 + b"," + b"a ::: " * 800 + b"\n") * 700,
     "a long header": b"a," * 4_000_000 + b"\n",
     "a header that goes on": b'Name,Email,"' + b"x" * 16_400 + b'"' + b",a" * 110_000 + b"\nA,a@x\n",
     "a header of several lines": b'Name,Email,"\n",' + b'",\n",' * 5_000 + b"\n",

@@ -1,5 +1,5 @@
 -- What the loop over the cells keeps, and the UID of the card.
-use Rattle.std.proofs.Common.{◌≡◌, ◌≤◌, ◌+◌, ℕ, List, [], ◌∷◌, ◌++◌, get_or, length, true, None}
+use Rattle.std.proofs.Common.{◌≡◌, ◌≤◌, ◌+◌, ℕ, List, [], ◌∷◌, ◌++◌, get_or, length, true, Some, None}
 use Rattle.std.proofs.Common.{inl, inr, map, ap, refl, sym, subst, ◌∙◌, arith}
 use Rattle.std.specs.Char.{to_ascii_uppercase}
 use Rattle.std.specs.Str.{str_to_ascii_uppercase}
@@ -18,8 +18,10 @@ use Rattle.vcard_text.specs.Making.{upper_line, upper_lines}
 use Rattle.vcard_property.specs.declared.change_kind.ChangeKind.{ChangeKind}
 use Rattle.vcard_property.specs.declared.change_kind.ChangeKind.TheVariants.{Rewritten, KeptAside}
 use Rattle.contact_csv.specs.Carrying.{IsCarried, column_at, component_in, change, is_date_column}
-use Rattle.contact_csv.specs.Carrying.{is_date_name, as_date, in_parts, kept_aside, whole}
+use Rattle.contact_csv.specs.Carrying.{is_date_name, as_date, in_addresses, in_component, in_parts}
+use Rattle.contact_csv.specs.Carrying.{kept_aside, whole}
 use Rattle.contact_csv.specs.internal.Keeping.{BeginsWithUid, IsCarriedWhole, KeepsAside, KeepsCell}
+use Rattle.contact_csv.specs.internal.Keeping.{IsComponentCarried}
 use Rattle.contact_csv.specs.internal.Keeping.{Keeps, ReportsOnly}
 use Rattle.contact_columns.specs.declared.columns.Column.{Column}
 use Rattle.contact_csv.specs.declared.keeping.Kept.{Kept}
@@ -185,3 +187,13 @@ pub carried_whole : (column : Column) (place : ℕ) (text : List ℕ) (lines : L
 carried_whole column place text lines changes none (inl held) = whole none held
 carried_whole column place text lines changes none (inr parts) =
     in_parts parts.0 none parts.1 parts.2
+
+-- a text that is a component is carried as one, or as several addresses
+pub component_carried : (column : Column) (place : ℕ) (text : List ℕ) (lines : List Line) (changes :
+    List Change) (index : ℕ) → component_in column ≡ Some index
+    → IsComponentCarried column.property index text lines
+    → IsCarried column place text lines changes
+component_carried column place text lines changes index some (inl held) =
+    in_component index some held
+component_carried column place text lines changes index some (inr parts) =
+    in_addresses index some parts.0 parts.1

@@ -66,13 +66,18 @@ pub data IsPartHeld (property part : List ℕ) (lines : List Line) : Type 0 wher
   starred_part : (text : List ℕ) → part ≡ codes "* " ++ text → is_held property text lines ≡ true
       → IsPartHeld property part lines
 
+-- The part has no value, or a line of the property has it in the component at the index.
+pub data IsComponentPart (property : List ℕ) (index : ℕ) (part : List ℕ) (lines : List Line)
+    : Type 0 where
+  void_component : is_void part ≡ true → IsComponentPart property index part lines
+  held_component : is_component_held property index part lines ≡ true
+      → IsComponentPart property index part lines
+
 -- The text is parts with the separator between them, each of which is held.
-pub data ArePartsHeld (separator property : List ℕ) (lines : List Line) : List ℕ → Type 0 where
-  last_part : (part : List ℕ) → IsPartHeld property part lines
-      → ArePartsHeld separator property lines part
-  next_part : (text part rest : List ℕ) → text ≡ part ++ separator ++ rest
-      → IsPartHeld property part lines → ArePartsHeld separator property lines rest
-      → ArePartsHeld separator property lines text
+pub data ArePartsHeld (separator : List ℕ) (IsHeld : List ℕ → Type 0) : List ℕ → Type 0 where
+  last_part : (part : List ℕ) → IsHeld part → ArePartsHeld separator IsHeld part
+  next_part : (text part rest : List ℕ) → text ≡ part ++ separator ++ rest → IsHeld part
+      → ArePartsHeld separator IsHeld rest → ArePartsHeld separator IsHeld text
 
 -- ---- labels
 
@@ -125,12 +130,17 @@ pub data IsCarried (column : Column) (place : ℕ) (text : List ℕ) (lines : Li
   in_component : (index : ℕ) → component_in column ≡ Some index
       → is_component_held column.property index text lines ≡ true
       → IsCarried column place text lines changes
+  -- it has several addresses, and lines of ADR have the values between the separators in the
+  -- component of its column
+  in_addresses : (index : ℕ) → component_in column ≡ Some index → column.property ≡ codes "ADR"
+      → ArePartsHeld (codes " ::: ") (λ part. IsComponentPart column.property index part lines) text
+      → IsCarried column place text lines changes
   -- its column has no component, and a line of the property has the text
   whole : component_in column ≡ None → is_held column.property text lines ≡ true
       → IsCarried column place text lines changes
   -- its column has no component, and lines of the property have the values between the separators
   in_parts : (separator : List ℕ) → component_in column ≡ None
-      → ArePartsHeld separator column.property lines text
+      → ArePartsHeld separator (λ part. IsPartHeld column.property part lines) text
       → (separator ≡ codes " ::: ")
       ⊎ ((separator ≡ codes ";") × (column.property ≡ codes "CATEGORIES"))
       → IsCarried column place text lines changes

@@ -4,7 +4,8 @@ ghost use Rattle.std.specs.Prelude.{bytes_eq, codes, get_or, length, map, string
 ghost use Rattle.std.specs.List.{list_any};
 ghost use Rattle.vcard_lines.specs.TextValues.{components};
 ghost use Rattle.contact_csv.specs.Carrying.{caret_text, param_has, has_text, is_held, IsPartHeld};
-ghost use Rattle.contact_csv.specs.Carrying.{ArePartsHeld, has_types, IsLabel, IsLabelHeld};
+ghost use Rattle.contact_csv.specs.Carrying.{ArePartsHeld, IsComponentPart};
+ghost use Rattle.contact_csv.specs.Carrying.{has_types, IsLabel, IsLabelHeld};
 ghost use Rattle.contact_csv.specs.Carrying.{is_component_held, is_date_name, is_date_column};
 
 use crate::labels::label_types;
@@ -170,6 +171,16 @@ fn holds_part(
     }
 }
 
+/// The index of the line that should hold the part after this one. A part without a value has no
+/// line, but an address of which another cell has a value does.
+fn place_after(place: usize, property: &str, part: &str) -> usize {
+    if is_void(part) && property != "ADR" {
+        place
+    } else {
+        place.saturating_add(1)
+    }
+}
+
 /// Whether the lines from the index on hold the parts of the text that the separator separates.
 pub(crate) fn holds_parts(
     alloc: Global,
@@ -181,7 +192,7 @@ pub(crate) fn holds_parts(
 ) -> Result<bool, NoMemory>
     requires { 0 < length separator.now }
     ensures { IfOk result (λ holds. holds ≡ true
-        → ArePartsHeld separator.now property.now lines.now text.now) }
+        → ArePartsHeld separator.now (λ part. IsPartHeld property.now part lines.now) text.now) }
 {
     let mut rest = text;
     let mut place = home;
@@ -189,12 +200,54 @@ pub(crate) fn holds_parts(
         if !holds_part(alloc, lines, place, property, part)? {
             return Ok(false);
         }
-        if !is_void(part) {
-            place = place.saturating_add(1);
-        }
+        place = place_after(place, property, part);
         rest = tail;
     }
     holds_part(alloc, lines, place, property, rest)
+}
+
+/// Whether the part has no value, or the line at the index `home` has the name, and the part in its
+/// component at `index`.
+fn holds_component_part(
+    alloc: Global,
+    lines: &[Line],
+    home: usize,
+    property: &str,
+    index: usize,
+    part: &str,
+) -> Result<bool, NoMemory>
+    ensures { IfOk result (λ holds. IsTrue holds
+        → IsComponentPart property.now index part.now lines.now) }
+{
+    if is_void(part) {
+        return Ok(true);
+    }
+    holds_component(alloc, lines, home, property, index, part)
+}
+
+/// Whether the lines from the index `home` on have the parts of the text that Google's separator
+/// separates, each in its component at `index`.
+pub(crate) fn holds_components(
+    alloc: Global,
+    lines: &[Line],
+    home: usize,
+    property: &str,
+    index: usize,
+    text: &str,
+) -> Result<bool, NoMemory>
+    ensures { IfOk result (λ holds. IsTrue holds → ArePartsHeld (codes " ::: ")
+        (λ part. IsComponentPart property.now index part lines.now) text.now) }
+{
+    let mut rest = text;
+    let mut place = home;
+    while let Some((part, tail)) = split_at(rest, " ::: ") {
+        if !holds_component_part(alloc, lines, place, property, index, part)? {
+            return Ok(false);
+        }
+        place = place.saturating_add(1);
+        rest = tail;
+    }
+    holds_component_part(alloc, lines, place, property, index, rest)
 }
 
 /// Whether the value is this text.

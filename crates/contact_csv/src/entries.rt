@@ -3,6 +3,7 @@
 use crate::labels::label_types;
 use crate::lines::{label_param, make_param, type_param};
 use crate::row_lines::RowLines;
+use crate::structured::{has_parts, push_structured_lines};
 use crate::values::{gender_value, takes_text};
 use contact_columns::{DateOrder, Part, Slot, basic_date, component_count, is_void};
 use std::alloc::Global;
@@ -289,11 +290,12 @@ fn push_in_group(
     made: &mut RowLines,
     slot: &Slot,
     label: Label<'_>,
-    cell: &str,
+    cells: &[Text],
+    value: &str,
     group: &Text,
 ) -> Result<(), NoMemory> {
     let model = line_of(alloc, slot, label, Some(group.try_copy()?))?;
-    push_value(alloc, made, slot, &model, cell)
+    push_value(alloc, made, slot, &model, cells, value)
 }
 
 /// Appends the lines of a value with a label that vCard 4.0 has no type for.
@@ -302,28 +304,28 @@ fn push_labelled(
     made: &mut RowLines,
     slot: &Slot,
     label: Label<'_>,
-    cell: &str,
+    cells: &[Text],
+    value: &str,
 ) -> Result<(), NoMemory> {
     let group = made.new_group(alloc)?;
-    push_in_group(alloc, made, slot, label, cell, &group)?;
+    push_in_group(alloc, made, slot, label, cells, value, &group)?;
     made.set_home(slot.place_of(Part::Label));
     push_label(alloc, made, group, label.text)
 }
 
-/// Appends the lines of a value, or the line of components.
+/// Appends the lines of a value, or those of components.
 fn push_value(
     alloc: Global,
     made: &mut RowLines,
     slot: &Slot,
     model: &Line,
-    cell: &str,
+    cells: &[Text],
+    value: &str,
 ) -> Result<(), NoMemory> {
     if component_count(slot.property.as_str()) == 0 {
-        return push_parts(alloc, made, model, cell);
+        return push_parts(alloc, made, model, value);
     }
-    let mut line = model.try_copy()?;
-    line.value = Text::copy_of(alloc, cell)?;
-    made.push(alloc, line)
+    push_structured_lines(alloc, made, slot, model, cells)
 }
 
 /// Appends the lines of the slot, whose label needs no line of its own.
@@ -336,12 +338,11 @@ fn push_unlabelled(
     value: &str,
 ) -> Result<(), NoMemory> {
     made.set_home(slot.place_of(Part::Label));
-    let mut model = line_of(alloc, slot, label, None)?;
-    push_formatted(alloc, &mut model, slot, cells)?;
-    push_value(alloc, made, slot, &model, value)
+    let model = line_of(alloc, slot, label, None)?;
+    push_value(alloc, made, slot, &model, cells, value)
 }
 
-/// Appends the lines of the slot, whose value is this.
+/// Appends the lines of the slot, whose value is this; it is empty if the slot has components.
 fn push_slot(
     alloc: Global,
     made: &mut RowLines,
@@ -352,81 +353,26 @@ fn push_slot(
     let label = label_of(cell_at(cells, slot.place_of(Part::Label)));
     let name = property_name(slot, label);
     if label.is_custom() && name == slot.property.as_str() {
-        push_labelled(alloc, made, slot, label, value)
+        push_labelled(alloc, made, slot, label, cells, value)
     } else {
         push_unlabelled(alloc, made, slot, label, cells, value)
     }
 }
 
-/// Gives an address its parameter LABEL (RFC 6350, section 6.3.1), if the row has it.
-fn push_formatted(
-    alloc: Global,
-    model: &mut Line,
-    slot: &Slot,
-    cells: &[Text],
-) -> Result<(), NoMemory> {
-    let formatted = cell_at(cells, slot.place_of(Part::Formatted));
-    if !is_void(formatted) {
-        model.params.push(make_param(alloc, "LABEL", formatted)?)?;
-    }
-    Ok(())
-}
-
-/// The number of components that are written: those of ORG may be fewer.
-fn written_count(slot: &Slot, cells: &[Text]) -> usize {
-    let count = component_count(slot.property.as_str());
-    if count == 2 && is_void(cell_at(cells, slot.place_of(Part::Component(1)))) {
-        return 1;
-    }
-    count
-}
-
-/// Appends a component, after a semicolon unless it is the first.
-fn push_component(
-    alloc: Global,
-    value: &mut String,
-    place: usize,
-    cell: &str,
-) -> Result<(), NoMemory> {
-    if place > 0 {
-        value.push(';')?;
-    }
-    value.push_str(escape(alloc, cell)?.as_str())?;
-    Ok(())
-}
-
-/// The components with semicolons between them, and whether one isn't void.
-fn structured_value(
-    alloc: Global,
-    slot: &Slot,
-    cells: &[Text],
-) -> Result<(String, bool), NoMemory> {
-    let mut value = String::new(alloc);
-    let mut has_value = false;
-    for place in 0..written_count(slot, cells) {
-        let cell = cell_at(cells, slot.place_of(Part::Component(place)));
-        has_value = has_value || !is_void(cell);
-        push_component(alloc, &mut value, place, cell)?;
-    }
-    Ok((value, has_value))
-}
-
-/// Appends the line of components, if the row has one.
+/// Appends the lines of components, if the row has one.
 fn push_structured(
     alloc: Global,
     made: &mut RowLines,
     slot: &Slot,
     cells: &[Text],
 ) -> Result<(), NoMemory> {
-    let (value, has_value) = structured_value(alloc, slot, cells)?;
-    let has_label = !is_void(cell_at(cells, slot.place_of(Part::Formatted)));
-    if !has_value && !has_label {
+    if !has_parts(alloc, slot, cells)? {
         return Ok(());
     }
     for column in &slot.columns {
         made.set_home(Some(column.place));
     }
-    push_slot(alloc, made, slot, cells, value.as_str())
+    push_slot(alloc, made, slot, cells, "")
 }
 
 /// The date whose year, month and day the cells have, or without a year; empty if the month or the

@@ -7,12 +7,14 @@ ghost use Rattle.vcard_import.specs.declared.change.Change.{Change};
 ghost use Rattle.contact_csv.specs.Carrying.{IsCarried, IsAsideName, change};
 ghost use Rattle.contact_csv.specs.Carrying.{column_at, extra_column};
 ghost use Rattle.contact_csv.specs.internal.Keeping.{BeginsWithUid, IsCarriedWhole, KeepsAside};
+ghost use Rattle.contact_csv.specs.internal.Keeping.{IsComponentCarried};
 ghost use Rattle.contact_csv.specs.internal.Keeping.{KeepsCell, Keeps, ReportsOnly};
 
 use crate::carried::{
-    holds_component, holds_label, holds_parts, holds_text, is_date_text, is_dated,
+    holds_component, holds_components, holds_label, holds_parts, holds_text, is_date_text, is_dated,
 };
 use crate::row_lines::RowLines;
+use crate::structured::JOINER;
 use crate::uid::is_uid_column;
 use contact_columns::{Column, component_of, is_void, row_field};
 use csv::ByteRecord;
@@ -102,12 +104,39 @@ fn is_carried(
         return holds_label(alloc, lines, home, text);
     }
     match component_of(property, column.known.as_str()) {
-        Some(index) => holds_component(alloc, lines, home, property, index, text),
+        Some(index) => is_component_carried(alloc, lines, home, property, index, text),
         None => is_carried_whole(alloc, lines, home, property, text),
     }
 }
 
-/// Whether the lines carry the text, which is no component.
+/// Whether the cell has several addresses, as Google writes them.
+fn are_addresses(property: &str, text: &str) -> bool
+    ensures { IsTrue result → property.now ≡ codes "ADR" }
+{
+    property == "ADR" && text.contains(JOINER)
+}
+
+/// Whether the lines carry the text, which is the component at the index. If it has several
+/// addresses, each of them must be a line.
+fn is_component_carried(
+    alloc: Global,
+    lines: &[Line],
+    home: usize,
+    property: &str,
+    index: usize,
+    text: &str,
+) -> Result<bool, NoMemory>
+    ensures { IfOk result (λ carried. IsTrue carried
+        → IsComponentCarried property.now index text.now lines.now) }
+{
+    if are_addresses(property, text) {
+        return holds_components(alloc, lines, home, property, index, text);
+    }
+    holds_component(alloc, lines, home, property, index, text)
+}
+
+/// Whether the lines carry the text, which is no component. If it has several addresses, each of
+/// them must be a line.
 fn is_carried_whole(
     alloc: Global,
     lines: &[Line],
@@ -118,7 +147,7 @@ fn is_carried_whole(
     ensures { IfOk result (λ carried. IsTrue carried
         → IsCarriedWhole property.now text.now lines.now) }
 {
-    if holds_text(alloc, lines, home, property, text)? {
+    if !are_addresses(property, text) && holds_text(alloc, lines, home, property, text)? {
         return Ok(true);
     }
     if holds_parts(alloc, lines, home, property, text, " ::: ")? {

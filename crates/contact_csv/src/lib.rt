@@ -15,6 +15,7 @@ mod owners;
 mod row_fault;
 mod row_lines;
 mod rows;
+mod structured;
 mod uid;
 mod values;
 mod whole_names;

@@ -6,17 +6,25 @@ use Rattle.vcard_text.specs.Making.{upper_line, upper_lines}
 use Rattle.vcard_property.specs.Lines.{plain_line}
 use Rattle.vcard_import.specs.declared.change.Change.{Change}
 use Rattle.vcard_property.specs.declared.change_kind.ChangeKind.TheVariants.{KeptAside}
-use Rattle.contact_csv.specs.Carrying.{ArePartsHeld, IsCarried, IsAsideName}
-use Rattle.contact_csv.specs.Carrying.{change, column_at, is_held}
+use Rattle.contact_csv.specs.Carrying.{ArePartsHeld, IsCarried, IsAsideName, IsComponentPart}
+use Rattle.contact_csv.specs.Carrying.{IsPartHeld, change, column_at, is_component_held, is_held}
 use Rattle.contact_columns.specs.declared.columns.Column.{Column}
 use Rattle.contact_csv.specs.declared.keeping.Kept.{Kept}
 
 -- The text is carried in a column of the property whose cells are no components.
 abbrev pub IsCarriedWhole : List ℕ → List ℕ → List Line → Type 0
 IsCarriedWhole property text lines = (is_held property text lines ≡ true)
-    ⊎ ((separator : List ℕ) × ArePartsHeld separator property lines text
+    ⊎ ((separator : List ℕ)
+    × ArePartsHeld separator (λ part. IsPartHeld property part lines) text
     × ((separator ≡ codes " ::: ")
     ⊎ ((separator ≡ codes ";") × (property ≡ codes "CATEGORIES"))))
+
+-- The text is carried in a column of the property whose cells are its component at the index.
+abbrev pub IsComponentCarried : List ℕ → ℕ → List ℕ → List Line → Type 0
+IsComponentCarried property index text lines =
+    (is_component_held property index text lines ≡ true)
+    ⊎ ((property ≡ codes "ADR")
+    × ArePartsHeld (codes " ::: ") (λ part. IsComponentPart property index part lines) text)
 
 -- the lines begin with that of the UID, and their names are in upper case
 pub record BeginsWithUid (uid : List ℕ) (lines : List Line) : Type 0 where

@@ -5,15 +5,6 @@ use Rattle.contact_csv.specs.Carrying.{last_part, next_part}
 use Rattle.contact_csv.proofs.ResultLemmas.{ok_then}
 use Rattle.contact_csv.proofs.carried.holds_parts.Goals as goal
 
-pub loop-part-preserved-then-not-is_void : goal.loop-part-preserved-then-not-is_void
-loop-part-preserved-then-not-is_void c =
-    let text : shadow (Utf8 c.in-Some.tail.now) = search rules in (
-      text,
-      λ held. c.loop-part.invariant.1 (next_part c.loop-part.rest.now c.in-Some.part.now
-          c.in-Some.tail.now c.in-Some.ensures (c.in_ok-holds_part.ensures c.if-not-branch.false)
-          held),
-    )
-
 pub loop-part-preserved : goal.loop-part-preserved
 loop-part-preserved c =
     let text : shadow (Utf8 c.in-Some.tail.now) = search rules in (

@@ -1,14 +1,14 @@
 use Rattle.std.proofs.Common.{length}
 use denote.Text.{Utf8}
 use denote.Shadow.{shadow}
-use Rattle.contact_csv.specs.Carrying.{ArePartsHeld}
+use Rattle.contact_csv.specs.Carrying.{ArePartsHeld, IsPartHeld}
 use Rattle.contact_csv.proofs.carried.holds_parts.Given as goal
 
 -- if the parts that are left are held, all are
 abbrev pub invariant-loop-part : goal.invariant-loop-part
 invariant-loop-part l = shadow (Utf8 l.rest)
-    × (ArePartsHeld l.fn.separator l.fn.property l.fn.lines l.rest
-    → ArePartsHeld l.fn.separator l.fn.property l.fn.lines l.fn.text)
+    × (ArePartsHeld l.fn.separator (λ part. IsPartHeld l.fn.property part l.fn.lines) l.rest
+    → ArePartsHeld l.fn.separator (λ part. IsPartHeld l.fn.property part l.fn.lines) l.fn.text)
 
 abbrev pub decreases-loop-part : goal.decreases-loop-part
 decreases-loop-part l = length l.rest

@@ -1,8 +1,8 @@
-use Rattle.std.proofs.Common.{◌≡◌, ◌∙◌, codes, true, Some, None, ap, sym, subst, rules}
+use Rattle.std.proofs.Common.{◌≡◌, ◌∙◌, codes, Some, None, ap, sym, subst, rules}
 use Rattle.contact_columns.specs.Components.{component_of}
-use Rattle.contact_csv.specs.Carrying.{as_label, component_in, in_component, is_component_held}
-use Rattle.contact_csv.specs.internal.Keeping.{IsCarriedWhole}
-use Rattle.contact_csv.proofs.KeepLemmas.{carried_whole}
+use Rattle.contact_csv.specs.Carrying.{as_label, component_in}
+use Rattle.contact_csv.specs.internal.Keeping.{IsCarriedWhole, IsComponentCarried}
+use Rattle.contact_csv.proofs.KeepLemmas.{carried_whole, component_carried}
 use Rattle.contact_csv.proofs.ResultLemmas.{ok_then}
 use Rattle.contact_csv.proofs.keeping.is_carried.Goals as goal
 
@@ -18,10 +18,10 @@ returns-in-Some c =
     let some : component_in column ≡ Some c.in-Some.index =
     sym (c.in-Some.ensures ∙ ap (λ p. component_of p c.as_str.result.now)
     c.as_str-property.ensures ∙ ap (component_of column.property) c.as_str.ensures) in
-    ok_then c.holds_component.result (λ carried held t place changes. in_component c.in-Some.index
-    some
-    (subst (λ p. is_component_held p c.in-Some.index c.args.text.now c.args.lines.now ≡ true)
-    c.as_str-property.ensures (held t))) c.holds_component.ensures
+    ok_then c.is_component_carried.result (λ carried held t place changes. component_carried column
+    place c.args.text.now c.args.lines.now changes c.in-Some.index some
+    (subst (λ p. IsComponentCarried p c.in-Some.index c.args.text.now c.args.lines.now)
+    c.as_str-property.ensures (held t))) c.is_component_carried.ensures
 
 pub returns-in-None : goal.returns-in-None
 returns-in-None c =
