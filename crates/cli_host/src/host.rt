@@ -37,7 +37,7 @@ pub trait Host<S, P, L>: RequestLog {
         ensures { calls (Creates file.now result) self.old self.new };
 
     /// Whether there is nothing under the file's name, or a file without octets, as far as the host
-    /// can tell.
+    /// can tell. A file whose creation was stopped may be finished first.
     fn is_vacant(&mut self, file: &str) -> bool
         ensures { calls (Looks file.now result) self.old self.new };
 

@@ -3,7 +3,7 @@
 //! What it finds may differ from what happened: another program may have closed the file since. No
 //! contract says what a file or a port is, so nothing is proved of it but that it returns.
 
-use crate::file_care::{log_of, remove_if_vacant};
+use crate::file_care::{log_of, may_be_unfinished, remove_if_empty, remove_if_vacant};
 use crate::ports::loopback;
 use cli_orders::FoundCause;
 use sqlite::{Connection, Error, ErrorCode};
@@ -84,10 +84,15 @@ fn is_writable(rt: &HostRuntime, file: &str) -> bool {
         .is_ok()
 }
 
-/// Removes the store file's log if it holds no change.
+/// Removes the store file's log if it holds no change, and nothing by which a creation that was
+/// stopped can go on.
 fn remove_vacant_log(rt: &HostRuntime, file: &str) {
     if let Ok(log) = log_of(rt.alloc(), file) {
-        let _removed = remove_if_vacant(rt, log.as_str());
+        let _removed = if may_be_unfinished(rt, file) {
+            remove_if_empty(rt, log.as_str())
+        } else {
+            remove_if_vacant(rt, log.as_str())
+        };
     }
 }
 

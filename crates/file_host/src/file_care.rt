@@ -89,6 +89,26 @@ pub(crate) fn remove_if_vacant(rt: &HostRuntime, path: &str) -> Result<(), Stop>
     }
 }
 
+/// Removes the file or the log if it has no octets.
+pub(crate) fn remove_if_empty(rt: &HostRuntime, path: &str) -> Result<(), Stop> {
+    match fs::metadata(rt, path) {
+        Ok(found) if found.len() == 0 => remove(rt, path),
+        _ => Ok(()),
+    }
+}
+
+/// The most octets that a file has while a store is created in it: those of its first page.
+const NEW_OCTETS_MAX: u64 = 4_096;
+
+/// Whether a creation that was stopped may have left the file: it has octets, and no more than a
+/// page.
+pub(crate) fn may_be_unfinished(rt: &HostRuntime, path: &str) -> bool {
+    match fs::metadata(rt, path) {
+        Ok(found) => found.is_file() && found.len() > 0 && found.len() <= NEW_OCTETS_MAX,
+        Err(_) => false,
+    }
+}
+
 // ---- copying
 
 /// Gives the second file the mode of the first, and its group and owner where the system allows

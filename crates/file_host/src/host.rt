@@ -3,6 +3,7 @@ ghost use Rattle.std.specs.Prelude.{◌≡◌, IfOk};
 ghost use Rattle.book_model.specs.Bounds.{standard_limits};
 
 use crate::causes::{port_cause, rows_cause, socket_cause, store_cause};
+use crate::file_care::may_be_unfinished;
 use crate::ports::{listen_at, listener_at};
 use crate::reading::{rows_from, site_from};
 use crate::restoring::restore_file;
@@ -61,6 +62,12 @@ fn limits() -> Limits
     Limits::standard()
 }
 
+/// Creates the store in a file whose creation was stopped: it has no tables, and perhaps only a part
+/// of its first page. Any other file stays as it is.
+fn finish_creation(rt: &HostRuntime, file: &str) {
+    let _refused = SqlStore::create(rt, file, limits());
+}
+
 impl<F: Front + Copy> Host<FileBooks, SocketEndpoint, TcpListener> for FileHost<F> {
     ghost use Rattle.file_host.specs.FileHosts.{IsAnyCall};
 
@@ -79,6 +86,9 @@ impl<F: Front + Copy> Host<FileBooks, SocketEndpoint, TcpListener> for FileHost<
     }
 
     fn is_vacant(&mut self, file: &str) -> bool {
+        if may_be_unfinished(&self.rt, file) {
+            finish_creation(&self.rt, file);
+        }
         match fs::metadata(&self.rt, file) {
             Ok(metadata) => metadata.is_file() && metadata.len() == 0,
             Err(error) => error.kind() == io::ErrorKind::NotFound,
