@@ -74,7 +74,7 @@ def weight(line):
     if ": not carried: " in line:
         return 3
     lost = (" left out", "U+FFFD", "lost the fraction of a second", "lost control characters",
-            "the card has no END")
+            "the card has no END", " is a part of ")
     return 2 if any(words in line for words in lost) else 1
 
 

@@ -603,6 +603,21 @@ CARDS = [
         ["line 5: NOTE rewritten"],
     ),
     Converted(
+        "a line that a soft line break makes a part of the one before is reported if it begins as "
+        "a property does; not so if the line before isn't quoted-printable, or if a blank line "
+        "comes between them",
+        card("2.1", "UID:a", "FN:Ann", "NOTE;ENCODING=QUOTED-PRINTABLE:abc=", "TEL:123", "TEL:4",
+             "TITLE;ENCODING=QUOTED-PRINTABLE:Head=0D=0A=", "Tel: 5=", "TEL5:6",
+             "ROLE;QUOTED-PRINTABLE:b=3D=", "", "EMAIL:a@x.test", "X-A:b=", "ORG:Acme",
+             "X-NOTE;QUOTED-PRINTABLE:b=", "c=", "home.TEL;CELL:7=", "EMAIL:c"),
+        ["UID:a", "FN:Ann", "NOTE:abcTEL:123", "TEL:4", "TITLE:Head\\nTel: 5TEL5:6", "ROLE:b=",
+         "EMAIL:a@x.test", "X-A:b=", "ORG:Acme", "X-NOTE:bchome.TEL;CELL:7EMAIL:c"],
+        ["line 5: NOTE rewritten", "line 8: TITLE rewritten", "line 11: ROLE rewritten",
+         "line 16: X-NOTE rewritten",
+         "line 6: TEL is a part of NOTE, since the line before ends with =",
+         "line 18: TEL is a part of X-NOTE, since the line before ends with ="],
+    ),
+    Converted(
         "white space after a name is no part of it",
         card("3.0", "UID:a", "FN:Ann", "TEL ;TYPE=home:1", "a.EMAIL :b@example.test", "CLASS\t:x"),
         ["UID:a", "FN:Ann", "TEL;TYPE=home:1", "a.EMAIL:b@example.test", "X-CLASS:x"],

@@ -15,6 +15,7 @@ mod file;
 mod foreign;
 mod form_changes;
 mod guesses;
+mod joined_lines;
 pub mod laws;
 mod ledger;
 mod left_out;

@@ -66,7 +66,7 @@ impl<'a> PieceLines<'a> {
 }
 
 /// Whether a physical line begins with white space, and so goes on with the one before it.
-fn is_folded(line: &[u8]) -> bool {
+pub(crate) fn is_folded(line: &[u8]) -> bool {
     line.starts_with(b" ") || line.starts_with(b"\t")
 }
 

@@ -6,6 +6,7 @@ use crate::fate::Fate;
 use crate::fault::ConversionFault;
 use crate::form_changes::FormKind;
 use crate::guesses::{guess_words, guessed_lines};
+use crate::joined_lines::JoinedLines;
 use crate::line_cursor::longest_line;
 use crate::line_names::name_of;
 use crate::media_sink::MediaDelivery;
@@ -172,6 +173,27 @@ fn report_unended<E: Write, T: Write>(
     report_loss(alloc, place, words, parts, report)
 }
 
+/// Reports lines that begin as a property does, and yet belong to the line before them.
+fn report_joined<E: Write, T: Write>(
+    alloc: Global,
+    place: Place,
+    piece: &[u8],
+    changes: &[Change],
+    parts: &mut Parts,
+    report: &mut Report<E, T>,
+) -> Result<(), ConversionFault> {
+    let Place { card, line } = place;
+    let mut lines = JoinedLines::new(piece);
+    for change in changes {
+        if let Some(joined) = lines.find(change) {
+            let line = line.saturating_add(joined.place as u64);
+            let words = joined.words(alloc)?;
+            report_loss(alloc, Place { card, line }, words.as_str(), parts, report)?;
+        }
+    }
+    Ok(())
+}
+
 /// Reports how many lines of a card were read as Windows-1252, if there are some.
 fn report_guesses<E: Write, T: Write>(
     alloc: Global,
@@ -230,6 +252,7 @@ fn report_changes<E: Write, T: Write>(
     }
     report_lost(alloc, place, lines, parts, report)?;
     report_unended(alloc, place, piece, parts, report)?;
+    report_joined(alloc, place, piece, changes, parts, report)?;
     report_guesses(alloc, place, piece, changes, report)?;
     report_parts(alloc, place, parts, report)
 }
