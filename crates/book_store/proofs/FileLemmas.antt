@@ -48,6 +48,9 @@ pub created_start : {C : Type 0} (state_of : C → State) (has_sums : C → Bool
     → IsOpenOnHonestDisk (state_of new) → StartsWithoutTables state_of has_sums image new
 created_start state_of has_sums image old new found summed before empty crash order =
     record {
-      start = old; found = found (before order).0; was_empty = empty;
-      sums = summed (before order).0; crash = crash
+      start = old;
+      found = found (before order).0;
+      was_empty = empty;
+      sums = summed (before order).0;
+      crash = crash;
     }
