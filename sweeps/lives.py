@@ -20,10 +20,7 @@ device must have its book's cards and versions, and `contacts verify` must find 
 in each 100th file. One life in eight begins with a log so long that it is soon written into the
 file.
 
-Two faults of `run --create` are known, and count as no difference. Where it was stopped, it may
-leave a file that it refuses from then on, and `init` goes on with: so that is asked for. Where a
-call failed in it, it may leave one that `init` refuses, too: that is removed, and counted. The
-orders `restore` and `copy`, which rename files, aren't run.
+The orders `restore` and `copy`, which rename files, aren't run.
 """
 
 import argparse
@@ -54,7 +51,7 @@ LATER = "lent"  # a book that a writer may make
 SHOWN = 600  # characters of a reply in a message
 STOPPED = 99  # how crash.c ends a process
 EIO, ENOSPC, FOREVER = 5, 28, 10**9
-HAS_TABLES, NO_STORE = "fault open 5", "fault open 2"
+HAS_TABLES = "fault open 5"
 FAULTS = ["fault open 1", "fault store-fault 19"]  # what a failing disk may bring about
 STORE_FAULT = 503, {"fault": "store-fault", "number": 19}
 
@@ -85,7 +82,7 @@ class Life:
         self.seed, self.folder, self.settings = seed, pathlib.Path(folder), settings
         self.random = random.Random("life %d" % seed)
         self.file, self.socket = self.folder / "office.db", self.folder / "socket"
-        self.is_begun = self.is_torn = self.is_made = False  # how far the file's making is
+        self.is_begun = self.is_made = False  # how far the file's making is
         self.asked = Asked("life %d" % seed, BOOKS, UIDS)
         self.devices = [Copy(book) for book in [*BOOKS * 2, LATER]]
         self.offices, self.saved = [twin(Office())], []
@@ -163,13 +160,11 @@ class Life:
         self.counts["stops"] += ended.status == STOPPED
         self.counts["faults"] += did_fail
         if ended.status == 3:
-            made = [HAS_TABLES] * self.is_begun + [NO_STORE] * self.is_torn
-            fit = FAULTS * did_fail + made * (name == "init")
+            fit = FAULTS * did_fail + [HAS_TABLES] * (self.is_begun and name == "init")
             self.need(said[-1] in fit, "a fault without its cause", ended)
         else:
             self.need(ended.status in (0, -9, STOPPED) and not said, "another end", ended)
         self.need(did_fail or not has_faults, "store-fault without a cause")
-        self.is_torn |= did_fail and name == "run" and not self.is_made
         return said[-1:]
 
     def order(self, *words, works=False):
@@ -181,22 +176,15 @@ class Life:
         return ended.out if ended.status == 0 else None, fault
 
     def make(self, works=False):
-        """Makes the file by `init`, or leaves it to `run --create` while it's missing or empty."""
-        while not self.is_made and (works or self.has_octets() or self.chance(0.6)):
+        """Makes the file by `init`, or leaves it to `run --create`."""
+        while not self.is_made and (works or self.chance(0.6)):
             printed, fault = self.order("init", works=works)
             self.need(printed in (None, b"made\n"), "init", printed)
             self.is_begun, self.is_made = True, printed is not None or fault == [HAS_TABLES]
-            if fault == [NO_STORE]:
-                self.counts["removed"] += 1
-                self.is_torn = False
-                self.clear()
 
     def clear(self):
         for it in self.folder.glob("office.db*"):
             it.unlink()
-
-    def has_octets(self):
-        return self.file.exists() and self.file.stat().st_size > 0
 
     def take_long(self):
         """Begins with a file whose log is long."""
@@ -384,8 +372,7 @@ def main():
         f"{counts['lives']} lives, {counts['runs']} runs, {counts['stops']} stops, "
         f"{counts['faults']} with calls that failed, {counts['lost']} replies lost, "
         f"{counts['made']} interrupted commands that were made, {counts['back']} files put back, "
-        f"{counts['long']} logs written into their files, {counts['removed']} files removed before "
-        f"they were made, {differences} differences"
+        f"{counts['long']} logs written into their files, {differences} differences"
     )
     return 1 if differences else 0
 
