@@ -1,15 +1,14 @@
 -- What accepting amounts to, after tries at which a connection failed before it was accepted.
-use Rattle.std.proofs.Common.{◌≡◌, ◌∙◌, ◌≤◌, ◌^◌, ◌-◌, ℕ, List, Option, Result, Ok, Err, Some, inl, inr, refl, sym, ap, subst, set}
+use Rattle.std.proofs.Common.{◌≡◌, ◌∙◌, ℕ, Ok, Err, Some, inl, ap, subst, set}
 use Rattle.std.specs.IoError.{raw_os_error}
 use Rattle.std.specs.declared.io.Error.{Error}
 use Rattle.hub_server.specs.declared.outcome.Accepted.{Accepted}
 use Rattle.hub_server.specs.declared.outcome.Accepted.TheVariants as accepted
 use Rattle.socket_endpoint.specs.AcceptCauses.{accept_cause}
-use Rattle.socket_endpoint.specs.SocketCalls.{Repeats, SocketLog, logged}
+use Rattle.socket_endpoint.specs.SocketCalls.{SocketLog, logged}
 use Rattle.socket_endpoint.specs.SocketCalls.SocketCall.{Accepts, SendsAtOnce}
-use Rattle.socket_endpoint.specs.SocketEvents.{AcceptsAt, CannotWatch, EndsAccepting, FailsToAccept, GetsSocket, HasNoToken, IsFree, KeepsSockets, SeatsAt, SeatsOrNot, StopsAccepting, log_of}
+use Rattle.socket_endpoint.specs.SocketEvents.{EndsAccepting, GetsSocket, KeepsSockets, SeatsOrNot, StopsAccepting, log_of}
 use Rattle.socket_endpoint.specs.declared.accept_causes.AcceptCause.{AcceptCause}
-use Rattle.socket_endpoint.specs.declared.accept_causes.AcceptCause.TheVariants as cause
 use Rattle.socket_endpoint.specs.declared.endpoint.EndpointOver.{EndpointOver}
 
 pub keeps_trans : {S L C : Type 0} (a b c : EndpointOver S L C) → KeepsSockets a b → KeepsSockets b c → KeepsSockets a c
@@ -18,13 +17,13 @@ keeps_trans a b c first later = record { listener = later.listener ∙ first.lis
 module _ {S L C : Type 0} (log : S → SocketLog L C) where
   seats_earlier : (place : ℕ) (stream : C) (outcome : Accepted) (old mid new : EndpointOver S L C) (x : SocketLog L C) → KeepsSockets old mid → SeatsOrNot log place stream outcome mid new x → SeatsOrNot log place stream outcome old new x
   seats_earlier place stream accepted.Connection old mid new x keeps it = record {
-        token = it.token;
-        of_place = it.of_place;
-        watched = it.watched;
-        listener = it.listener ∙ keeps.listener;
-        places = it.places ∙ ap (λ ps. set ps place (Some stream)) keeps.places;
-        slots = it.slots ∙ keeps.slots;
-      }
+    token = it.token;
+    of_place = it.of_place;
+    watched = it.watched;
+    listener = it.listener ∙ keeps.listener;
+    places = it.places ∙ ap (λ ps. set ps place (Some stream)) keeps.places;
+    slots = it.slots ∙ keeps.slots;
+  }
   seats_earlier place stream accepted.NoneNow old mid new x keeps it = it
   seats_earlier place stream accepted.Later old mid new x keeps it = record { token = it.token; error = it.error; refused = it.refused; kept = keeps_trans old mid new keeps it.kept }
   seats_earlier place stream accepted.Failed old mid new x keeps it = record { too_great = it.too_great; same = it.same; kept = keeps_trans old mid new keeps it.kept }

@@ -1,5 +1,5 @@
 -- Closing the sockets of a list, one after the other.
-use Rattle.std.proofs.Common.{◌≡◌, ◌∙◌, ◌<◌, ◌+◌, ℕ, zero, suc, List, [], ◌∷◌, Option, Some, None, refl, sym, ap, subst, arith, drop, get_or, length, set}
+use Rattle.std.proofs.Common.{◌≡◌, ◌<◌, ◌+◌, ℕ, zero, suc, List, [], ◌∷◌, Option, None, subst, arith, drop, length, set}
 use Rattle.socket_endpoint.specs.SocketCalls.{SocketLog}
 use Rattle.socket_endpoint.specs.SocketEvents.{ClosesAll, ClosesSocket, socket_at}
 use Rattle.socket_endpoint.specs.declared.polling.Polling.{Polling}

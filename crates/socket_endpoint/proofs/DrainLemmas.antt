@@ -1,11 +1,11 @@
 -- The calls about sockets that linger, and which sockets linger after them.
-use Rattle.std.proofs.Common.{◌≡◌, ◌≢◌, ◌⊎◌, ◌∙◌, ◌+◌, ℕ, zero, suc, Bool, true, false, List, [], ◌∷◌, Option, Some, None, Ok, Err, inl, inr, refl, sym, ap, subst, map, get_or, set, min, nat_eq, if◌then◌else◌}
+use Rattle.std.proofs.Common.{◌≡◌, ◌⊎◌, ◌∙◌, ◌+◌, ℕ, zero, suc, Bool, true, false, List, [], ◌∷◌, Option, Some, None, Ok, Err, inl, inr, refl, sym, ap, subst, map, get_or, set, min, nat_eq, if◌then◌else◌}
 use Rattle.socket_endpoint.specs.Lingering.{DrainsSlots, DropsInput, IsDrain, IsLingering, IsWatched, LooksAt, NoneIsOver, OnlyLeave, StaysOrGoes, WatchesUnlessOver, lingering, lingering_at}
 use Rattle.socket_endpoint.specs.LingerSlots.{is_slot_given_up, slot_after}
 use Rattle.socket_endpoint.specs.Lingers.{linger_after}
 use Rattle.socket_endpoint.specs.PollTimes.{most_time}
 use Rattle.socket_endpoint.specs.declared.linger.Linger.{Linger}
-use Rattle.socket_endpoint.specs.SocketCalls.{Repeats, SocketCall, SocketLog, logged}
+use Rattle.socket_endpoint.specs.SocketCalls.{Repeats, SocketCall, SocketLog}
 use Rattle.socket_endpoint.specs.SocketCalls.Repeats.{no_call, one_more}
 use Rattle.socket_endpoint.specs.SocketCalls.SocketCall.{ReadsClock, Polls, WatchesListener, Accepts, SendsAtOnce, Watches, WatchesInput, Reads, Writes, EndsSending}
 use Rattle.socket_endpoint.specs.declared.lingerers.Lingerer.{Lingerer}

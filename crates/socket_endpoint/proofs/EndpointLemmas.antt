@@ -1,5 +1,5 @@
 -- What each outcome of a call at an endpoint amounts to.
-use Rattle.std.proofs.Common.{◌≡◌, ℕ, List, refl}
+use Rattle.std.proofs.Common.{ℕ, List, refl}
 use Rattle.hub_server.specs.Endpoints.{accept_event, read_event, write_event}
 use Rattle.hub_server.specs.declared.outcome.Accepted.{Accepted}
 use Rattle.hub_server.specs.declared.outcome.Accepted.TheVariants as accepted

@@ -1,5 +1,5 @@
 -- A list of which a loop replaces one item after another.
-use Rattle.std.proofs.Common.{◌≡◌, ◌∙◌, ◌≤◌, ◌+◌, ◌++◌, ℕ, zero, suc, List, [], ◌∷◌, Some, refl, sym, ap, arith, drop, length, map, take, slice_get, slice_set}
+use Rattle.std.proofs.Common.{◌≡◌, ◌∙◌, ◌+◌, ◌++◌, ℕ, zero, suc, List, [], ◌∷◌, Some, refl, sym, ap, arith, drop, length, map, take, slice_get, slice_set}
 
 same_item : {A : Type 0} (x y : A) → Some x ≡ Some y → x ≡ y
 same_item x y same = cc same

@@ -1,10 +1,9 @@
 -- What becomes of the sockets at places.
-use Rattle.std.proofs.Common.{◌≡◌, ℕ, Bool, true, List, Option, Some, None, Result, Ok, Err, refl, sym, subst, length}
-use Rattle.hub_server.specs.declared.outcome.Accepted.{Accepted}
+use Rattle.std.proofs.Common.{◌≡◌, ℕ, List, Option, sym, subst}
 use Rattle.hub_server.specs.declared.outcome.Received.{Received}
 use Rattle.hub_server.specs.declared.outcome.Sent.{Sent}
-use Rattle.socket_endpoint.specs.SocketCalls.{SocketLog, logged}
-use Rattle.socket_endpoint.specs.SocketEvents.{ClosesSocket, KeepsSockets, ReadsAt, ReadsPlace, SeatsOrNot, WritesAt, WritesPlace, socket_at}
+use Rattle.socket_endpoint.specs.SocketCalls.{SocketLog}
+use Rattle.socket_endpoint.specs.SocketEvents.{ClosesSocket, KeepsSockets, ReadsAt, ReadsPlace, WritesAt, WritesPlace, socket_at}
 use Rattle.socket_endpoint.specs.declared.endpoint.EndpointOver.{EndpointOver}
 use Rattle.socket_endpoint.specs.declared.polling.Polling.{Polling}
 

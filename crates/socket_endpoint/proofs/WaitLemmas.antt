@@ -1,5 +1,5 @@
 -- Which places a wait reports.
-use Rattle.std.proofs.Common.{◌≡◌, ◌∙◌, ℕ, suc, Bool, false, List, [], ◌∷◌, refl, sym, ap, arith, length, map}
+use Rattle.std.proofs.Common.{◌≡◌, ◌∙◌, Bool, false, List, [], ◌∷◌, refl, sym, ap, arith, length, map}
 use Rattle.mio.specs.declared.event.event.Event.{Event}
 use Rattle.socket_endpoint.specs.Reports.{not_ready, ready_after}
 

@@ -8,7 +8,7 @@ use Rattle.std.specs.declared.io.ErrorKind.TheVariants.{Interrupted, WouldBlock}
 use Rattle.socket_endpoint.specs.Lingers.{is_given_up, linger_after, new_linger, octets_left}
 use Rattle.socket_endpoint.specs.LingerSlots.{IsFirstSlot, is_slot_given_up}
 use Rattle.socket_endpoint.specs.SocketCalls.{Repeats, SocketCall, SocketLog, logged}
-use Rattle.socket_endpoint.specs.SocketCalls.SocketCall.{EndsSending, ReadsClock, Reads}
+use Rattle.socket_endpoint.specs.SocketCalls.SocketCall.{EndsSending, Reads}
 use Rattle.socket_endpoint.specs.SocketCalls.SocketCall.{WatchesInput}
 use Rattle.socket_endpoint.specs.Subjects.{subject_of}
 use Rattle.socket_endpoint.specs.declared.dropping.Dropped.{Dropped}
@@ -114,7 +114,8 @@ module _ {L C : Type 0} where
       (token : ℕ) × (subject_of token ≡ subject.Lingerer slot)
       × (after ≡ logged (WatchesInput stream token (Ok tt)) before)
   IsWatched stream slots slot false before after =
-      ((token : ℕ) × (error : Error) × (after ≡ logged (WatchesInput stream token (Err error)) before))
+      ((token : ℕ) × (error : Error)
+      × (after ≡ logged (WatchesInput stream token (Err error)) before))
       ⊎ ((after ≡ before) × ((slots ≤ slot) ⊎ (2 ^ 63 - 1 ≤ slot)))
 
   abbrev pub WatchesUnlessOver : Bool → C → ℕ → ℕ → Bool → SocketLog L C → SocketLog L C → Type 0

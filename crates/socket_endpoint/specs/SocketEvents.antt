@@ -1,6 +1,7 @@
--- The calls of an endpoint, and what it does at each of its system of sockets.
-use Rattle.std.specs.Prelude.{◌≡◌, ◌⊎◌, ◌<◌, ◌≤◌, ◌^◌, ◌+◌, ◌-◌, ℕ, Bool, true, false, List, length}
-use Rattle.std.specs.Prelude.{[], ◌∷◌, map, set, take, slice_index_or, IsNone, IsSome, Option, Some, None, Result, Ok, Err}
+-- What each call of an endpoint does at its system of sockets, and which sockets it has then.
+use Rattle.std.specs.Prelude.{◌≡◌, ◌⊎◌, ◌<◌, ◌≤◌, ◌^◌, ◌+◌, ◌-◌, ℕ, Bool, List, length}
+use Rattle.std.specs.Prelude.{[], ◌∷◌, map, set, take, slice_index_or, IsNone, IsSome, Option}
+use Rattle.std.specs.Prelude.{Some, None, Result, Ok, Err}
 use Rattle.core.specs.Result.{result_unwrap_or}
 use Rattle.std.specs.IoError.{raw_os_error}
 use Rattle.std.specs.declared.io.Error.{Error}
@@ -184,7 +185,8 @@ module _ {S L C : Type 0} (log : S → SocketLog L C) where
       ⊎ StopsAccepting cause.Broken old new middle
 
   -- the place is free, and a connection was accepted there, or there was a cause not to
-  pub record AcceptsAt (place : ℕ) (outcome : Accepted) (old new : EndpointOver S L C) : Type 0 where
+  pub record AcceptsAt (place : ℕ) (outcome : Accepted) (old new : EndpointOver S L C)
+      : Type 0 where
     pub free : IsFree old.places.items place
     pub tries : ℕ
     pub middle : SocketLog L C
@@ -206,8 +208,8 @@ module _ {S L C : Type 0} (log : S → SocketLog L C) where
   -- ---- closing
 
   -- The sending side of the socket is ended, and it lingers: it is given up only if this failed, if
-  -- the client has ended its side, or if the system can't watch it. Without a clock it was closed at
-  -- the time of the last wait.
+  -- the client has ended its side, or if the system can't watch it. If the clock fails, it counts
+  -- as closed at the last wait.
   pub record ClosesStream (stream : C) (old new : Polling S C) : Type 0 where
     pub clock : Result ℕ Error
     pub ends : EndsAndLingers stream (length old.lingerers.room.items)
@@ -232,7 +234,7 @@ module _ {S L C : Type 0} (log : S → SocketLog L C) where
       → SocketLog L C
   polled until polling start answer events =
       logged (Polls (timeout_from until polling start) answer events)
-        (logged (ReadsClock (Ok start)) (log polling.system))
+      (logged (ReadsClock (Ok start)) (log polling.system))
 
   -- The system polled, gave these events, and read the clock. Then the sockets that linger were
   -- looked at, and those whose time was over were given up.
@@ -248,9 +250,9 @@ module _ {S L C : Type 0} (log : S → SocketLog L C) where
   FailsACall until old after =
       ((error : Error) × (after ≡ logged (ReadsClock (Err error)) (log old.system)))
       ⊎ ((start : ℕ) × (error : Error) × (events : List Event)
-        × (after ≡ polled until old start (Err error) events))
+      × (after ≡ polled until old start (Err error) events))
       ⊎ ((start : ℕ) × (error : Error) × (events : List Event)
-        × (after ≡ logged (ReadsClock (Err error)) (polled until old start (Ok tt) events)))
+      × (after ≡ logged (ReadsClock (Err error)) (polled until old start (Ok tt) events)))
 
   -- a call failed, and the same sockets linger as before
   pub record FailsToPoll (until : Option ℕ) (old new : Polling S C) : Type 0 where

@@ -110,9 +110,7 @@ impl<S: Sockets<L, C> + Drop, L: Drop, C: Drop> EndpointOver<S, L, C> {
     {
         let mut polling = polling;
         let mut listener = listener;
-        polling
-            .system
-            .watch_listener(&mut listener, Token(0))?;
+        polling.system.watch_listener(&mut listener, Token(0))?;
         Ok(EndpointOver {
             polling,
             listener,

@@ -14,11 +14,11 @@ use std::alloc::Global;
 use std::io;
 use std::time::Duration;
 
-/// A system of sockets that don't block, with a clock. `L` are its listeners, and `C` the sockets of
-/// connections. No call blocks but `poll`. A socket is closed when it is dropped.
+/// A system of sockets that don't block, with a clock. `L` are its listeners, and `C` the sockets
+/// of connections. No call blocks but `poll`. A socket is closed when it is dropped.
 ///
-/// The contracts of the real system say nothing of what its calls do. The contracts over any system
-/// say which calls are made of it, and one body runs on all systems.
+/// Nothing is known of the calls of the real system. Over a system of which they are known,
+/// contracts say which calls are made of it. The code is the same for both.
 pub trait Sockets<L, C> {
     /// All calls that were made so far, the newest first, each with its answer, if they are known.
     ghost log: { Self → SocketLog L C };

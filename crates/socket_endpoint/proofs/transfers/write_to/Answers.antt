@@ -16,11 +16,11 @@ loop-try-preserved g c =
 pub returns-then-not-is_interrupted-clause-written :
     goal.returns-then-not-is_interrupted-clause-written
 returns-then-not-is_interrupted-clause-written g c = record {
-      tries = c.loop-try._try;
-      middle = g.S.Sockets.log c.loop-try.system;
-      interrupted = c.loop-try.invariant;
-      last = inl (c.in-Err.error, not_so c.would_wait.result c.would_wait.ensures c.if-would_wait.false, not_so c.is_interrupted.result c.is_interrupted.ensures c.if-not-is_interrupted.true, c.in-Err.ensures.logged);
-    }
+  tries = c.loop-try._try;
+  middle = g.S.Sockets.log c.loop-try.system;
+  interrupted = c.loop-try.invariant;
+  last = inl (c.in-Err.error, not_so c.would_wait.result c.would_wait.ensures c.if-would_wait.false, not_so c.is_interrupted.result c.is_interrupted.ensures c.if-not-is_interrupted.true, c.in-Err.ensures.logged);
+}
 
 pub returns-clause-written : goal.returns-clause-written
 returns-clause-written g c =

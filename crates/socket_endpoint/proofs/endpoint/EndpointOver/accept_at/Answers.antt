@@ -10,11 +10,11 @@ use Rattle.socket_endpoint.proofs.endpoint.EndpointOver.accept_at.Goals as goal
 
 pub returns-then-not-is_free : goal.returns-then-not-is_free
 returns-then-not-is_free g c = inr (record {
-      taken = c.is_free.ensures.taken c.if-not-is_free.true;
-      outcome_is = refl;
-      same = refl;
-      kept = record { listener = refl; places = refl; slots = refl };
-    })
+  taken = c.is_free.ensures.taken c.if-not-is_free.true;
+  outcome_is = refl;
+  same = refl;
+  kept = record { listener = refl; places = refl; slots = refl };
+})
 
 pub loop-try-init : goal.loop-try-init
 loop-try-init g c = (no_call, record { listener = refl; places = refl; slots = refl })
@@ -31,11 +31,11 @@ returns-in-Ok g c =
     let keeps = c.loop-try.invariant.1 in
     let loop = c.loop-try.self in
     let mid : EndpointOver g.row.S.Denot g.row.L.Denot g.row.C.Denot =
-        record {
-          polling = record { system = c.accept.new.self; events = loop.polling.events; lingerers = loop.polling.lingerers; waited_at = loop.polling.waited_at };
-          listener = loop.listener;
-          places = loop.places;
-        } in
+    record {
+      polling = record { system = c.accept.new.self; events = loop.polling.events; lingerers = loop.polling.lingerers; waited_at = loop.polling.waited_at };
+      listener = loop.listener;
+      places = loop.places;
+    } in
     let kept : KeepsSockets c.args.self.now mid = record { listener = keeps.listener; places = keeps.places; slots = keeps.slots } in
     inl (record {
       free = c.is_free.ensures.free c.if-not-is_free.false;
@@ -51,11 +51,11 @@ returns-in-NoneWaits g c =
     let keeps = c.loop-try.invariant.1 in
     let loop = c.loop-try.self in
     let mid : EndpointOver g.row.S.Denot g.row.L.Denot g.row.C.Denot =
-        record {
-          polling = record { system = c.accept.new.self; events = loop.polling.events; lingerers = loop.polling.lingerers; waited_at = loop.polling.waited_at };
-          listener = loop.listener;
-          places = loop.places;
-        } in
+    record {
+      polling = record { system = c.accept.new.self; events = loop.polling.events; lingerers = loop.polling.lingerers; waited_at = loop.polling.waited_at };
+      listener = loop.listener;
+      places = loop.places;
+    } in
     let kept : KeepsSockets c.args.self.now mid = record { listener = keeps.listener; places = keeps.places; slots = keeps.slots } in
     let means = ap (λ code. accept_cause code) (sym c.raw_os_error.ensures) ∙ sym c.accept_cause.ensures ∙ c.in-NoneWaits.is in
     inl (record {
@@ -72,11 +72,11 @@ returns-in-Shortage g c =
     let keeps = c.loop-try.invariant.1 in
     let loop = c.loop-try.self in
     let mid : EndpointOver g.row.S.Denot g.row.L.Denot g.row.C.Denot =
-        record {
-          polling = record { system = c.accept.new.self; events = loop.polling.events; lingerers = loop.polling.lingerers; waited_at = loop.polling.waited_at };
-          listener = loop.listener;
-          places = loop.places;
-        } in
+    record {
+      polling = record { system = c.accept.new.self; events = loop.polling.events; lingerers = loop.polling.lingerers; waited_at = loop.polling.waited_at };
+      listener = loop.listener;
+      places = loop.places;
+    } in
     let kept : KeepsSockets c.args.self.now mid = record { listener = keeps.listener; places = keeps.places; slots = keeps.slots } in
     let means = ap (λ code. accept_cause code) (sym c.raw_os_error.ensures) ∙ sym c.accept_cause.ensures ∙ c.in-Shortage.is in
     inl (record {
@@ -93,11 +93,11 @@ returns-in-Broken g c =
     let keeps = c.loop-try.invariant.1 in
     let loop = c.loop-try.self in
     let mid : EndpointOver g.row.S.Denot g.row.L.Denot g.row.C.Denot =
-        record {
-          polling = record { system = c.accept.new.self; events = loop.polling.events; lingerers = loop.polling.lingerers; waited_at = loop.polling.waited_at };
-          listener = loop.listener;
-          places = loop.places;
-        } in
+    record {
+      polling = record { system = c.accept.new.self; events = loop.polling.events; lingerers = loop.polling.lingerers; waited_at = loop.polling.waited_at };
+      listener = loop.listener;
+      places = loop.places;
+    } in
     let kept : KeepsSockets c.args.self.now mid = record { listener = keeps.listener; places = keeps.places; slots = keeps.slots } in
     let means = ap (λ code. accept_cause code) (sym c.raw_os_error.ensures) ∙ sym c.accept_cause.ensures ∙ c.in-Broken.is in
     inl (record {

@@ -1,4 +1,4 @@
-use Rattle.std.proofs.Common.{◌≡◌, ◌∙◌, ◌<◌, None, ap, arith, false, get_or, inl, inr, is_some, length, not, sym, true}
+use Rattle.std.proofs.Common.{◌∙◌, ◌<◌, None, ap, arith, inl, inr, is_some, length, not, sym}
 use Rattle.std.proofs.lemmas.List.{get_or_read}
 use Rattle.socket_endpoint.proofs.endpoint.EndpointOver.is_free.Goals as goal
 

@@ -1,4 +1,4 @@
-use Rattle.std.proofs.Common.{◌≡◌, ◌∙◌, Bool, List, ap, arith, length, refl}
+use Rattle.std.proofs.Common.{◌≡◌, ◌∙◌, ap, arith, length, refl}
 use Rattle.mio.specs.Events.{items}
 use Rattle.socket_endpoint.specs.Reports.{ready_after, reports_listener}
 use Rattle.socket_endpoint.proofs.WaitLemmas.{marked_again}

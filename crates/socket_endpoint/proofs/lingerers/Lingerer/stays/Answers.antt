@@ -11,4 +11,4 @@ pub returns-clause-stays : goal.returns-clause-stays
 returns-clause-stays g c =
     let log = g.S.Sockets.log in
     stays_if c.args.self.now c.is_over.new.self c.watch.new.self (length c.args.room.now) c.args.now c.args.slots c.args.slot c.is_over.result c.watch.result (log c.args.system.now) (log c.is_over.new.system) (log c.watch.new.system)
-        c.if-is_over.false c.is_over.ensures c.watch.ensures.same c.watch.ensures.watched
+    c.if-is_over.false c.is_over.ensures c.watch.ensures.same c.watch.ensures.watched

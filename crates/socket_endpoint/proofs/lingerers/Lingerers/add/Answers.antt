@@ -8,7 +8,7 @@ pub returns-then-is_err : goal.returns-then-is_err
 returns-then-is_err g c =
     let log = g.S.Sockets.log in
     lingers_not c.args.stream (length c.args.self.now.room.items) c.args.now c.end_sending.result c.args.self.now.slots.items (log c.args.system.now) (log c.end_sending.new.self)
-        (sym c.is_err.ensures.value ∙ c.if-is_err.true) c.end_sending.ensures
+    (sym c.is_err.ensures.value ∙ c.if-is_err.true) c.end_sending.ensures
 
 pub returns : goal.returns
 returns g c =
@@ -21,4 +21,4 @@ returns g c =
     let lingers = subst (λ s. Lingers c.args.stream room c.args.now s c.linger.new.slots before after) c.deref_mut.ensures.value by_room in
     let long : length c.linger.new.slots ≡ length slots = omega (arith, c.linger.auto.slots, ap length c.deref_mut.ensures.value) in
     subst (λ s. EndsAndLingers c.args.stream room c.args.now slots s (log c.args.system.now) after) (sym (written_back slots c.linger.new.slots c.args.self.now.slots.len c.args.self.now.slots.ok.0 long))
-        (lingers_if c.args.stream room c.args.now c.end_sending.result slots c.linger.new.slots (log c.args.system.now) before after (sym c.is_err.ensures.value ∙ c.if-is_err.false) c.end_sending.ensures lingers)
+    (lingers_if c.args.stream room c.args.now c.end_sending.result slots c.linger.new.slots (log c.args.system.now) before after (sym c.is_err.ensures.value ∙ c.if-is_err.false) c.end_sending.ensures lingers)

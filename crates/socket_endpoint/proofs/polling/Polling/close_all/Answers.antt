@@ -11,7 +11,7 @@ pub loop-place-preserved : goal.loop-place-preserved
 loop-place-preserved g c = λ last rest.
     let there : c.loop-place.place < length c.loop-place.places = omega (arith, c.loop-place-test.true, c.loop-place.auto.places) in
     c.loop-place.invariant last
-        (closes_next g.S.Sockets.log c.loop-place.places c.close_at.new.places c.loop-place.place c.loop-place.self c.close_at.new.self last there c.close_at.ensures.closes c.close_at.ensures.frees rest)
+    (closes_next g.S.Sockets.log c.loop-place.places c.close_at.new.places c.loop-place.place c.loop-place.self c.close_at.new.self last there c.close_at.ensures.closes c.close_at.ensures.frees rest)
 
 pub returns : goal.returns
 returns g c =

@@ -20,8 +20,8 @@ returns g c =
 
 pub returns-then-is_none : goal.returns-then-is_none
 returns-then-is_none g c = record {
-      count = c.loop-wait._wait;
-      middle = c.loop-wait.self;
-      waits = c.loop-wait.invariant;
-      ends = inl (ap is_some (sym c.deadline.ensures) ∙ c.is_none.ensures ∙ ap not c.if-is_none.true, refl);
-    }
+  count = c.loop-wait._wait;
+  middle = c.loop-wait.self;
+  waits = c.loop-wait.invariant;
+  ends = inl (ap is_some (sym c.deadline.ensures) ∙ c.is_none.ensures ∙ ap not c.if-is_none.true, refl);
+}
