@@ -25,7 +25,7 @@ module _ {S L C : Type 0} (log : S → SocketLog L C) where
     slots = it.slots ∙ keeps.slots;
   }
   seats_earlier place stream accepted.NoneNow old mid new x keeps it = it
-  seats_earlier place stream accepted.Later old mid new x keeps it = record { token = it.token; error = it.error; refused = it.refused; kept = keeps_trans old mid new keeps it.kept }
+  seats_earlier place stream accepted.Later old mid new x keeps it = record { token = it.token; error = it.error; of_place = it.of_place; refused = it.refused; kept = keeps_trans old mid new keeps it.kept }
   seats_earlier place stream accepted.Failed old mid new x keeps it = record { too_great = it.too_great; same = it.same; kept = keeps_trans old mid new keeps it.kept }
 
   ends_with : (place tries : ℕ) (outcome : Accepted) (old new : EndpointOver S L C) (x : SocketLog L C) → GetsSocket log place outcome old new x → EndsAccepting log place tries outcome old new x

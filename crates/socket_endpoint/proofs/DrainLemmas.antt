@@ -78,7 +78,7 @@ module _ {L C : Type 0} where
 
   drain_before : (a b : List (Option (Lingerer C))) → OnlyLeave a b → (call : SocketCall L C) → IsDrain b call → IsDrain a call
   drain_before a b leave (Reads stream buffer answer) it = lingering_before a b leave stream it
-  drain_before a b leave (WatchesInput stream token answer) it = lingering_before a b leave stream it
+  drain_before a b leave (WatchesInput stream token answer) it = (it.0, it.1, it.2, was_there (lingering_at a it.0) (lingering_at b it.0) (stream, it.1) (leave it.0) it.3)
   drain_before a b leave (ReadsClock answer) it = absurd it
   drain_before a b leave (Polls time answer events) it = absurd it
   drain_before a b leave (WatchesListener listener token answer) it = absurd it
@@ -105,10 +105,10 @@ module _ {L C : Type 0} where
   reads_drain slots stream x y there (inl nothing) = (0, same_log x y nothing.unread)
   reads_drain slots stream x y there (inr once) = (0 + 1, one_more (Reads stream once.buffer once.answer) no_call there once.made)
 
-  watch_drains : (slots : List (Option (Lingerer C))) (stream : C) (count slot : ℕ) (done : Bool) (x y : SocketLog L C) → IsLingering slots stream → IsWatched stream count slot done x y → Some_calls slots x y
-  watch_drains slots stream count slot true x y there it = (0 + 1, one_more (WatchesInput stream it.0 (Ok tt)) no_call there it.2)
-  watch_drains slots stream count slot false x y there (inl it) = (0 + 1, one_more (WatchesInput stream it.0 (Err it.1)) no_call there it.2)
-  watch_drains slots stream count slot false x y there (inr it) = (0, same_log x y it.0)
+  watch_drains : (slots : List (Option (Lingerer C))) (stream : C) (closed_at count slot : ℕ) (done : Bool) (x y : SocketLog L C) → lingering_at slots slot ≡ Some (stream, closed_at) → IsWatched stream count slot done x y → Some_calls slots x y
+  watch_drains slots stream closed_at count slot true x y there it = (0 + 1, one_more (WatchesInput stream it.0 (Ok tt)) no_call (slot, closed_at, it.1, there) it.2)
+  watch_drains slots stream closed_at count slot false x y there (inl it) = (0 + 1, one_more (WatchesInput stream it.0 (Err it.1)) no_call (slot, closed_at, it.2, there) it.3)
+  watch_drains slots stream closed_at count slot false x y there (inr it) = (0, same_log x y it.0)
 
   -- ---- those whose time is over
 
@@ -124,7 +124,7 @@ module _ {L C : Type 0} (slots : List (Option (Lingerer C))) (slot : ℕ) (old n
   watch_calls : (count : ℕ) (stream : C) (over stays : Bool) (x y : SocketLog L C) → stream ≡ old.stream → WatchesUnlessOver over stream count slot stays x y → Some_calls slots x y
   watch_calls count stream true stays x y same it = (0, same_log x y it.1)
   watch_calls count stream false stays x y same it =
-      watch_drains slots old.stream count slot stays x y (lingers_at slots slot old found) (subst (λ s. IsWatched s count slot stays x y) same it)
+      watch_drains slots old.stream old.linger.closed_at count slot stays x y (ap lingering found) (subst (λ s. IsWatched s count slot stays x y) same it)
 
   look_calls : (room now count : ℕ) (stays : Bool) (x y : SocketLog L C) → StaysOrGoes old new room now count slot stays x y → Some_calls slots x y
   look_calls room now count stays x y it =

@@ -42,7 +42,7 @@ module _ {L C : Type 0} where
   -- the system was asked to report its input, and answered
   pub watched_by : (stream : C) (slots slot token : ℕ) (answer : Result (Unit {0}) Error) (x y : SocketLog L C) → subject_of token ≡ subject.Lingerer slot → y ≡ logged (WatchesInput stream token answer) x → IsWatched stream slots slot (is_ok answer) x y
   watched_by stream slots slot token (Ok done) x y of_slot made = (token, of_slot, made)
-  watched_by stream slots slot token (Err error) x y of_slot made = inl (token, error, made)
+  watched_by stream slots slot token (Err error) x y of_slot made = inl (token, error, of_slot, made)
 
   pub goes_over : (old new : Lingerer C) (room now slots slot : ℕ) (over : Bool) (x y : SocketLog L C) → over ≡ true → LooksAt old new room now over x y → StaysOrGoes old new room now slots slot false x y
   goes_over old new room now slots slot over x y is looks = record {

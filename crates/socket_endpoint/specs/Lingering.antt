@@ -47,6 +47,12 @@ module _ {C : Type 0} where
   IsLingering slots stream =
       (slot closed_at : ℕ) × (lingering_at slots slot ≡ Some (stream, closed_at))
 
+  -- it lingers in the slot of which this is the token
+  abbrev pub IsLingeringUnder : List (Option (Lingerer C)) → ℕ → C → Type 0
+  IsLingeringUnder slots token stream =
+      (slot closed_at : ℕ) × (subject_of token ≡ subject.Lingerer slot)
+      × (lingering_at slots slot ≡ Some (stream, closed_at))
+
   -- none of the sockets is to be given up
   abbrev pub NoneIsOver : ℕ → List (Option (Lingerer C)) → Type 0
   NoneIsOver now slots =
@@ -114,7 +120,7 @@ module _ {L C : Type 0} where
       (token : ℕ) × (subject_of token ≡ subject.Lingerer slot)
       × (after ≡ logged (WatchesInput stream token (Ok tt)) before)
   IsWatched stream slots slot false before after =
-      ((token : ℕ) × (error : Error)
+      ((token : ℕ) × (error : Error) × (subject_of token ≡ subject.Lingerer slot)
       × (after ≡ logged (WatchesInput stream token (Err error)) before))
       ⊎ ((after ≡ before) × ((slots ≤ slot) ⊎ (2 ^ 63 - 1 ≤ slot)))
 
@@ -163,10 +169,10 @@ module _ {L C : Type 0} where
 
   -- ---- sockets that linger, while the server waits
 
-  -- the call reads from one of these sockets, or has its input reported
+  -- the call reads from one of these sockets, or has its input reported under the token of its slot
   abbrev pub IsDrain : List (Option (Lingerer C)) → SocketCall L C → Type 0
   IsDrain slots (Reads stream buffer answer) = IsLingering slots stream
-  IsDrain slots (WatchesInput stream token answer) = IsLingering slots stream
+  IsDrain slots (WatchesInput stream token answer) = IsLingeringUnder slots token stream
   IsDrain slots _ = ⊥
 
   -- some calls, each about one of the sockets that linger, of which some are given up

@@ -125,10 +125,11 @@ module _ {S L C : Type 0} (log : S → SocketLog L C) where
     pub slots : new.polling.lingerers.slots.items ≡ old.polling.lingerers.slots.items
 
   -- the system can't watch the socket, which is given up
-  pub record CannotWatch (stream : C) (old new : EndpointOver S L C) (before : SocketLog L C)
-      : Type 0 where
+  pub record CannotWatch (place : ℕ) (stream : C) (old new : EndpointOver S L C)
+      (before : SocketLog L C) : Type 0 where
     pub token : ℕ
     pub error : Error
+    pub of_place : subject_of token ≡ subject.Place place
     pub refused : log_of new ≡ logged (Watches stream token (Err error)) before
     pub kept : KeepsSockets old new
 
@@ -144,7 +145,7 @@ module _ {S L C : Type 0} (log : S → SocketLog L C) where
       → SocketLog L C → Type 0
   SeatsOrNot place stream accepted.Connection old new before = SeatsAt place stream old new before
   SeatsOrNot place stream accepted.NoneNow old new before = ⊥
-  SeatsOrNot place stream accepted.Later old new before = CannotWatch stream old new before
+  SeatsOrNot place stream accepted.Later old new before = CannotWatch place stream old new before
   SeatsOrNot place stream accepted.Failed old new before = HasNoToken place old new before
 
   -- the last try of accepting failed, and means this

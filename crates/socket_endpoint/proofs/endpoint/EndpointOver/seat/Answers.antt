@@ -15,6 +15,7 @@ pub returns-in-Err : goal.returns-in-Err
 returns-in-Err g c = record {
   token = c.in-Some.token.0;
   error = c.in-Err._error;
+  of_place = c.in-Some.ensures.one;
   refused = c.in-Err.ensures.logged ∙ ap (λ log. logged (Watches c.args.stream c.in-Some.token.0 (Err c.in-Err._error)) log) c.send_at_once.ensures;
   kept = record { listener = refl; places = refl; slots = refl };
 }
