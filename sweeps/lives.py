@@ -20,7 +20,9 @@ device must have its book's cards and versions, and `contacts verify` must find 
 in each 100th file. One life in eight begins with a log so long that it is soon written into the
 file.
 
-The orders `restore` and `copy`, which rename files, aren't run.
+A `run --create` in which a call failed may say of a file whose making was stopped that it isn't
+its own; a later one must go on with it. The orders `restore` and `copy`, which rename files, aren't
+run.
 """
 
 import argparse
@@ -51,7 +53,7 @@ LATER = "lent"  # a book that a writer may make
 SHOWN = 600  # characters of a reply in a message
 STOPPED = 99  # how crash.c ends a process
 EIO, ENOSPC, FOREVER = 5, 28, 10**9
-HAS_TABLES = "fault open 5"
+HAS_TABLES, NO_STORE = "fault open 5", "fault open 2"
 FAULTS = ["fault open 1", "fault store-fault 19"]  # what a failing disk may bring about
 STORE_FAULT = 503, {"fault": "store-fault", "number": 19}
 
@@ -161,6 +163,7 @@ class Life:
         self.counts["faults"] += did_fail
         if ended.status == 3:
             fit = FAULTS * did_fail + [HAS_TABLES] * (self.is_begun and name == "init")
+            fit += [NO_STORE] * (did_fail and name == "run" and not self.is_made)
             self.need(said[-1] in fit, "a fault without its cause", ended)
         else:
             self.need(ended.status in (0, -9, STOPPED) and not said, "another end", ended)
