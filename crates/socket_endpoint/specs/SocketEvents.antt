@@ -2,7 +2,7 @@
 use Rattle.std.specs.Prelude.{◌≡◌, ◌⊎◌, ◌<◌, ◌≤◌, ◌^◌, ◌+◌, ◌-◌, ℕ, Bool, List, length}
 use Rattle.std.specs.Prelude.{[], ◌∷◌, map, set, take, slice_index_or, IsNone, IsSome, Option}
 use Rattle.std.specs.Prelude.{Some, None, Result, Ok, Err}
-use Rattle.core.specs.Result.{result_unwrap_or}
+use Rattle.std.specs.Result.{result_unwrap_or}
 use Rattle.std.specs.IoError.{raw_os_error}
 use Rattle.std.specs.declared.io.Error.{Error}
 use Rattle.mio.specs.declared.event.event.Event.{Event}
