@@ -21,8 +21,9 @@ in each 100th file. One life in eight begins with a log so long that it is soon 
 file.
 
 A `run --create` in which a call failed may say of a file whose making was stopped that it isn't
-its own; a later one must go on with it. The orders `restore` and `copy`, which rename files, aren't
-run.
+its own; a later one goes on with it. Only if a call failed while the file was made, and what was
+written was lost then, may there be one that no order goes on with: that is removed, and counted.
+The orders `restore` and `copy`, which rename files, aren't run.
 """
 
 import argparse
@@ -84,7 +85,7 @@ class Life:
         self.seed, self.folder, self.settings = seed, pathlib.Path(folder), settings
         self.random = random.Random("life %d" % seed)
         self.file, self.socket = self.folder / "office.db", self.folder / "socket"
-        self.is_begun = self.is_made = False  # how far the file's making is
+        self.is_begun = self.is_torn = self.is_made = False  # how far the file's making is
         self.asked = Asked("life %d" % seed, BOOKS, UIDS)
         self.devices = [Copy(book) for book in [*BOOKS * 2, LATER]]
         self.offices, self.saved = [twin(Office())], []
@@ -163,11 +164,16 @@ class Life:
         self.counts["faults"] += did_fail
         if ended.status == 3:
             fit = FAULTS * did_fail + [HAS_TABLES] * (self.is_begun and name == "init")
-            fit += [NO_STORE] * (did_fail and name == "run" and not self.is_made)
+            fit += [NO_STORE] * (not self.is_made and (did_fail or self.is_torn))
             self.need(said[-1] in fit, "a fault without its cause", ended)
+            if said[-1] == NO_STORE and not did_fail:
+                self.counts["removed"] += 1
+                self.is_begun = self.is_torn = False
+                self.clear()
         else:
             self.need(ended.status in (0, -9, STOPPED) and not said, "another end", ended)
         self.need(did_fail or not has_faults, "store-fault without a cause")
+        self.is_torn |= did_fail and not self.is_made
         return said[-1:]
 
     def order(self, *words, works=False):
@@ -375,7 +381,8 @@ def main():
         f"{counts['lives']} lives, {counts['runs']} runs, {counts['stops']} stops, "
         f"{counts['faults']} with calls that failed, {counts['lost']} replies lost, "
         f"{counts['made']} interrupted commands that were made, {counts['back']} files put back, "
-        f"{counts['long']} logs written into their files, {differences} differences"
+        f"{counts['long']} logs written into their files, {counts['removed']} files removed before "
+        f"they were made, {differences} differences"
     )
     return 1 if differences else 0
 
