@@ -10,6 +10,7 @@ import unittest
 from dialogue import ServedTest
 from exchanges import AT_MOST_ONE_CARD, AT_MOST_THREE_CHANGES, AT_MOST_TWO_CARDS
 from http_requests import COLUMNS, books, create, export, import_rows, move, sync, tally
+from page_sums import changing
 
 BOOKS_MAX = 100
 CARDS_MAX = 10_000

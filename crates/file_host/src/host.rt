@@ -178,6 +178,6 @@ impl<F: Front + Copy> Host<FileBooks, SocketEndpoint, TcpListener> for FileHost<
     }
 
     fn finish(&mut self, endpoint: SocketEndpoint) {
-        drop(endpoint.finish());
+        endpoint.finish()
     }
 }

@@ -3,8 +3,5 @@ pub mod Subjects
 pub mod PollTimes
 pub mod Lingers
 pub mod LingerSlots
-pub mod SocketCalls
-pub mod Transfers
-pub mod Lingering
+pub mod Streams
 pub mod Reports
-pub mod SocketEvents

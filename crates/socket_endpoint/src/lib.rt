@@ -11,15 +11,10 @@ mod poll_times;
 mod polling;
 mod reports;
 mod socket_files;
-mod sockets;
 mod stopwatch;
 mod streams;
 mod subject;
-mod system;
 mod transfers;
 
 pub use bind_fault::BindFault;
-pub use endpoint::{EndpointOver, SocketEndpoint};
-pub use sockets::Sockets;
-pub use streams::{Listener, Stream};
-pub use system::SystemSockets;
+pub use endpoint::SocketEndpoint;

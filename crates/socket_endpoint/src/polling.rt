@@ -1,134 +1,79 @@
 //! Waits for events, and serves the sockets that linger meanwhile.
-ghost use Rattle.std.specs.Prelude.{◌≡◌, IfOk, None, OnErr, set};
-ghost use Rattle.mio.specs.Events.{items};
-ghost use Rattle.socket_endpoint.specs.SocketEvents.{ClosesAll, ClosesSocket, ClosesStream};
-ghost use Rattle.socket_endpoint.specs.SocketEvents.{FailsToPoll, PollsUntil, WaitsOut, socket_at};
-
 use crate::bind_fault::BindFault;
 use crate::lingerers::Lingerers;
 use crate::poll_times::{earlier, time_left, timeout_of};
-use crate::sockets::Sockets;
-use mio::Events;
+use crate::stopwatch::Stopwatch;
+use crate::streams::Stream;
+use mio::{Events, Poll, Registry};
 use std::alloc::Global;
 use std::io;
+use std::rt::HostRuntime;
 
 /// The most events of one poll. What is ready beyond them is reported by the next.
 const EVENTS_MAX: usize = 1_024;
 
-/// A system of sockets, the events of its last poll, and the sockets that linger.
+/// The sockets that are registered, the events of the last poll, and the sockets that linger.
 #[derive(Drop)]
-pub(crate) struct Polling<S, C> {
-    pub(crate) system: S,
+pub(crate) struct Polling {
+    stopwatch: Stopwatch,
+    poll: Poll,
     events: Events<Global>,
-    lingerers: Lingerers<C>,
-    waited_at: u64,
+    lingerers: Lingerers,
+    now: u64,
 }
 
-impl<S, C: Drop> Polling<S, C> {
-    /// At most `limit` sockets linger.
-    pub(crate) fn new(alloc: Global, system: S, limit: usize) -> Result<Polling<S, C>, BindFault>
-    where
-        S: Drop,
-    {
+impl Polling {
+    /// Starts the time. At most `limit` sockets linger.
+    pub(crate) fn new(rt: &HostRuntime, alloc: Global, limit: usize) -> Result<Polling, BindFault> {
+        let stopwatch = Stopwatch::new(*rt)?;
+        let poll = Poll::new(rt)?;
         let events = Events::with_capacity(alloc, EVENTS_MAX)?;
         let lingerers = Lingerers::new(alloc, limit)?;
         Ok(Polling {
-            system,
+            stopwatch,
+            poll,
             events,
             lingerers,
-            waited_at: 0,
+            now: 0,
         })
     }
 
-    /// The system of sockets.
-    pub(crate) fn into_system(self) -> S
-        ensures { result ≡ self.system }
-    {
-        let Polling {
-            system,
-            events: _,
-            lingerers: _,
-            waited_at: _,
-        } = self;
-        system
+    /// The sockets that are registered.
+    pub(crate) fn registry(&self) -> &Registry {
+        self.poll.registry()
     }
 
     /// The events of the last poll.
-    pub(crate) fn events(&self) -> &Events<Global>
-        ensures { result.now ≡ self.now.events }
-    {
+    pub(crate) fn events(&self) -> &Events<Global> {
         &self.events
     }
 
     /// Waits for events until the time, or until a socket that lingers has to be given up. Then it
     /// serves those that linger. Returns the time.
-    pub(crate) fn poll_until<L>(&mut self, until: Option<u64>) -> io::Result<u64>
-    where
-        S: Sockets<L, C>,
-        ensures polled { IfOk result (λ now. PollsUntil S.log until (items self.new.events) now
-            self.old self.new) }
-        ensures failed { OnErr result (FailsToPoll S.log until self.old self.new) }
-    {
-        let before = self.system.millis()?;
+    pub(crate) fn poll_until(&mut self, until: Option<u64>) -> io::Result<u64> {
+        let before = self.stopwatch.millis()?;
         let left = time_left(earlier(until, self.lingerers.deadline()), before);
-        self.system.poll(&mut self.events, timeout_of(left))?;
-        let now = self.system.millis()?;
-        self.waited_at = now;
-        self.lingerers.serve(&mut self.system, &self.events, now);
+        self.poll.poll(&mut self.events, timeout_of(left))?;
+        let now = self.stopwatch.millis()?;
+        self.now = now;
+        self.lingerers
+            .look_at_reported(self.poll.registry(), &self.events, now);
+        self.lingerers.give_up(now);
         Ok(now)
     }
 
     /// Closes the connection. Its socket lingers until its client has ended its side.
-    pub(crate) fn close<L>(&mut self, stream: C)
-    where
-        S: Sockets<L, C>,
-        ensures { ClosesStream S.log stream self.old self.new }
-    {
+    pub(crate) fn close(&mut self, stream: Stream) {
         // without a clock it lingers from the last wait on
-        let now = self.system.millis().unwrap_or(self.waited_at);
-        self.lingerers.add(&mut self.system, stream, now);
-    }
-
-    /// Closes the connection at the place, if there is one. Then the place is free.
-    pub(crate) fn close_at<L>(&mut self, places: &mut [Option<C>], place: usize)
-    where
-        S: Sockets<L, C>,
-        ensures closes { ClosesSocket S.log (socket_at places.old place) self.old self.new }
-        ensures frees { places.new ≡ set places.old place None }
-    {
-        if place >= places.len() {
-            return;
-        }
-        let Some(stream) = places[place].take() else {
-            return;
-        };
-        self.close(stream);
-    }
-
-    /// Closes the connections at all places.
-    pub(crate) fn close_all<L>(&mut self, places: &mut [Option<C>])
-    where
-        S: Sockets<L, C>,
-        ensures { ClosesAll S.log places.old self.old self.new }
-    {
-        for place in 0..places.len() {
-            self.close_at(places, place);
-        }
+        let now = self.stopwatch.millis().unwrap_or(self.now);
+        self.lingerers.add(self.poll.registry(), stream, now);
     }
 
     /// Waits until no socket lingers, or a wait fails.
-    pub(crate) fn finish<L>(&mut self)
-    where
-        S: Sockets<L, C>,
-        ensures { WaitsOut S.log self.old self.new }
-    {
+    pub(crate) fn finish(&mut self) {
         for _wait in 0..u64::MAX {
-            if self.lingerers.deadline().is_none() {
+            if self.lingerers.deadline().is_none() || self.poll_until(None).is_err() {
                 return;
-            }
-            match self.poll_until(None) {
-                Ok(_now) => {}
-                Err(_error) => return,
             }
         }
     }
