@@ -394,6 +394,21 @@ class Options(OrderTest):
             said = b"a.db: another program has it open\nfault open 1\n"
             self.assertEqual(Ended(3, b"", said), self.start(*more).end())
 
+    def test_a_creation_that_was_stopped(self):
+        """What a power failure leaves while a file is made: its first page or a part of it, whose
+        first octet is written last, and the first octets of the log. The next start finishes it."""
+        self.start("--create").kill()
+        page, log = (self.folder / "a.db").read_bytes(), (self.folder / "a.db-wal").read_bytes()
+        self.assertEqual(4_096, len(page))
+        for octets in (page, bytes(1) + page[1:], bytes(1) + page[1:1_929], bytes(1)):
+            with self.subTest(len(octets), begins=octets[:1]):
+                (self.folder / "a.db").write_bytes(octets)
+                (self.folder / "a.db-wal").write_bytes(log[:32] + bytes(9))
+                server = self.start("--create", *OFFICE)
+                self.assertEqual(b"HTTP/1.1 200", server.ask(books())[:12])
+                server.kill()
+                self.assertEqual((0, b"verified 0\n"), run("verify", "a.db", cwd=self.folder)[:2])
+
     def test_the_port(self):
         first = self.start("--create")
         second = Server("b.db", order="run", port=first.address[1], more=["--create"],
