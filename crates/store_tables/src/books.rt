@@ -1,4 +1,28 @@
 //! Statements over the table `book`.
+//!
+//! The clauses of a read, over a disk that returned what was written and the declared tables; `bs`
+//! are the books that the table held before the call:
+//! - `unchanged`: after a result, the connection is as it was; where the clause is
+//!   `UnchangedIfAnswered`, after `QueryReturnedNoRows` too.
+//! - `fails_from_outside`: an error but for lack of memory has an outside cause: the connection was
+//!   closed before, the disk failed during the call, or the connection limits the steps of a
+//!   statement. A look-up may also miss: it fails with `QueryReturnedNoRows`.
+//! - `reads_only`: on success and on error no transaction began, and a crash leaves what it could
+//!   leave before, whatever tables are declared. If no write was pending and the connection is
+//!   still open, it shows what it showed, and nothing was committed.
+//!
+//! The clauses of a write inside a transaction, over such a disk and such tables; no two of the
+//! books `bs` share an id or a name:
+//! - `same_reference`: the transaction still borrows the same connection.
+//! - `writes`: after a success only this table was written, the rows obey the declared tables, and
+//!   the transaction is open.
+//! - `no_commit`: on success and on error nothing was committed, and a crash leaves what it could
+//!   leave before.
+//! - `rolled_back`: an error changed nothing, or rolled the whole transaction back.
+//! - `fails_from_outside`: if the rows obey the tables, and the table accepts the write, an error
+//!   but for lack of memory has an outside cause. A new book is accepted if no book has the id or
+//!   the name, and the name has at most 2^20 octets; new numbers are if a book has the id, and its
+//!   name has at most 2^20 octets.
 ghost use Rattle.store_tables.specs.QueryResults.{AreRowsInOrder, FindsRow};
 ghost use Rattle.store_tables.specs.QueryResults.{count_value};
 ghost use Rattle.store_tables.specs.Acceptance.{AcceptsBook, AcceptsNumbers};
@@ -62,6 +86,8 @@ pub struct BookNumbers {
 ///
 /// Fails with `QueryReturnedNoRows` if no book has the name.
 pub fn find_book<S: Alter>(conn: &mut Connection<S>, name: &str) -> Result<Row, Error>
+    // The row is that of a book with the name. `QueryReturnedNoRows` is returned only if no book
+    // has it.
     ensures finds { GivenBooks S.Store conn.old conn.new
         (λ bs. FindsRow (has_name name.now) numbers_shown bs result) }
     ensures unchanged { UnchangedIfAnswered S.Store conn.old conn.new result }
@@ -77,6 +103,7 @@ pub fn find_book<S: Alter>(conn: &mut Connection<S>, name: &str) -> Result<Row, 
 
 /// Counts the books.
 pub fn count_books<S: Alter>(conn: &mut Connection<S>) -> Result<Row, Error>
+    // The row is the number of books, or 2^63 - 1 if there are more.
     ensures counts { GivenBooks S.Store conn.old conn.new
         (λ bs. IfOk result (λ row. row ≡ count_value (length bs) ∷ [])) }
     ensures unchanged { UnchangedIfAnswered S.Store conn.old conn.new result }
@@ -95,6 +122,8 @@ pub fn insert_book<S: Alter>(
     name: &str,
 ) -> Result<usize, Error>
     ensures same_reference { tx.new.conn.ghost_name ≡ tx.old.conn.ghost_name }
+
+    // The table holds the books and the empty one, and none of them had its id.
     ensures adds { GivenBooksTx S.Store tx.old.conn.now tx.new.conn.now
         (λ bs. OnOk result (AddsBook S.Store tx.new.conn.now id name.now bs)) }
     ensures writes { GivenBooksTx S.Store tx.old.conn.now tx.new.conn.now

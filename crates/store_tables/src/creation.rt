@@ -1,4 +1,13 @@
 //! The statements that create the tables, each inside a transaction.
+//!
+//! Their clauses, over a disk that returned what was written:
+//! - `same_reference`: the transaction still borrows the same connection.
+//! - `creates`: if exactly the tables before it were declared, after a success the table is
+//!   declared too and has no row, and the rows of the others are unchanged.
+//! - `stays_in_tx`: after a success the transaction is open.
+//! - `keeps_commit`: on success and on error nothing was committed.
+//! - `survives`: no fault of the disk is forgotten, and a crash leaves what it could leave before.
+//! - `rolled_back`: an error changed nothing, or rolled the whole transaction back.
 ghost use Rattle.store_tables.specs.SchemaCreation.{
   HasFirstTables,
   empty_schema,
@@ -145,6 +154,9 @@ fn create_remaining_tables<S: Alter>(tx: &mut Transaction<'_, S>) -> Result<usiz
 /// On an error some of the tables may exist inside the transaction; nothing is committed.
 pub fn create_tables<S: Alter>(tx: &mut Transaction<'_, S>) -> Result<(), Error>
     ensures same_reference { tx.new.conn.ghost_name ≡ tx.old.conn.ghost_name }
+
+    // After a success in a database without tables, the five are declared, hold the schema number
+    // and nothing else, and the transaction is open.
     ensures creates { InsideTx S.Store tx.old.conn.now tx.new.conn.now
         (tx.old.conn.now.schema ≡ empty_schema
         → OnOk result (HoldsInTx S.Store tx.new.conn.now (IsEmptyStore schema_number))) }

@@ -1,4 +1,14 @@
 //! The query for the due members of a sync report.
+//!
+//! Its clauses, over a disk that returned what was written and the declared tables; `ms` are the
+//! members that the table held before the call:
+//! - `unchanged`: after a result, the connection is as it was.
+//! - `fails_from_outside`: an error but for lack of memory has an outside cause: the connection was
+//!   closed before, the disk failed during the call, or the connection limits the steps of a
+//!   statement.
+//! - `reads_only`: on success and on error no transaction began, and a crash leaves what it could
+//!   leave before, whatever tables are declared. If no write was pending and the connection is
+//!   still open, it shows what it showed, and nothing was committed.
 ghost use Rattle.store_tables.specs.QueryResults.{AreFirstRowsInOrder};
 ghost use Rattle.store_tables.specs.Members.{by_changed, member_shown, is_member_due};
 ghost use Rattle.store_tables.specs.OnConnections.{

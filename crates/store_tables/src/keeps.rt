@@ -1,5 +1,28 @@
 //! Statements over the table `keeping`, which holds the keep of each book: how many removed members
 //! it remembers at most.
+//!
+//! The clauses of a read, over a disk that returned what was written and the declared tables;
+//! `keeps` are the keeps that the table held before the call:
+//! - `unchanged`: after a result, the connection is as it was; where the clause is
+//!   `UnchangedIfAnswered`, after `QueryReturnedNoRows` too.
+//! - `fails_from_outside`: an error but for lack of memory has an outside cause: the connection was
+//!   closed before, the disk failed during the call, or the connection limits the steps of a
+//!   statement. A look-up may also miss: it fails with `QueryReturnedNoRows`.
+//! - `reads_only`: on success and on error no transaction began, and a crash leaves what it could
+//!   leave before, whatever tables are declared. If no write was pending and the connection is
+//!   still open, it shows what it showed, and nothing was committed.
+//!
+//! The clauses of a write inside a transaction, over such a disk and such tables; no two of the
+//! `keeps` are of one book:
+//! - `same_reference`: the transaction still borrows the same connection.
+//! - `writes`: after a success only this table was written, the rows obey the declared tables, and
+//!   the transaction is open.
+//! - `no_commit`: on success and on error nothing was committed, and a crash leaves what it could
+//!   leave before.
+//! - `rolled_back`: an error changed nothing, or rolled the whole transaction back.
+//! - `fails_from_outside`: if the rows obey the tables, and the table accepts the write, an error
+//!   but for lack of memory has an outside cause. A keep is accepted if a book has the id, but no
+//!   keep.
 ghost use Rattle.store_tables.specs.QueryResults.{FindsRow};
 ghost use Rattle.store_tables.specs.Acceptance.{AcceptsKeep};
 ghost use Rattle.store_tables.specs.Books.{BookRow};
@@ -29,6 +52,7 @@ use sqlite::{Alter, Connection, Error, Row, Transaction, params};
 ///
 /// Fails with `QueryReturnedNoRows` if the book has no keep.
 pub fn find_keep<S: Alter>(conn: &mut Connection<S>, book: i64) -> Result<Row, Error>
+    // The row is that of a keep of the book. `QueryReturnedNoRows` is returned only if it has none.
     ensures finds { GivenKeeps S.Store conn.old conn.new
         (λ keeps. FindsRow (is_keep_of book) keep_shown keeps result) }
     ensures unchanged { UnchangedIfAnswered S.Store conn.old conn.new result }
@@ -47,6 +71,8 @@ pub fn insert_keep<S: Alter>(
     keep: i64,
 ) -> Result<usize, Error>
     ensures same_reference { tx.new.conn.ghost_name ≡ tx.old.conn.ghost_name }
+
+    // The table holds the keeps and the new one, and none of them was of the book.
     ensures adds { GivenKeepsTx S.Store tx.old.conn.now tx.new.conn.now
         (λ keeps. OnOk result (AddsKeep S.Store tx.new.conn.now book keep keeps)) }
     ensures writes { GivenKeepsTx S.Store tx.old.conn.now tx.new.conn.now

@@ -1,5 +1,31 @@
 //! Statements over the table `member`. A removed member that the book still remembers has a null
 //! card.
+//!
+//! The clauses of a read, over a disk that returned what was written and the declared tables; `ms`
+//! are the members that the table held before the call:
+//! - `unchanged`: after a result, the connection is as it was; where the clause is
+//!   `UnchangedIfAnswered`, after `QueryReturnedNoRows` too.
+//! - `fails_from_outside`: an error but for lack of memory has an outside cause: the connection was
+//!   closed before, the disk failed during the call, or the connection limits the steps of a
+//!   statement. A look-up may also miss: it fails with `QueryReturnedNoRows`.
+//! - `reads_only`: on success and on error no transaction began, and a crash leaves what it could
+//!   leave before, whatever tables are declared. If no write was pending and the connection is
+//!   still open, it shows what it showed, and nothing was committed.
+//!
+//! The clauses of a write inside a transaction, over such a disk and such tables; no two of the
+//! members `ms` share an id, or a UID in one book:
+//! - `same_reference`: the transaction still borrows the same connection.
+//! - `writes`: after a success only this table was written, the rows obey the declared tables, and
+//!   the transaction is open.
+//! - `takes_one_id`: if the engine had ids for one more new row than a number, it has ids for that
+//!   number of rows after a success.
+//! - `no_commit`: on success and on error nothing was committed, and a crash leaves what it could
+//!   leave before. `keeps_commit` and `survives` are its two parts.
+//! - `rolled_back`: an error changed nothing, or rolled the whole transaction back.
+//! - `fails_from_outside`: if the rows obey the tables, and the table accepts the write, an error
+//!   but for lack of memory has an outside cause. A member is accepted if the engine has an id for
+//!   a new row, a book has the id, none of its other members has the number, and neither the
+//!   UID nor the card has more than 2^20 octets.
 ghost use Rattle.store_tables.specs.QueryResults.{AreRowsInOrder, FindsRow, FindsFirstRow};
 ghost use Rattle.store_tables.specs.QueryResults.{count_value};
 ghost use Rattle.store_tables.specs.Acceptance.{AcceptsMember, HasFreeIds, IsViolation};
@@ -64,6 +90,8 @@ use sqlite::{Alter, Connection, Error, ErrorCode, Row, Transaction, params};
 ///
 /// Fails with `QueryReturnedNoRows` if the book has no such member.
 pub fn find_member<S: Alter>(conn: &mut Connection<S>, book: i64, uid: &str) -> Result<Row, Error>
+    // The row is that of a member of the book with the UID. `QueryReturnedNoRows` is returned only
+    // if there is none.
     ensures finds { GivenMembers S.Store conn.old conn.new
         (λ ms. FindsRow (has_uid book uid.now) number_card_shown ms result) }
     ensures unchanged { UnchangedIfAnswered S.Store conn.old conn.new result }
@@ -84,6 +112,7 @@ pub fn count_removed<S: Alter>(
     book: i64,
     horizon: i64,
 ) -> Result<Row, Error>
+    // The row is their number, or 2^63 - 1 if there are more.
     ensures counts { GivenMembers S.Store conn.old conn.new
         (λ ms. IfOk result
         (λ row. row ≡ count_value (length (filter (is_removed_above book horizon) ms)) ∷ [])) }
@@ -107,6 +136,8 @@ pub fn first_removed<S: Alter>(
     book: i64,
     horizon: i64,
 ) -> Result<Row, Error>
+    // The row is the least of these numbers. `QueryReturnedNoRows` is returned only if there is
+    // none.
     ensures first { GivenMembers S.Store conn.old conn.new
         (λ ms. FindsFirstRow by_changed number_shown (filter (is_removed_above book horizon) ms)
         result) }
@@ -189,6 +220,9 @@ pub fn put_member<S: Alter>(
     card: Option<&str>,
 ) -> Result<usize, Error>
     ensures same_reference { tx.new.conn.ghost_name ≡ tx.old.conn.ghost_name }
+
+    // The member has the number and the card, in its own row or in a new one. The others stay, and
+    // no two members share an id, or a UID in one book.
     ensures puts { GivenMembersTx S.Store tx.old.conn.now tx.new.conn.now
         (λ ms. OnOk result
         (PutsRow S.Store tx.new.conn.now book uid.now changed (option_copied card.entry) ms)) }
@@ -295,8 +329,13 @@ fn put_new_member<S: Alter>(
     }
 }
 
-/// Does what [`put_member`] does. It is faster if `likely_new` says rightly whether the book has no
-/// member with the UID, not even a removed one; the effect is the same.
+/// Inserts or updates the member with this UID in the book with this id: it gets the number
+/// `changed` and the card; without a card it is a removed member. The clauses are those of
+/// [`put_member`]. It is faster if `likely_new` says rightly whether the book has no member with
+/// the UID, not even a removed one.
+///
+/// Fails with a constraint error if another member of the book has the number, or if no book has
+/// the id.
 pub fn put_with_hint<S: Alter>(
     tx: &mut Transaction<'_, S>,
     book: i64,
@@ -306,6 +345,9 @@ pub fn put_with_hint<S: Alter>(
     likely_new: bool,
 ) -> Result<usize, Error>
     ensures same_reference { tx.new.conn.ghost_name ≡ tx.old.conn.ghost_name }
+
+    // The member has the number and the card, in its own row or in a new one. The others stay, and
+    // no two members share an id, or a UID in one book.
     ensures puts { GivenMembersTx S.Store tx.old.conn.now tx.new.conn.now
         (λ ms. OnOk result
         (PutsRow S.Store tx.new.conn.now book uid.now changed (option_copied card.entry) ms)) }
@@ -329,9 +371,13 @@ pub fn put_with_hint<S: Alter>(
     }
 }
 
-/// Puts the member as [`put_member`] does: updates its row, and inserts one if there is none. Both
-/// are faster than the upsert. No clause states that an error undoes the first statement, so the
-/// caller rolls the transaction back.
+/// Updates the row of the member with this UID in the book with this id, and inserts one if there
+/// is none: the member gets the number `changed` and the card; without a card it is a removed
+/// member. Both statements are faster than the upsert of [`put_member`]. No clause states that an
+/// error undoes the first one, so the caller rolls the transaction back.
+///
+/// Fails with a constraint error if another member of the book has the number, or if no book has
+/// the id.
 pub fn update_or_put<S: Alter>(
     tx: &mut Transaction<'_, S>,
     book: i64,
@@ -340,6 +386,9 @@ pub fn update_or_put<S: Alter>(
     card: Option<&str>,
 ) -> Result<(), Error>
     ensures same_reference { tx.new.conn.ghost_name ≡ tx.old.conn.ghost_name }
+
+    // The member has the number and the card, in its own row or in a new one. The others stay, and
+    // no two members share an id, or a UID in one book.
     ensures puts { GivenMembersTx S.Store tx.old.conn.now tx.new.conn.now
         (λ ms. OnOk result
         (PutsRow S.Store tx.new.conn.now book uid.now changed (option_copied card.entry) ms)) }

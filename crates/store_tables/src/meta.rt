@@ -1,4 +1,13 @@
 //! The statement that writes the table `meta`, which holds the schema number.
+//!
+//! The clauses of a write inside a transaction, over a disk that returned what was written:
+//! - `same_reference`: the transaction still borrows the same connection.
+//! - `writes`: after a success over the declared tables only this table was written, the rows obey
+//!   the tables, and the transaction is open.
+//! - `no_commit`: on success and on error a crash leaves what it could leave before, whatever
+//!   tables are declared; over the declared ones nothing was committed. `keeps_commit` says the
+//!   latter of any tables.
+//! - `rolled_back`: an error changed nothing, or rolled the whole transaction back.
 ghost use Rattle.store_tables.specs.Tables.{book_schema};
 ghost use Rattle.store_tables.specs.OnConnections.{
   AddsSchema,
@@ -20,6 +29,8 @@ pub const SCHEMA_NUMBER: i64 = 2;
 /// Fails with a constraint error if there is one already.
 pub fn insert_schema<S: Alter>(tx: &mut Transaction<'_, S>, number: i64) -> Result<usize, Error>
     ensures same_reference { tx.new.conn.ghost_name ≡ tx.old.conn.ghost_name }
+
+    // The table holds its rows and that of the number.
     ensures adds { InsideTx S.Store tx.old.conn.now tx.new.conn.now
         (tx.old.conn.now.schema ≡ book_schema
         → OnOk result (AddsSchema S.Store tx.old.conn.now tx.new.conn.now number)) }
