@@ -22,6 +22,7 @@ fn column_at(row: &Row, at: usize) -> ValueRef<'_>
 
 /// The integer in the column, or 0 if it has none.
 pub fn number_or_zero_at(row: &Row, at: usize) -> i64
+    // `id_in` is the integer of a value, and 0 of a value of another type.
     ensures { result ≡ id_in (column row.now at) }
 {
     match column_at(row, at) {

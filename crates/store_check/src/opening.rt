@@ -244,8 +244,13 @@ pub fn find_faulty_row<S: Alter>(
     }
 }
 
-/// Tests the tables as `check_tables` does, and returns how many tombstones each book has, in any
-/// order of the books. The number is counted as the members are read, so it costs no query.
+/// Tests whether the tables of the connection are a store's and hold well-formed books within the
+/// limits, and returns how many tombstones each book has, in any order of the books. The number is
+/// counted as the members are read, so it costs no query.
+///
+/// Fails with `NotOurs` or `OtherSchema` if the schema test does, before any book is read; with
+/// `Damaged` if the rows do not represent well-formed books; with `Memory` if memory runs out; and
+/// with `Store` for any other error of the database.
 pub fn count_tombstones<S: Alter>(
     alloc: Global,
     conn: &mut Connection<S>,

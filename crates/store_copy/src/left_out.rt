@@ -145,7 +145,7 @@ fn kept_rows(rows: Vec<Row>, at: usize, left: &[i64]) -> Vec<Row>
     rows
 }
 
-/// The rows of the books that aren't left out.
+/// The rows of all books but those with the ids `left`, each table's in the same order.
 pub fn leave_out(rows: StoredRows, left: &[i64]) -> StoredRows
     ensures { LeavesOut left.now rows result }
 {

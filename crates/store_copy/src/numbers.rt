@@ -54,6 +54,8 @@ fn pairs_above(number: u64) -> u64
 /// The number of pairs of a resync after which each book's number is above the numbers that the
 /// books have now; at least 1.
 pub fn restarting_pairs(rows: &StoredRows) -> u64
+    // A pair takes two numbers: each book's number is below what the pairs take. A negative one
+    // counts as 0.
     ensures above { AllByRecursion (λ book. natural book.numbers.number < 2 * result)
         (map decode_book rows.now.others.books.items) }
     ensures some { 1 ≤ result }

@@ -203,7 +203,12 @@ pub type FileRefusal<S> = (OpenFault, Option<Leftover<FileFrom<S>>>);
 /// the tables pass: then rows break the declarations. Any call may instead return `Memory` when out
 /// of memory, or `Store` on another error of the database.
 pub fn fault_of_leftover<S: Start>(alloc: Global, left: &mut Leftover<FileFrom<S>>) -> OpenFault
+    // If opening a connection over the files failed with `NotADatabase` and left this, and the disk
+    // has returned what was written, the fault is right for what the files held. `Memory` and
+    // `Store` always are.
     ensures fault { IsFaultOfLeftover ClassifiesSchema left.old left.new result }
+
+    // A store in `left` stays there.
     ensures keeps_store { HasNoStore left.new → HasNoStore left.old }
 
     // No fault of the disk is forgotten.
@@ -218,12 +223,24 @@ pub fn fault_of_leftover<S: Start>(alloc: Global, left: &mut Leftover<FileFrom<S
     }
 }
 
-/// `fault_of_leftover` for files that were to hold tables of schema 1, by `check_first_schema`.
+/// Returns why files are refused that were to hold tables of schema 1, and over which no connection
+/// opens, since they hold no database. `left` is what is left of them: a store in it is rolled back
+/// and read.
+///
+/// If no store was opened over the files, the fault is `NotOurs`. Otherwise it is the fault of
+/// `check_first_schema` for the tables in them, also `NotOurs` if they list no schema, and
+/// `Damaged` if the tables pass: then rows break the declarations. Any call may instead return
+/// `Memory` when out of memory, or `Store` on another error of the database.
 pub fn fault_of_first_leftover<S: Start>(
     alloc: Global,
     left: &mut Leftover<FileFrom<S>>,
 ) -> OpenFault
+    // If opening a connection over the files failed with `NotADatabase` and left this, and the disk
+    // has returned what was written, the fault is right for what the files held. `Memory` and
+    // `Store` always are.
     ensures fault { IsFaultOfLeftover ClassifiesFirstSchema left.old left.new result }
+
+    // A store in `left` stays there.
     ensures keeps_store { HasNoStore left.new → HasNoStore left.old }
 
     // No fault of the disk is forgotten.
