@@ -1,4 +1,14 @@
 //! Laws of devices that apply the pages of reports.
+//!
+//! A device without a token is consistent. One with a token is consistent if the token is of its
+//! book, and its copy agrees with the book's log at the token's mark: `at` is at most `base`, and
+//! `base` at most the number of events; a member without an event above `at` is in the copy exactly
+//! as it is now; and a removed member without an event above `base` isn't in the copy
+//! (`specs/DeviceConsistency.antt`).
+//!
+//! A member is due at a mark if it has an event above `at`, and is live or has one above `base`
+//! (`specs/Reports.antt`). A device is up to date if its copy equals the live cards of its book,
+//! with their versions.
 ghost use Rattle.book_laws.specs.DeviceLaws.{EmptyCopyAgrees, DevicesStartConsistent};
 ghost use Rattle.book_laws.specs.DeviceLaws.{InitialReportsListLiveMembers, CopiesStayConsistent};
 ghost use Rattle.book_laws.specs.DeviceLaws.{PartialPagesKeepCopiesConsistent};
@@ -119,8 +129,8 @@ pub fn quiet_books_sync_fully()
     ensures devices { QuietDevicesCatchUp }
 {}
 
-/// A consistent device stays consistent after any calls, on its own book and on others
-/// (`specs/RunLaws.antt`).
+/// A consistent device stays consistent after any list of calls, on its own book and on others,
+/// whatever the limits (`specs/RunLaws.antt`).
 pub fn devices_stay_consistent_over_calls()
     ensures { CallsKeepDevicesConsistent }
 {}

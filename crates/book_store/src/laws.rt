@@ -15,7 +15,9 @@ ghost use Rattle.std.specs.Prelude.{◌<◌, ◌*◌, ◌^◌};
 use sqlite::Alter;
 
 /// The rows of well-formed books cause no fault in a call that reads, if the limits allow fewer
-/// than 2^63 - 1 changes in all books together.
+/// than 2^63 books, fewer than 2^63 changes of each, and fewer than 2^63 - 1 of all together. The
+/// rows of well-formed books can be read, don't contradict each other, and keep the invariants of
+/// every store. A fault may still come from outside, or for lack of memory.
 pub fn well_formed_rows_cause_no_fault()
     ensures { (limits : Bounds) (rows : TableRows)
         → limits.books_max * limits.changes_max < 9223372036854775807
@@ -24,8 +26,10 @@ pub fn well_formed_rows_cause_no_fault()
 {}
 
 /// The rows of well-formed books accept changes, if the limits allow fewer than 2^63 - 1 books,
-/// fewer than 2^63 changes of each, and fewer than 2^63 - 1 of all together. A change of such rows
-/// fails with `Store` only from outside, while SQLite has ids for new rows (`HaveFreeIds`).
+/// fewer than 2^63 changes of each, and fewer than 2^63 - 1 of all together. The rows of
+/// well-formed books can be read, don't contradict each other, and keep the invariants of every
+/// store. A change of such rows fails with `Store` only from outside, while SQLite has ids for new
+/// rows (`HaveFreeIds`).
 pub fn well_formed_rows_accept_changes()
     ensures { (limits : Bounds) (rows : TableRows)
         → limits.books_max * limits.changes_max < 9223372036854775807

@@ -102,7 +102,9 @@ impl<S: Alter> SqlStore<S> {
 }
 
 impl<S: Alter + Drop> SqlStore<S> {
-    /// `try_adopt`, which drops the connection on an error.
+    /// Opens the store whose books the connection's tables hold. The connection must be outside a
+    /// transaction; an error drops it. All rows are read and tested, and nothing is written. It
+    /// fails with the faults of `try_adopt`.
     pub fn adopt(
         alloc: Global,
         connection: Connection<S>,

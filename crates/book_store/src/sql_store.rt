@@ -119,7 +119,12 @@ impl<S: Alter> SqlStore<S> {
 }
 
 impl<S: Alter + Drop> SqlStore<S> {
-    /// `try_adopt_new`, which drops the connection on an error.
+    /// Creates a store without books over the connection, whose schema must be empty: its tables
+    /// are created in one transaction. The connection must be outside a transaction; an error drops
+    /// it.
+    ///
+    /// Fails with `NotEmpty` if there is a table, an index or a view; otherwise with `Memory` if
+    /// memory runs out, and with `Store` for any other error of the database.
     pub fn adopt_new(
         alloc: Global,
         connection: Connection<S>,
