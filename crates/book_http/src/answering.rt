@@ -10,7 +10,11 @@ use http_routes::{NoCommand, Routes, read_request};
 use std::alloc::Global;
 use sync_core::BookStore;
 
-/// `answer`, with routes that were built before, as a server does for each of its requests.
+/// Performs the command of a complete request and returns the octets of the reply. A request that
+/// asks for no command changes nothing, and its reply is its first fault. The routes were built
+/// before, as a server does once for all its requests.
+///
+/// `NoMemory` if an allocation fails: the request was performed completely or not at all.
 pub fn answer_with<S: BookStore>(
     alloc: Global,
     routes: &Routes,

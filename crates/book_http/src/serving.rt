@@ -147,8 +147,9 @@ pub fn serve<H: Handler, R: Read, W: Write>(
         (R.remaining reader.old) (R.remaining reader.new)
         (W.contents writer.old) (W.contents writer.new) handler.old handler.new) }
 
-    // The same up to the fault. If the writer failed or memory ran out, it is the same up to the
-    // last piece; the replies to that piece were written in part or not at all.
+    // All requests of the octets read up to the fault were handled in turn, and their replies were
+    // written. If the writer failed or memory ran out, this is so up to the last piece; the replies
+    // to that piece were written in part or not at all.
     ensures fault { IfErr result (λ fault. AbortsConnection H.does H.fault_reply fault
         (R.remaining reader.old) (R.remaining reader.new)
         (W.contents writer.old) (W.contents writer.new) handler.old handler.new) }

@@ -87,6 +87,8 @@ pub trait Host<S, P, L>: RequestLog {
         together: usize,
     ) -> Result<(P, Address), Stop>
         ensures called { calls (Binds address together result) self.old self.new }
+
+        // The address is the one that was asked for; only in place of port 0 it is any port.
         ensures bound { IfOk result (λ bound. IsBoundAs address bound.1) }
         ensures stop { IfErr result (λ stop. (stop ≡ out_of_memory) ⊎ (stop ≡ Stop.Device)) };
 

@@ -6,7 +6,8 @@ use base_types::NoMemory;
 use http_requests::Head;
 use std::alloc::Global;
 
-/// Answers some requests of a server itself. Its reply depends on the request alone.
+/// Answers some requests of a server itself. Which replies it may give depends on the request
+/// alone.
 pub trait Front {
     /// Which requests are the front's own, and what the reply to one of them may be.
     ghost answers: { FrontRelation };

@@ -139,7 +139,7 @@ pub(crate) fn has_valid_names(action: Action, pairs: &[(Text, Text)]) -> bool
     each_once(required, pairs)
 }
 
-/// The value of the first pair with the name.
+/// The value of the first pair with the name; `None` if there is none.
 pub fn query_value<'a>(name: &str, pairs: &'a [(Text, Text)]) -> Option<&'a str>
     ensures { option_map (λ value. value.now) result ≡ queries.query_value name.now pairs.now }
 {

@@ -15,7 +15,8 @@ use crate::seat::Seat;
 use crate::server::Server;
 use http_hub::earlier;
 
-/// A new turn for each connection that is ready, or was cut off at the end of its turn.
+/// Begins a new turn, without steps yet, for each connection that is ready or still awake, as one
+/// is that was cut off at the end of its turn. Another one stays asleep. The unfed octets stay.
 fn begin_turns(seats: &mut [Seat], ready: &[bool])
     requires { length ready.now ≡ length seats.old }
     ensures { seats.new ≡ seats_after_wait ready.now seats.old }

@@ -12,7 +12,8 @@ use crate::outcome::{Accepted, Received, Sent, WaitFailed, Woken};
 /// A place, or the listener, is reported once when it becomes ready: it is to be used until it
 /// isn't ready any more. A new connection is reported as soon as it is ready.
 pub trait Endpoint {
-    /// The effect of one call with its outcome.
+    /// What is known of one call with its outcome: the endpoint before it and after it. By default
+    /// nothing is.
     ghost calls: { Self → EndpointEvent → Self → Type 0 } = { λ _ _ _. ⊤ };
 
     /// Waits until some place or the listener is ready, but at most until the time, if one is
@@ -26,13 +27,15 @@ pub trait Endpoint {
     fn accept(&mut self, place: usize) -> Accepted
         ensures { calls self.old (accept_event place result) self.new };
 
-    /// Reads octets from the connection at the place.
+    /// Reads at least one octet from the connection at the place, and at most as many as fit, or
+    /// says why it reads none.
     fn read(&mut self, place: usize, buffer: &mut [u8]) -> Received
         requires { 0 < length buffer.old }
         ensures fits { FitsBuffer buffer.new result }
         ensures event { calls self.old (read_event place buffer.new result) self.new };
 
-    /// Writes octets to the connection at the place.
+    /// Writes at least one of the octets to the connection at the place, or says why it writes
+    /// none.
     fn write(&mut self, place: usize, octets: &[u8]) -> Sent
         requires { 0 < length octets.now }
         ensures within { IsWithinOffer octets.now result }

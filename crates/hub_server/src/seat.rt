@@ -99,7 +99,8 @@ impl Seat {
         &self.buffer[self.fed_count..self.read_count]
     }
 
-    /// The first of these octets, up to the first line feed.
+    /// The octets that are fed next: the unfed ones up to the first line feed and with it, or all
+    /// of them if there is none.
     pub fn piece(&self) -> &[u8]
         ensures { result.now ≡ next_piece self.now.unfed }
     {
@@ -107,7 +108,8 @@ impl Seat {
         &unfed[..piece_len(unfed)]
     }
 
-    /// A new turn for a connection that is ready, or was cut off at the end of its turn.
+    /// Begins a new turn, without steps yet, if the connection is ready or still awake, as one is
+    /// that was cut off at the end of its turn. Another one stays asleep. The unfed octets stay.
     pub fn begin_turn(&mut self, is_ready: bool)
         ensures { self.new ≡ seat_after_wait is_ready self.old }
     {
@@ -116,14 +118,14 @@ impl Seat {
         }
     }
 
-    /// The connection isn't ready.
+    /// Notes that the connection isn't ready. The unfed octets stay.
     pub fn sleep(&mut self)
         ensures { self.new ≡ seat_asleep self.old }
     {
         self.turn = Turn::Asleep;
     }
 
-    /// Counts one step.
+    /// Counts one step of the turn. The unfed octets stay.
     pub fn count_step(&mut self)
         requires { HasTurn self.old }
         ensures { self.new ≡ seat_after_step self.old self.old.unfed }
@@ -133,7 +135,8 @@ impl Seat {
         }
     }
 
-    /// Counts one step, in which the first `count` octets were fed.
+    /// Counts one step of the turn, in which the first `count` of the unfed octets were fed. The
+    /// others stay.
     pub fn mark_fed(&mut self, count: usize)
         requires has_turn { HasTurn self.old }
         requires within { count ≤ length self.old.unfed }
@@ -143,7 +146,7 @@ impl Seat {
         self.count_step();
     }
 
-    /// The seat has no connection any more.
+    /// The seat has no connection any more: it is asleep, without octets.
     pub fn clear(&mut self)
         ensures { self.new ≡ new_seat }
     {
