@@ -21,6 +21,9 @@ use vcard_text::Card;
 /// `NoSuchCard` if no card has the UID, `NotGroup` if its kind isn't group, and `Memory` if an
 /// allocation fails.
 pub fn expand<C: CardsByUid>(alloc: Global, cards: &C, group: &str) -> Result<Expansion, GroupFault>
+    // The people are the UIDs of the cards that chains of members reach, through groups only, and
+    // that aren't groups. Missing are the member values that name no card, of the group and of the
+    // groups that it reaches. Each is there once, in octet order.
     ensures expansion { IfOk result (λ expansion. IsExpansion (C.cards cards.now) group.now
         expansion) }
     ensures no_such_card { (result ≡ Err NoSuchCard) ↔ (finite.get (C.cards cards.now) group.now

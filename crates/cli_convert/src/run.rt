@@ -236,8 +236,8 @@ fn convert<F: Files, W: Write, E: Write>(
 ///
 /// Returns the exit status of the program: 0 if all was carried, 1 if something wasn't, or a photo
 /// that was to be written beside its card, and 3 if the conversion stopped: a file, a folder,
-/// standard output or standard error can't be used, or there is no memory. Of files, a folder and
-/// standard error this is only tested.
+/// standard output or standard error can't be used, or there is no memory. What becomes of files, a
+/// folder and standard error is only tested.
 pub fn run_convert<F: Files, W: Write, E: Write + Drop>(
     alloc: Global,
     files: &F,
@@ -247,10 +247,12 @@ pub fn run_convert<F: Files, W: Write, E: Write + Drop>(
 ) -> u8
     ensures status { (result ≡ 0) ⊎ ((result ≡ 1) ⊎ (result ≡ 3)) }
 
-    // A conversion to standard output that didn't stop wrote one header, and a row for each card
-    // that was carried, of as many files as are given. They are read back as these cards, of which
-    // no two have one UID. The status is that of the summary, which counts what was carried and
-    // what wasn't; but with `photos` it is 1 if a photo was lost.
+    // A conversion to standard output that didn't stop wrote one header and a row for each card
+    // that was carried, and nothing else. They are read back as these cards, of which no two have
+    // one UID. The cards are those of as many lists of pieces or rows as files are given, and each
+    // piece or row has its fate after all before it; no clause says that these are the files' own.
+    // The status is that of the summary of the fates. With `photos` it may also be 1 where that
+    // says 0: no clause says when a photo is lost.
     ensures printed { result < 3 → IsTrue (prints_rows wanted.entry)
         → EndsConversion (is_some wanted.entry.photos) (length wanted.entry.more.now + 1)
         (W.contents rows.old.writer) (W.contents rows.new.writer) result }

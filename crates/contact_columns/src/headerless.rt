@@ -227,6 +227,7 @@ fn first_line_end(octets: &[u8]) -> &'static [u8] {
 /// octets: the numbers of the columns, as `#1,#2`, and the end that lines have. Empty if the file
 /// has a header. The only `Err` is out of memory.
 pub fn made_header(alloc: Global, header: Header<'_>, rows: &[u8]) -> Result<Vec<u8>, NoMemory>
+    // The names and the line end are only tested.
     ensures { IfOk result (λ made. header.entry.is_missing ≡ false → made.items ≡ []) }
 {
     let mut made = Vec::new(alloc);

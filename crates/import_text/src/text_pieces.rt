@@ -60,7 +60,8 @@ fn cut_place(octets: &[u8]) -> Option<usize> {
 /// where a BEGIN:VCARD follows a carriage return or a NUL. So a card whose lines end with a carriage
 /// return alone, in a file of other line ends, is a piece by itself, and takes no other card with it.
 pub fn split_text(octets: &[u8]) -> (&[u8], &[u8])
-    // The piece and the octets after it are the octets.
+    // Nothing is lost or added: the piece and the octets after it are the octets. At which place
+    // they are cut is only tested.
     ensures { octets.now ≡ result.0.now ++ result.1.now }
 {
     match cut_place(octets) {

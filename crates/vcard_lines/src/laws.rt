@@ -20,7 +20,7 @@ ghost use Rattle.vcard_lines.specs.TextValues.{TextChar, AreTextChars, text_char
 ghost use Rattle.vcard_lines.specs.TextValues.{IsSplitAtSemicolons, split_at_semicolons};
 ghost use Rattle.vcard_lines.specs.TextValues.{joined_by_semicolons, escaped_value, components};
 
-/// A text has exactly one list of logical lines.
+/// A text has exactly one list of logical lines (RFC 6350, section 3.2); empty ones are left out.
 pub fn logical_lines_are_unique()
     ensures { (text : List ℕ) (logical : List (List ℕ)) → AreLogicalLines text logical
         ↔ (logical ≡ logical_lines text) }
