@@ -1,7 +1,7 @@
 -- What each call of an endpoint does at its system of sockets, and which sockets it has then.
 use Rattle.std.specs.Prelude.{◌≡◌, ◌⊎◌, ◌<◌, ◌≤◌, ◌^◌, ◌+◌, ◌-◌, ℕ, Bool, List, length}
-use Rattle.std.specs.Prelude.{[], ◌∷◌, map, set, take, slice_index_or, IsNone, IsSome, Option}
-use Rattle.std.specs.Prelude.{Some, None, Result, Ok, Err}
+use Rattle.std.specs.Prelude.{[], ◌∷◌, map, replicate, set, take, slice_index_or, IsNone, IsSome}
+use Rattle.std.specs.Prelude.{Option, Some, None, Result, Ok, Err}
 use Rattle.std.specs.Result.{result_unwrap_or}
 use Rattle.std.specs.IoError.{raw_os_error}
 use Rattle.std.specs.declared.io.Error.{Error}
@@ -58,6 +58,11 @@ pub record KeepsSockets {S L C : Type 0} (old new : EndpointOver S L C) : Type 0
   pub listener : new.listener ≡ old.listener
   pub places : new.places.items ≡ old.places.items
   pub slots : new.polling.lingerers.slots.items ≡ old.polling.lingerers.slots.items
+
+-- this number of places, all free, and no socket lingers
+pub record IsNewWith {S L C : Type 0} (limit : ℕ) (endpoint : EndpointOver S L C) : Type 0 where
+  pub places : endpoint.places.items ≡ replicate limit None
+  pub slots : endpoint.polling.lingerers.slots.items ≡ replicate limit None
 
 -- a try of accepting that means this
 abbrev pub FailsToAccept : {L C : Type 0} → AcceptCause → L → SocketCall L C → Type 0

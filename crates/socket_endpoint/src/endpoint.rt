@@ -1,5 +1,6 @@
 //! The endpoint of a server over any system of sockets.
-ghost use Rattle.std.specs.Prelude.{◌≡◌, ◌<◌, IfOk, IsFalse, IsTrue, length};
+ghost use Rattle.std.specs.Prelude.{◌≡◌, ◌<◌, IfOk, IsFalse, IsTrue, None, length};
+ghost use Rattle.std.specs.Prelude.{replicate};
 ghost use Rattle.hub_server.specs.Endpoints.{FitsBuffer, IsWithinOffer};
 ghost use Rattle.socket_endpoint.specs.SocketEvents.{Accepting, Finishes, Listens};
 ghost use Rattle.socket_endpoint.specs.SocketEvents.{ReadsPlace, SeatsOrNot};
@@ -38,10 +39,9 @@ pub struct EndpointOver<S, L, C> {
 }
 
 /// A list of `limit` places without connections.
-pub(crate) fn free_places<C: Drop>(
-    alloc: Global,
-    limit: usize,
-) -> Result<Vec<Option<C>>, NoMemory> {
+pub(crate) fn free_places<C: Drop>(alloc: Global, limit: usize) -> Result<Vec<Option<C>>, NoMemory>
+    ensures { IfOk result (λ places. places.items ≡ replicate limit None) }
+{
     let mut places = Vec::new(alloc);
     for _place in 0..limit {
         places.push(None)?;

@@ -3,7 +3,7 @@
 //! The system resets a connection that is closed with input unread, and the client may then lose
 //! replies that it hasn't read. So the socket of a closed connection is kept until its client has
 //! ended its side, and what still comes is dropped.
-ghost use Rattle.std.specs.Prelude.{◌≡◌, ◌<◌, ◌↔◌, IsTrue, length, map};
+ghost use Rattle.std.specs.Prelude.{◌≡◌, ◌<◌, ◌↔◌, IfOk, IsTrue, None, length, map, replicate};
 ghost use Rattle.socket_endpoint.specs.LingerSlots.{IsFirstSlot, first_deadline};
 ghost use Rattle.socket_endpoint.specs.LingerSlots.{is_slot_given_up, slot_after, slot_deadline};
 ghost use Rattle.socket_endpoint.specs.LingerSlots.{slot_rank};
@@ -234,7 +234,9 @@ fn look_at_reported<L, C: Drop, S: Sockets<L, C>>(
 
 impl<C: Drop> Lingerers<C> {
     /// Room for `limit` sockets.
-    pub(crate) fn new(alloc: Global, limit: usize) -> Result<Lingerers<C>, NoMemory> {
+    pub(crate) fn new(alloc: Global, limit: usize) -> Result<Lingerers<C>, NoMemory>
+        ensures { IfOk result (λ lingerers. lingerers.slots.items ≡ replicate limit None) }
+    {
         let mut slots = Vec::new(alloc);
         for _slot in 0..limit {
             slots.push(None)?;

@@ -1,5 +1,5 @@
 //! Waits for events, and serves the sockets that linger meanwhile.
-ghost use Rattle.std.specs.Prelude.{◌≡◌, IfOk, None, OnErr, set};
+ghost use Rattle.std.specs.Prelude.{◌≡◌, IfOk, None, OnErr, replicate, set};
 ghost use Rattle.mio.specs.Events.{items};
 ghost use Rattle.socket_endpoint.specs.SocketEvents.{ClosesAll, ClosesSocket, ClosesStream};
 ghost use Rattle.socket_endpoint.specs.SocketEvents.{FailsToPoll, PollsUntil, WaitsOut, socket_at};
@@ -29,6 +29,7 @@ impl<S, C: Drop> Polling<S, C> {
     pub(crate) fn new(alloc: Global, system: S, limit: usize) -> Result<Polling<S, C>, BindFault>
     where
         S: Drop,
+        ensures { IfOk result (λ polling. polling.lingerers.slots.items ≡ replicate limit None) }
     {
         let events = Events::with_capacity(alloc, EVENTS_MAX)?;
         let lingerers = Lingerers::new(alloc, limit)?;

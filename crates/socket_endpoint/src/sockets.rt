@@ -1,5 +1,5 @@
 //! The trait of systems of sockets.
-ghost use Rattle.std.specs.Prelude.{◌≡◌, List, [], ◌∷◌, Option};
+ghost use Rattle.std.specs.Prelude.{◌≡◌};
 ghost use Rattle.std.specs.Io.{ReadsAtMost, WritesAtMost};
 ghost use Rattle.mio.specs.Events.{items};
 ghost use Rattle.socket_endpoint.specs.PollTimes.{nanos_in};

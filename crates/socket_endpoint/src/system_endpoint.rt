@@ -1,5 +1,6 @@
 //! The endpoint of a server over the sockets of the system.
-ghost use Rattle.hub_server.specs.Endpoints.{FitsBuffer, IsWithinOffer};
+ghost use Rattle.std.specs.Prelude.{IfOk};
+ghost use Rattle.socket_endpoint.specs.SocketEvents.{IsNewWith};
 ghost use Rattle.socket_endpoint.specs.SystemEvents.{FinishesAtSystem};
 
 use crate::bind_fault::BindFault;
@@ -33,7 +34,9 @@ impl SocketEndpoint {
         alloc: Global,
         address: SocketAddr,
         together: usize,
-    ) -> Result<SocketEndpoint, BindFault> {
+    ) -> Result<SocketEndpoint, BindFault>
+        ensures { IfOk result (λ endpoint. IsNewWith together endpoint.over) }
+    {
         let places = free_places(alloc, together)?;
         let polling = Polling::new(alloc, SystemSockets::new(rt)?, together)?;
         let listener = Listener::Tcp(TcpListener::bind(rt, address)?);
@@ -52,7 +55,9 @@ impl SocketEndpoint {
         alloc: Global,
         path: &str,
         together: usize,
-    ) -> Result<SocketEndpoint, BindFault> {
+    ) -> Result<SocketEndpoint, BindFault>
+        ensures { IfOk result (λ endpoint. IsNewWith together endpoint.over) }
+    {
         let places = free_places(alloc, together)?;
         let polling = Polling::new(alloc, SystemSockets::new(rt)?, together)?;
         let listener = Listener::Unix(bind_socket(rt, path)?);
