@@ -1,10 +1,12 @@
 -- What one look at a socket that was closed amounts to, and what becomes of the socket.
-use Rattle.std.proofs.Common.{◌≡◌, ◌≢◌, ◌∙◌, ℕ, Bool, true, false, List, Option, Result, Ok, Err, inl, inr, refl, sym, subst, length}
+use Rattle.std.proofs.Common.{◌≡◌, ◌≢◌, ◌∙◌, ℕ, zero, suc, Bool, true, false, List, [], ◌∷◌, Option, Some, None, Result, Ok, Err, inl, inr, refl, sym, ap, subst, get_or, length, map, set, if◌then◌else◌}
 use Rattle.std.specs.Prelude.{is_ok, is_err}
 use Rattle.std.specs.declared.io.Error.{Error}
-use Rattle.socket_endpoint.specs.Lingering.{DropsInput, EndsAndLingers, IsWatched, Lingers, LooksAt, StaysOrGoes, slots_with}
+use Rattle.mio.specs.declared.event.event.Event.{Event}
+use Rattle.socket_endpoint.specs.Lingering.{DropsInput, EndsAndLingers, IsWatched, Lingers, LooksAt, LooksAtEach, LooksAtSlot, LooksAtSubject, LooksIfThere, StaysOrGoes, slots_with}
 use Rattle.socket_endpoint.specs.LingerSlots.{IsFirstSlot}
 use Rattle.socket_endpoint.specs.Lingers.{is_given_up, linger_after, new_linger, octets_left}
+use Rattle.socket_endpoint.specs.Reports.{event_subject}
 use Rattle.socket_endpoint.specs.SocketCalls.{SocketLog, logged}
 use Rattle.socket_endpoint.specs.SocketCalls.SocketCall.{EndsSending, WatchesInput}
 use Rattle.socket_endpoint.specs.Subjects.{subject_of}
@@ -12,6 +14,7 @@ use Rattle.socket_endpoint.specs.declared.dropping.Dropped.{Dropped}
 use Rattle.socket_endpoint.specs.declared.dropping.Dropped.TheVariants as dropped
 use Rattle.socket_endpoint.specs.declared.linger.Linger.{Linger}
 use Rattle.socket_endpoint.specs.declared.lingerers.Lingerer.{Lingerer}
+use Rattle.socket_endpoint.specs.declared.subject.Subject.{Subject}
 use Rattle.socket_endpoint.specs.declared.subject.Subject.TheVariants as subject
 
 module _ {L C : Type 0} where
@@ -78,3 +81,40 @@ module _ {L C : Type 0} where
   pub lingers_not : (stream : C) (room now : ℕ) (answer : Result (Unit {0}) Error) (old : List (Option (Lingerer C))) (x y : SocketLog L C) → is_err answer ≡ true → y ≡ logged (EndsSending stream answer) x → EndsAndLingers stream room now old old x y
   lingers_not stream room now (Ok done) old x y failed made = absurd (cc failed)
   lingers_not stream room now (Err error) old x y failed made = record { ended = Err error; lingers = (refl, made) }
+
+-- to free a slot that is free changes nothing
+pub free_stays : {A : Type 0} (slots : List (Option A)) (slot : ℕ) → get_or slots slot None ≡ None → set slots slot None ≡ slots
+free_stays [] slot free = refl
+free_stays (x ∷ xs) zero free = ap (λ o. o ∷ xs) (sym free)
+free_stays (x ∷ xs) (suc slot) free = ap (λ t. x ∷ t) (free_stays xs slot free)
+
+module _ {L C : Type 0} (room now : ℕ) where
+  -- it isn't about a socket that lingers
+  pub looks_elsewhere : (about : Subject) (old : List (Option (Lingerer C))) (x : SocketLog L C) → ((slot : ℕ) → about ≡ subject.Lingerer slot → ⊥) → LooksAtSubject room now about old old x x
+  looks_elsewhere subject.Listener old x other = (refl, refl)
+  looks_elsewhere (subject.Place place) old x other = (refl, refl)
+  looks_elsewhere (subject.Lingerer slot) old x other = absurd (other slot refl)
+
+  module _ (about : Subject) (slot : ℕ) (is : about ≡ subject.Lingerer slot) where
+    -- no socket is in the slot
+    pub looks_at_none : (old new : List (Option (Lingerer C))) (x : SocketLog L C) → get_or old slot None ≡ None → new ≡ old → LooksAtSubject room now about old new x x
+    looks_at_none old new x none same =
+        subst (λ s. LooksAtSubject room now s old new x x) (sym is)
+        (subst (λ o. LooksIfThere room now slot o old new x x) (sym none) (same, refl))
+
+    -- the socket in the slot stays there, or goes
+    pub looks_at_one : (count : ℕ) (old new : List (Option (Lingerer C))) (lingerer seen : Lingerer C) (stays : Bool) (x y : SocketLog L C) → get_or old slot None ≡ Some lingerer → count ≡ length old → StaysOrGoes lingerer seen room now count slot stays x y → new ≡ set old slot (if stays then Some seen else None) → LooksAtSubject room now about old new x y
+    looks_at_one count old new lingerer seen stays x y found count_is looks slots =
+        let it : LooksAtSlot room now slot lingerer old new x y = record { seen = seen; stays = stays; looks = subst (λ n. StaysOrGoes lingerer seen room now n slot stays x y) count_is looks; slots = slots } in
+        subst (λ s. LooksAtSubject room now s old new x y) (sym is)
+        (subst (λ o. LooksIfThere room now slot o old new x y) (sym found) it)
+
+  -- no event is left
+  pub looks_last : (events : List Event) (slots : List (Option (Lingerer C))) (x : SocketLog L C) → length events ≡ 0 → LooksAtEach room now (map event_subject events) slots slots x x
+  looks_last [] slots x none = (refl, refl)
+  looks_last (event ∷ events) slots x none = absurd (cc none)
+
+  -- one more is looked at before the others
+  pub looks_next : (about : Subject) (all rest : List Subject) (old middle new : List (Option (Lingerer C))) (x y z : SocketLog L C) → all ≡ about ∷ rest → LooksAtSubject room now about old middle x y → LooksAtEach room now rest middle new y z → LooksAtEach room now all old new x z
+  looks_next about all rest old middle new x y z is first later =
+      subst (λ s. LooksAtEach room now s old new x z) (sym is) (middle, y, first, later)

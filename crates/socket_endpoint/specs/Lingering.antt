@@ -1,12 +1,13 @@
 -- What is done with the sockets that linger.
 use Rattle.std.specs.Prelude.{◌≡◌, ◌≢◌, ◌⊎◌, ◌≤◌, ◌<◌, ◌^◌, ◌-◌, ℕ, Bool, true, false, List, length}
-use Rattle.std.specs.Prelude.{set, slice_index_or, Option, Some, None, Result, Ok, Err}
+use Rattle.std.specs.Prelude.{[], ◌∷◌, map, set, slice_index_or, Option, Some, None, Result, Ok, Err}
+use Rattle.std.specs.Prelude.{if◌then◌else◌}
 use Rattle.std.specs.IoError.{error_kind}
 use Rattle.std.specs.declared.io.Error.{Error}
 use Rattle.std.specs.declared.io.ErrorKind.{ErrorKind}
 use Rattle.std.specs.declared.io.ErrorKind.TheVariants.{Interrupted, WouldBlock}
 use Rattle.socket_endpoint.specs.Lingers.{is_given_up, linger_after, new_linger, octets_left}
-use Rattle.socket_endpoint.specs.LingerSlots.{IsFirstSlot, is_slot_given_up}
+use Rattle.socket_endpoint.specs.LingerSlots.{IsFirstSlot, is_slot_given_up, slot_after}
 use Rattle.socket_endpoint.specs.SocketCalls.{Repeats, SocketCall, SocketLog, logged}
 use Rattle.socket_endpoint.specs.SocketCalls.SocketCall.{EndsSending, Reads}
 use Rattle.socket_endpoint.specs.SocketCalls.SocketCall.{WatchesInput}
@@ -14,6 +15,7 @@ use Rattle.socket_endpoint.specs.Subjects.{subject_of}
 use Rattle.socket_endpoint.specs.declared.dropping.Dropped.{Dropped}
 use Rattle.socket_endpoint.specs.declared.dropping.Dropped.TheVariants as dropped
 use Rattle.socket_endpoint.specs.declared.lingerers.Lingerer.{Lingerer}
+use Rattle.socket_endpoint.specs.declared.subject.Subject.{Subject}
 use Rattle.socket_endpoint.specs.declared.subject.Subject.TheVariants as subject
 
 -- ---- which sockets linger
@@ -168,6 +170,48 @@ module _ {L C : Type 0} where
         (logged (EndsSending stream ended) before) after
 
   -- ---- sockets that linger, while the server waits
+
+  -- what has come to the socket in the slot is dropped, and it stays there or goes
+  pub record LooksAtSlot (room now slot : ℕ) (lingerer : Lingerer C)
+      (old new : List (Option (Lingerer C))) (before after : SocketLog L C) : Type 0 where
+    pub seen : Lingerer C
+    pub stays : Bool
+    pub looks : StaysOrGoes lingerer seen room now (length old) slot stays before after
+    pub slots : new ≡ set old slot (if stays then Some seen else None)
+
+  -- the same, if a socket is there
+  abbrev pub LooksIfThere : ℕ → ℕ → ℕ → Option (Lingerer C) → List (Option (Lingerer C))
+      → List (Option (Lingerer C)) → SocketLog L C → SocketLog L C → Type 0
+  LooksIfThere room now slot None old new before after = (new ≡ old) × (after ≡ before)
+  LooksIfThere room now slot (Some lingerer) old new before after =
+      LooksAtSlot room now slot lingerer old new before after
+
+  -- the same, if the event is about a slot
+  abbrev pub LooksAtSubject : ℕ → ℕ → Subject → List (Option (Lingerer C))
+      → List (Option (Lingerer C)) → SocketLog L C → SocketLog L C → Type 0
+  LooksAtSubject room now subject.Listener old new before after =
+      (new ≡ old) × (after ≡ before)
+  LooksAtSubject room now (subject.Place place) old new before after =
+      (new ≡ old) × (after ≡ before)
+  LooksAtSubject room now (subject.Lingerer slot) old new before after =
+      LooksIfThere room now slot (slice_index_or old slot None) old new before after
+
+  -- the same for each of these, one after the other
+  abbrev pub LooksAtEach : ℕ → ℕ → List Subject → List (Option (Lingerer C))
+      → List (Option (Lingerer C)) → SocketLog L C → SocketLog L C → Type 0
+  LooksAtEach room now [] old new before after = (new ≡ old) × (after ≡ before)
+  LooksAtEach room now (first ∷ others) old new before after =
+      (slots : List (Option (Lingerer C))) × (middle : SocketLog L C)
+      × LooksAtSubject room now first old slots before middle
+      × LooksAtEach room now others slots new middle after
+
+  -- the sockets are looked at that the events are about, and then those are given up whose time is
+  -- over
+  pub record ServesSlots (room now : ℕ) (subjects : List Subject)
+      (old new : List (Option (Lingerer C))) (before after : SocketLog L C) : Type 0 where
+    pub looked : List (Option (Lingerer C))
+    pub looks : LooksAtEach room now subjects old looked before after
+    pub gives_up : new ≡ map (slot_after now) looked
 
   -- the call reads from one of these sockets, or has its input reported under the token of its slot
   abbrev pub IsDrain : List (Option (Lingerer C)) → SocketCall L C → Type 0

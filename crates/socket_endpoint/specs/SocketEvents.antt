@@ -19,9 +19,9 @@ use Rattle.hub_server.specs.declared.outcome.Sent.{Sent}
 use Rattle.hub_server.specs.declared.outcome.Sent.TheVariants as sent
 use Rattle.socket_endpoint.specs.AcceptCauses.{accept_cause}
 use Rattle.socket_endpoint.specs.LingerSlots.{first_deadline}
-use Rattle.socket_endpoint.specs.Lingering.{DrainsSlots, EndsAndLingers, NoneIsOver}
+use Rattle.socket_endpoint.specs.Lingering.{DrainsSlots, EndsAndLingers, NoneIsOver, ServesSlots}
 use Rattle.socket_endpoint.specs.PollTimes.{earlier, nanos_of, time_left}
-use Rattle.socket_endpoint.specs.Reports.{not_ready, ready_after, reports_listener}
+use Rattle.socket_endpoint.specs.Reports.{event_subject, not_ready, ready_after, reports_listener}
 use Rattle.socket_endpoint.specs.SocketCalls.{Repeats, SocketCall, SocketLog, logged}
 use Rattle.socket_endpoint.specs.SocketCalls.SocketCall.{Accepts, Polls, ReadsClock, SendsAtOnce}
 use Rattle.socket_endpoint.specs.SocketCalls.SocketCall.{Watches, WatchesListener}
@@ -250,6 +250,9 @@ module _ {S L C : Type 0} (log : S → SocketLog L C) where
     pub drains : DrainsSlots old.lingerers.slots.items new.lingerers.slots.items
         (logged (ReadsClock (Ok now)) (polled until old start (Ok tt) events)) (log new.system)
     pub given_up : NoneIsOver now new.lingerers.slots.items
+    pub serves : ServesSlots (length old.lingerers.room.items) now (map event_subject events)
+        old.lingerers.slots.items new.lingerers.slots.items
+        (logged (ReadsClock (Ok now)) (polled until old start (Ok tt) events)) (log new.system)
 
   -- the clock, the poll, or the clock after the poll failed
   abbrev pub FailsACall : Option ℕ → Polling S C → SocketLog L C → Type 0

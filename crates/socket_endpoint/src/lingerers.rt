@@ -8,7 +8,10 @@ ghost use Rattle.socket_endpoint.specs.LingerSlots.{IsFirstSlot, first_deadline}
 ghost use Rattle.socket_endpoint.specs.LingerSlots.{is_slot_given_up, slot_after, slot_deadline};
 ghost use Rattle.socket_endpoint.specs.LingerSlots.{slot_rank};
 ghost use Rattle.socket_endpoint.specs.Lingering.{DrainsSlots, EndsAndLingers, IsWatched};
-ghost use Rattle.socket_endpoint.specs.Lingering.{Lingers, LooksAt, NoneIsOver, StaysOrGoes};
+ghost use Rattle.socket_endpoint.specs.Lingering.{Lingers, LooksAt, LooksAtEach, LooksAtSubject};
+ghost use Rattle.socket_endpoint.specs.Lingering.{NoneIsOver, ServesSlots, StaysOrGoes};
+ghost use Rattle.socket_endpoint.specs.Reports.{event_subject};
+ghost use Rattle.mio.specs.Events.{items};
 
 use crate::dropping::{Dropped, drop_input};
 use crate::linger::Linger;
@@ -199,7 +202,9 @@ fn look_at<L, C: Drop, S: Sockets<L, C>>(
     room: &mut [u8],
     now: u64,
 )
-    ensures { DrainsSlots slots.old slots.new (S.log system.old) (S.log system.new) }
+    ensures drains { DrainsSlots slots.old slots.new (S.log system.old) (S.log system.new) }
+    ensures looks { LooksAtSubject (length room.old) now subject slots.old slots.new
+        (S.log system.old) (S.log system.new) }
 {
     let Subject::Lingerer(slot) = subject else {
         return;
@@ -225,7 +230,9 @@ fn look_at_reported<L, C: Drop, S: Sockets<L, C>>(
     room: &mut [u8],
     now: u64,
 )
-    ensures { DrainsSlots slots.old slots.new (S.log system.old) (S.log system.new) }
+    ensures drains { DrainsSlots slots.old slots.new (S.log system.old) (S.log system.new) }
+    ensures looks { LooksAtEach (length room.old) now (map event_subject (items events.now))
+        slots.old slots.new (S.log system.old) (S.log system.new) }
 {
     for event in events.iter() {
         look_at(slots, system, subject_of(event.token()), room, now);
@@ -275,6 +282,9 @@ impl<C: Drop> Lingerers<C> {
         ensures drains { DrainsSlots self.old.slots.items self.new.slots.items (S.log system.old)
             (S.log system.new) }
         ensures given_up { NoneIsOver now self.new.slots.items }
+        ensures serves { ServesSlots (length self.old.room.items) now
+            (map event_subject (items events.now)) self.old.slots.items self.new.slots.items
+            (S.log system.old) (S.log system.new) }
     {
         look_at_reported(&mut self.slots, system, events, &mut self.room, now);
         give_up(&mut self.slots, now);

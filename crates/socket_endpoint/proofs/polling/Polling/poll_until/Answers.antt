@@ -1,7 +1,8 @@
-use Rattle.std.proofs.Common.{◌∙◌, Err, Ok, ap, inl, inr, refl, subst}
+use Rattle.std.proofs.Common.{◌∙◌, Err, Ok, ap, inl, inr, length, map, refl, subst}
 use Rattle.mio.specs.Events.{items}
-use Rattle.socket_endpoint.specs.Lingering.{DrainsSlots}
+use Rattle.socket_endpoint.specs.Lingering.{DrainsSlots, ServesSlots}
 use Rattle.socket_endpoint.specs.PollTimes.{nanos_in, time_left}
+use Rattle.socket_endpoint.specs.Reports.{event_subject}
 use Rattle.socket_endpoint.specs.SocketCalls.{SocketLog, logged}
 use Rattle.socket_endpoint.specs.SocketCalls.SocketCall.{ReadsClock}
 use Rattle.socket_endpoint.proofs.EventLemmas.{on_err, polled_by}
@@ -38,4 +39,5 @@ returns-clause-polled g c =
       start = c.in_ok-before.before;
       drains = subst (λ (t : SocketLog g.row.L.Denot g.row.C.Denot). DrainsSlots c.args.self.now.lingerers.slots.items c.serve.new.self.slots.items t (log c.serve.new.system)) clock c.serve.ensures.drains;
       given_up = c.serve.ensures.given_up;
+      serves = subst (λ (t : SocketLog g.row.L.Denot g.row.C.Denot). ServesSlots (length c.args.self.now.lingerers.room.items) c.in_ok-now.now (map event_subject (items c.poll.new.events)) c.args.self.now.lingerers.slots.items c.serve.new.self.slots.items t (log c.serve.new.system)) clock c.serve.ensures.serves;
     }
