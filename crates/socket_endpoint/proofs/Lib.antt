@@ -1,1 +1,10 @@
 pub mod LoopLemmas
+pub mod TransferLemmas
+pub mod DrainLemmas
+pub mod WaitLemmas
+pub mod CloseLemmas
+pub mod LookLemmas
+pub mod EventLemmas
+pub mod PlaceLemmas
+pub mod AcceptLemmas
+pub mod EndpointLemmas

@@ -1,5 +1,5 @@
 -- A list of which a loop replaces one item after another.
-use Rattle.std.proofs.Common.{◌≡◌, ◌∙◌, ◌≤◌, ◌+◌, ◌++◌, ℕ, zero, suc, List, [], ◌∷◌, Some, refl, sym, ap, arith, drop, length, map, take, slice_get, slice_set}
+use Rattle.std.proofs.Common.{◌≡◌, ◌∙◌, ◌+◌, ◌++◌, ℕ, zero, suc, List, [], ◌∷◌, Some, refl, sym, ap, arith, drop, length, map, take, slice_get, slice_set}
 
 same_item : {A : Type 0} (x y : A) → Some x ≡ Some y → x ≡ y
 same_item x y same = cc same
@@ -24,3 +24,13 @@ maps_next f old now i x next found so_far next_is =
     let one_more : suc i ≡ i + 1 = omega arith in
     ap (λ t. slice_set t i next) so_far ∙ ap (λ v. slice_set (map f (take i old) ++ drop i old) i v) next_is ∙ map_more f old i x before
     ∙ ap (λ n. map f (take n old) ++ drop n old) one_more
+
+-- what was written over a whole list is the list then
+write_all : {A : Type 0} (old new : List A) → length new ≡ length old → take (length old) (new ++ drop (length new) old) ≡ new
+write_all [] [] same = refl
+write_all [] (x ∷ xs) same = absurd (cc same)
+write_all (y ∷ ys) [] same = absurd (cc same)
+write_all (y ∷ ys) (x ∷ xs) same = let tails : length xs ≡ length ys = omega (arith, same) in ap (λ t. x ∷ t) (write_all ys xs tails)
+
+pub written_back : {A : Type 0} (old new : List A) (n : ℕ) → n ≡ length old → length new ≡ length old → take n (new ++ drop (length new) old) ≡ new
+written_back old new n is same = ap (λ m. take m (new ++ drop (length new) old)) is ∙ write_all old new same

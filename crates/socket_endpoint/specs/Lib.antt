@@ -3,5 +3,9 @@ pub mod Subjects
 pub mod PollTimes
 pub mod Lingers
 pub mod LingerSlots
-pub mod Streams
+pub mod SocketCalls
+pub mod Transfers
+pub mod Lingering
 pub mod Reports
+pub mod SocketEvents
+pub mod SystemEvents

@@ -11,10 +11,15 @@ mod poll_times;
 mod polling;
 mod reports;
 mod socket_files;
+mod sockets;
 mod stopwatch;
 mod streams;
 mod subject;
+mod system;
+mod system_endpoint;
 mod transfers;
 
 pub use bind_fault::BindFault;
-pub use endpoint::SocketEndpoint;
+pub use endpoint::EndpointOver;
+pub use sockets::Sockets;
+pub use system_endpoint::SocketEndpoint;

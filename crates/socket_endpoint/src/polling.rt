@@ -1,79 +1,135 @@
 //! Waits for events, and serves the sockets that linger meanwhile.
+ghost use Rattle.std.specs.Prelude.{◌≡◌, IfOk, None, OnErr, replicate, set};
+ghost use Rattle.mio.specs.Events.{items};
+ghost use Rattle.socket_endpoint.specs.SocketEvents.{ClosesAll, ClosesSocket, ClosesStream};
+ghost use Rattle.socket_endpoint.specs.SocketEvents.{FailsToPoll, PollsUntil, WaitsOut, socket_at};
+
 use crate::bind_fault::BindFault;
 use crate::lingerers::Lingerers;
 use crate::poll_times::{earlier, time_left, timeout_of};
-use crate::stopwatch::Stopwatch;
-use crate::streams::Stream;
-use mio::{Events, Poll, Registry};
+use crate::sockets::Sockets;
+use mio::Events;
 use std::alloc::Global;
 use std::io;
-use std::rt::HostRuntime;
 
 /// The most events of one poll. What is ready beyond them is reported by the next.
 const EVENTS_MAX: usize = 1_024;
 
-/// The sockets that are registered, the events of the last poll, and the sockets that linger.
+/// A system of sockets, the events of its last poll, and the sockets that linger.
 #[derive(Drop)]
-pub(crate) struct Polling {
-    stopwatch: Stopwatch,
-    poll: Poll,
+pub(crate) struct Polling<S, C> {
+    pub(crate) system: S,
     events: Events<Global>,
-    lingerers: Lingerers,
-    now: u64,
+    lingerers: Lingerers<C>,
+    waited_at: u64,
 }
 
-impl Polling {
-    /// Starts the time. At most `limit` sockets linger.
-    pub(crate) fn new(rt: &HostRuntime, alloc: Global, limit: usize) -> Result<Polling, BindFault> {
-        let stopwatch = Stopwatch::new(*rt)?;
-        let poll = Poll::new(rt)?;
+impl<S, C: Drop> Polling<S, C> {
+    /// At most `limit` sockets linger.
+    pub(crate) fn new(alloc: Global, system: S, limit: usize) -> Result<Polling<S, C>, BindFault>
+    where
+        S: Drop,
+        ensures { IfOk result (λ polling. polling.lingerers.slots.items ≡ replicate limit None) }
+    {
         let events = Events::with_capacity(alloc, EVENTS_MAX)?;
         let lingerers = Lingerers::new(alloc, limit)?;
         Ok(Polling {
-            stopwatch,
-            poll,
+            system,
             events,
             lingerers,
-            now: 0,
+            waited_at: 0,
         })
     }
 
-    /// The sockets that are registered.
-    pub(crate) fn registry(&self) -> &Registry {
-        self.poll.registry()
+    /// The system of sockets.
+    pub(crate) fn into_system(self) -> S
+        ensures { result ≡ self.system }
+    {
+        let Polling {
+            system,
+            events: _,
+            lingerers: _,
+            waited_at: _,
+        } = self;
+        system
     }
 
     /// The events of the last poll.
-    pub(crate) fn events(&self) -> &Events<Global> {
+    pub(crate) fn events(&self) -> &Events<Global>
+        ensures { result.now ≡ self.now.events }
+    {
         &self.events
     }
 
     /// Waits for events until the time, or until a socket that lingers has to be given up. Then it
     /// serves those that linger. Returns the time.
-    pub(crate) fn poll_until(&mut self, until: Option<u64>) -> io::Result<u64> {
-        let before = self.stopwatch.millis()?;
+    pub(crate) fn poll_until<L>(&mut self, until: Option<u64>) -> io::Result<u64>
+    where
+        S: Sockets<L, C>,
+        ensures polled { IfOk result (λ now. PollsUntil S.log until (items self.new.events) now
+            self.old self.new) }
+        ensures failed { OnErr result (FailsToPoll S.log until self.old self.new) }
+    {
+        let before = self.system.millis()?;
         let left = time_left(earlier(until, self.lingerers.deadline()), before);
-        self.poll.poll(&mut self.events, timeout_of(left))?;
-        let now = self.stopwatch.millis()?;
-        self.now = now;
-        self.lingerers
-            .look_at_reported(self.poll.registry(), &self.events, now);
-        self.lingerers.give_up(now);
+        self.system.poll(&mut self.events, timeout_of(left))?;
+        let now = self.system.millis()?;
+        self.waited_at = now;
+        self.lingerers.serve(&mut self.system, &self.events, now);
         Ok(now)
     }
 
     /// Closes the connection. Its socket lingers until its client has ended its side.
-    pub(crate) fn close(&mut self, stream: Stream) {
+    pub(crate) fn close<L>(&mut self, stream: C)
+    where
+        S: Sockets<L, C>,
+        ensures { ClosesStream S.log stream self.old self.new }
+    {
         // without a clock it lingers from the last wait on
-        let now = self.stopwatch.millis().unwrap_or(self.now);
-        self.lingerers.add(self.poll.registry(), stream, now);
+        let now = self.system.millis().unwrap_or(self.waited_at);
+        self.lingerers.add(&mut self.system, stream, now);
+    }
+
+    /// Closes the connection at the place, if there is one. Then the place is free.
+    pub(crate) fn close_at<L>(&mut self, places: &mut [Option<C>], place: usize)
+    where
+        S: Sockets<L, C>,
+        ensures closes { ClosesSocket S.log (socket_at places.old place) self.old self.new }
+        ensures frees { places.new ≡ set places.old place None }
+    {
+        if place >= places.len() {
+            return;
+        }
+        let Some(stream) = places[place].take() else {
+            return;
+        };
+        self.close(stream);
+    }
+
+    /// Closes the connections at all places.
+    pub(crate) fn close_all<L>(&mut self, places: &mut [Option<C>])
+    where
+        S: Sockets<L, C>,
+        ensures { ClosesAll S.log places.old self.old self.new }
+    {
+        for place in 0..places.len() {
+            self.close_at(places, place);
+        }
     }
 
     /// Waits until no socket lingers, or a wait fails.
-    pub(crate) fn finish(&mut self) {
+    pub(crate) fn finish<L>(&mut self)
+    where
+        S: Sockets<L, C>,
+        ensures { WaitsOut S.log self.old self.new }
+    {
         for _wait in 0..u64::MAX {
-            if self.lingerers.deadline().is_none() || self.poll_until(None).is_err() {
+            if self.lingerers.deadline().is_none() {
                 return;
+            }
+            match self.poll_until(None) {
+                Ok(_now) => {}
+                Err(_error) => return,
             }
         }
     }

@@ -1,4 +1,6 @@
 //! Connections and listeners over TCP, and at Unix sockets. None of them blocks.
+ghost use Rattle.std.specs.Prelude.{◌≡◌};
+ghost use Rattle.std.specs.Io.{ReadsAtMost, WritesAtMost};
 
 use mio::net::{TcpListener, TcpStream, UnixListener, UnixStream};
 use mio::{Interest, Registry, Token};
@@ -41,13 +43,35 @@ impl Stream {
         }
     }
 
+    /// Reads octets.
+    pub(crate) fn read(&self, buffer: &mut [u8]) -> io::Result<usize>
+        ensures { ReadsAtMost result buffer.new }
+    {
+        match self {
+            Stream::Tcp(stream) => (&*stream).read(buffer),
+            Stream::Unix(stream) => (&*stream).read(buffer),
+        }
+    }
+
+    /// Writes octets.
+    pub(crate) fn write(&self, octets: &[u8]) -> io::Result<usize>
+        ensures { WritesAtMost result octets.now }
+    {
+        match self {
+            Stream::Tcp(stream) => (&*stream).write(octets),
+            Stream::Unix(stream) => (&*stream).write(octets),
+        }
+    }
+
     /// Has its events reported under the token.
     pub(crate) fn register(
         &mut self,
         registry: &Registry,
         token: Token,
         interest: Interest,
-    ) -> io::Result<()> {
+    ) -> io::Result<()>
+        ensures { self.new ≡ self.old }
+    {
         match self {
             Stream::Tcp(stream) => registry.register(stream, token, interest),
             Stream::Unix(stream) => registry.register(stream, token, interest),
@@ -60,35 +84,12 @@ impl Stream {
         registry: &Registry,
         token: Token,
         interest: Interest,
-    ) -> io::Result<()> {
+    ) -> io::Result<()>
+        ensures { self.new ≡ self.old }
+    {
         match self {
             Stream::Tcp(stream) => registry.reregister(stream, token, interest),
             Stream::Unix(stream) => registry.reregister(stream, token, interest),
-        }
-    }
-}
-
-impl Read for Stream {
-    fn read(&mut self, buf: &mut [u8]) -> io::Result<usize> {
-        match self {
-            Stream::Tcp(stream) => stream.read(buf),
-            Stream::Unix(stream) => stream.read(buf),
-        }
-    }
-}
-
-impl Write for Stream {
-    fn write(&mut self, buf: &[u8]) -> io::Result<usize> {
-        match self {
-            Stream::Tcp(stream) => stream.write(buf),
-            Stream::Unix(stream) => stream.write(buf),
-        }
-    }
-
-    fn flush(&mut self) -> io::Result<()> {
-        match self {
-            Stream::Tcp(stream) => stream.flush(),
-            Stream::Unix(stream) => stream.flush(),
         }
     }
 }
@@ -122,7 +123,9 @@ impl Listener {
         registry: &Registry,
         token: Token,
         interest: Interest,
-    ) -> io::Result<()> {
+    ) -> io::Result<()>
+        ensures { self.new ≡ self.old }
+    {
         match self {
             Listener::Tcp(listener) => registry.register(listener, token, interest),
             Listener::Unix(listener) => registry.register(listener, token, interest),

@@ -3,11 +3,12 @@ ghost use Rattle.std.specs.Prelude.{◌≡◌, ◌<◌, ◌↔◌, IsTrue, lengt
 ghost use Rattle.std.specs.IoError.{error_kind};
 ghost use Rattle.std.specs.declared.io.ErrorKind.{ErrorKind as TheKind};
 ghost use Rattle.hub_server.specs.Endpoints.{FitsBuffer, IsWithinOffer};
-ghost use Rattle.socket_endpoint.specs.Streams.{ReadsIntoBuffer, WritesOffer};
+ghost use Rattle.socket_endpoint.specs.Transfers.{ReadsFrom, WritesTo};
 
+use crate::sockets::Sockets;
 use hub_server::{Received, Sent};
 use std::io;
-use std::io::{ErrorKind, Read, Write};
+use std::io::ErrorKind;
 
 /// How often an interrupted call is made.
 const TRIES_MAX: u32 = 1_000;
@@ -28,14 +29,17 @@ pub(crate) fn would_wait(error: &io::Error) -> bool
 
 /// Reads octets. After 1,000 interrupted calls in a row the connection has failed: it can't answer
 /// that there are none, since the octets that are there would not be reported again.
-pub(crate) fn read_from<R: Read>(reader: &mut R, buffer: &mut [u8]) -> Received
+pub(crate) fn read_from<L, C, S: Sockets<L, C>>(
+    system: &mut S,
+    stream: &C,
+    buffer: &mut [u8],
+) -> Received
     requires { 0 < length buffer.old }
     ensures fits { FitsBuffer buffer.new result }
-    ensures read { ReadsIntoBuffer buffer.new (R.remaining reader.old) (R.remaining reader.new)
-        result }
+    ensures read { ReadsFrom stream.now buffer.new result (S.log system.old) (S.log system.new) }
 {
     for _try in 0..TRIES_MAX {
-        match reader.read(buffer) {
+        match system.read(stream, buffer) {
             Ok(0) => return Received::End,
             Ok(count) => return Received::Octets(count),
             Err(error) => {
@@ -54,14 +58,13 @@ pub(crate) fn read_from<R: Read>(reader: &mut R, buffer: &mut [u8]) -> Received
 /// Writes octets. After 1,000 interrupted calls in a row the connection has failed, and also if
 /// none of the octets was accepted and the system doesn't say that the call would have to wait:
 /// nothing would report that it can be tried again.
-pub(crate) fn write_to<W: Write>(writer: &mut W, octets: &[u8]) -> Sent
+pub(crate) fn write_to<L, C, S: Sockets<L, C>>(system: &mut S, stream: &C, octets: &[u8]) -> Sent
     requires { 0 < length octets.now }
     ensures within { IsWithinOffer octets.now result }
-    ensures written { WritesOffer octets.now (W.contents writer.old) (W.contents writer.new)
-        result }
+    ensures written { WritesTo stream.now octets.now result (S.log system.old) (S.log system.new) }
 {
     for _try in 0..TRIES_MAX {
-        match writer.write(octets) {
+        match system.write(stream, octets) {
             Ok(0) => return Sent::Failed,
             Ok(count) => return Sent::Octets(count),
             Err(error) => {

@@ -3,4 +3,4 @@ use Rattle.socket_endpoint.specs.LingerSlots.{first_deadline}
 use Rattle.socket_endpoint.proofs.lingerers.first_deadline.Given as goal
 
 abbrev pub invariant-loop-slot : goal.invariant-loop-slot
-invariant-loop-slot l = l.first ≡ first_deadline (take l.slot-index l.slots)
+invariant-loop-slot g l = l.first ≡ first_deadline (take l.slot-index l.slots)
