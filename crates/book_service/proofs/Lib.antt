@@ -19,3 +19,6 @@ pub mod PageTokenLemmas
 pub mod LifeLemmas
 pub mod LivedLemmas
 pub mod RestoreLemmas
+pub mod ResyncRunLemmas
+pub mod LegalCardLemmas
+pub mod ResyncLifeLemmas

@@ -18,8 +18,8 @@ use Rattle.book_service.proofs.LifeLemmas.{lives_are_runs}
 
 -- ---- one more run
 
-life_more : (now : SystemState) (runs : List ServerRun) (trace : List TraceStep) (run : ServerRun)
-    (made : List TraceStep) → IsLife now runs trace → Run (end_of now trace) run.answered
+pub life_more : (now : SystemState) (runs : List ServerRun) (trace : List TraceStep)
+    (run : ServerRun) (made : List TraceStep) → IsLife now runs trace → Run (end_of now trace) run.answered
     → MadeOf run.interrupted (end_of (end_of now trace) run.answered) made
     → IsLife now (runs ++ run ∷ []) (trace ++ (run.answered ++ made))
 life_more now [] trace run made none answered makes =

@@ -10,6 +10,7 @@ pub mod Promise
 pub mod Lives
 pub mod Crashes
 pub mod Restores
+pub mod Resyncs
 pub mod Mirrors
 pub mod PageTokenLaws
 pub mod internal

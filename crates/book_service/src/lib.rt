@@ -14,6 +14,7 @@ mod page_tokens;
 mod reply;
 mod restarts;
 pub mod restores;
+pub mod resyncs;
 mod texts;
 mod whole_books;
 
