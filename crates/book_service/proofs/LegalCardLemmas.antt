@@ -78,7 +78,7 @@ use Rattle.book_service.specs.declared.event.Event.{Event}
 use Rattle.book_service.specs.declared.event.Event.TheVariants.{Do, Ask}
 use Rattle.book_service.specs.Commands.{DeliversOutcome, HasOutcome, ImportsTo, Outcome}
 use Rattle.book_service.specs.Commands.{PerformsCommand, import_outcome, outcome_with}
-use Rattle.book_service.specs.Resyncs.{CardsStayLegal}
+use Rattle.book_service.specs.Resyncs.{CardsStayLegal, NewStoresHaveLegalCards}
 use Rattle.book_service.specs.Runs.{SystemState, Step, TraceStep, Run, end_of}
 use Rattle.book_service.specs.Texts.{ReadsCard, ReadsCards}
 
@@ -440,6 +440,10 @@ legal_rows rows histories legal name uid book stored found at =
         (sym (live_by_row history.log history.horizon uid)
         ∙ ap (λ (b : Book). option_and_then stored_in_row (finite.get b.members uid)) own ∙ at)
     by None is e = absurd (no_card book e)
+
+pub new_stores_have_legal_cards : NewStoresHaveLegalCards
+new_stores_have_legal_cards name uid book stored found at =
+    absurd (no_card book (sym (get-empty text_cmp name) ∙ found))
 
 pub cards_stay_legal : RowsArePerBook → SpelledAreCards → CardsStayLegal
 cards_stay_legal rows spelled now run legal steps =

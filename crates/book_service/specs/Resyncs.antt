@@ -1,6 +1,7 @@
 -- A resync of a store between two runs of its server: it is a run of accepted commands, and so a
 -- part of the life of the store.
 use Rattle.std.specs.Prelude.{ℕ, ◌≡◌, List, [], ◌∷◌, ◌++◌}
+use Rattle.std.specs.FinMap as finite
 use Rattle.book_model.specs.Books.{Books}
 use Rattle.book_laws.specs.StoreHistories.{IsSoundStoreHistory, rows_of}
 use Rattle.book_resync.specs.ResyncLaws.{HasLegalCards, IsResync}
@@ -40,6 +41,10 @@ abbrev pub ResyncsTo : SystemState → ℕ → Books → Type 0
 ResyncsTo now pairs rows = IsResync now.model.limits (rows_of now.model.books) pairs rows
 
 -- ---- laws
+
+-- a store without books has no live card that a text can't spell
+abbrev pub NewStoresHaveLegalCards : Type 0
+NewStoresHaveLegalCards = HasLegalCards finite.empty
 
 -- if each live card is one that a text can spell, so is each one after a run
 abbrev pub CardsStayLegal : Type 0

@@ -1,6 +1,7 @@
 //! The laws by which a resync is a run, and so a part of the life of a store. Each law is a function
 //! without run-time effect, and is stated in `specs/Resyncs.antt`.
-ghost use Rattle.book_service.specs.Resyncs.{CardsStayLegal, ResyncsAreRuns, ResyncsContinueLives};
+ghost use Rattle.book_service.specs.Resyncs.{CardsStayLegal, NewStoresHaveLegalCards};
+ghost use Rattle.book_service.specs.Resyncs.{ResyncsAreRuns, ResyncsContinueLives};
 
 use crate::lives::{lives_keep_the_promise, lives_stay_well_formed};
 use book_laws::refinement::{
@@ -9,10 +10,12 @@ use book_laws::refinement::{
 use book_resync::laws::resync_is_commands;
 use vcard_text::laws::{canonical_text_spells, spelled_is_card};
 
-/// If each live card of a state is one that a text can spell, so is each live card of every later
-/// state of a run.
+/// A text can spell each live card of a store whose cards came from commands.
+/// - `starts`: a store without books has no live card that a text can't spell.
+/// - `stay`: if a state has none, no later state of a run has one.
 pub fn cards_stay_legal()
-    ensures { CardsStayLegal }
+    ensures starts { NewStoresHaveLegalCards }
+    ensures stay { CardsStayLegal }
 {
     spelled_is_card();
     rows_are_per_book();

@@ -19,4 +19,4 @@ returns-clause-lives c =
     c.resync_is_commands.ensures.legal in
     resyncs_continue_lives c.lives_keep_the_promise.ensures.one_run
     c.lives_keep_the_promise.ensures.parts c.lives_stay_well_formed.ensures
-    c.cards_stay_legal.ensures runs
+    c.cards_stay_legal.ensures.stay runs
