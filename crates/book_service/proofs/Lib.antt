@@ -22,3 +22,4 @@ pub mod RestoreLemmas
 pub mod ResyncRunLemmas
 pub mod LegalCardLemmas
 pub mod ResyncLifeLemmas
+pub mod StoreLifeLemmas

@@ -11,6 +11,7 @@ pub mod Lives
 pub mod Crashes
 pub mod Restores
 pub mod Resyncs
+pub mod StoreLives
 pub mod Mirrors
 pub mod PageTokenLaws
 pub mod internal

@@ -15,6 +15,7 @@ mod reply;
 mod restarts;
 pub mod restores;
 pub mod resyncs;
+pub mod store_lives;
 mod texts;
 mod whole_books;
 

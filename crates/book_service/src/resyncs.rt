@@ -1,5 +1,5 @@
-//! The laws by which a resync is a run, and so a part of the life of a store. Each law is a function
-//! without run-time effect, and is stated in `specs/Resyncs.antt`.
+//! The laws by which a resync is a run, and so a part of the life of a store. Each law is a
+//! function without run-time effect, and is stated in `specs/Resyncs.antt`.
 ghost use Rattle.book_service.specs.Resyncs.{CardsStayLegal, NewStoresHaveLegalCards};
 ghost use Rattle.book_service.specs.Resyncs.{ResyncsAreRuns, ResyncsContinueLives};
 
