@@ -82,7 +82,7 @@ module _ (f : Book → Book) where
   abbrev written : Books → List Named → Books
   written books es = fold (λ (b : Books) (e : Named). finite.insert b e.0 (f e.1)) books es
 
-find-below : (q : List ℕ) (es : List Named) → T (below_all text_cmp q es)
+pub find-below : (q : List ℕ) (es : List Named) → T (below_all text_cmp q es)
     → find text_cmp q es ≡ None
 find-below q [] h = refl
 find-below q (e ∷ es) h = let parts = T_parts _ _ h in

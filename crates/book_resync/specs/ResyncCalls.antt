@@ -3,7 +3,7 @@ use Rattle.std.specs.Prelude.{ℕ, zero, suc, List, [], ◌∷◌, ◌++◌, fla
 use Rattle.std.specs.Prelude.{Result, Ok}
 use Rattle.std.specs.FinMap as finite
 use Rattle.vcard_lines.specs.declared.line.Line.{Line}
-use Rattle.vcard_text.specs.Cards.{uid_of}
+use Rattle.vcard_text.specs.Cards.{IsCard, uid_of}
 use Rattle.book_model.specs.declared.answers.Stored.{Stored}
 use Rattle.book_model.specs.declared.refusal.Refusal.{Refusal}
 use Rattle.book_model.specs.Bounds.{Bounds}
@@ -47,6 +47,13 @@ abbrev pub resync_calls_of_book : Bounds → List Line → ℕ → List ℕ × B
 resync_calls_of_book limits spare pairs named =
     pairs_of_calls named.0 spare (renewed_card limits named.1) pairs
     ++ ForgetCall named.0 (number_after_resync named.1 pairs) ∷ []
+
+-- a put of a card that a text can spell, a removal or a forget
+abbrev pub IsResyncCall : Call → Type 0
+IsResyncCall (PutCall name card expect) = IsCard card
+IsResyncCall (RemoveCall name uid expect) = Unit {0}
+IsResyncCall (ForgetCall name upto) = Unit {0}
+IsResyncCall call = ⊥
 
 -- the commands of all books, one book after the other
 abbrev pub resync_calls : Bounds → List Line → ℕ → Books → List Call

@@ -2,9 +2,10 @@
 use Rattle.std.specs.Prelude.{ℕ, ◌≡◌, ◌<◌, ◌≤◌, ◌⊎◌, false, true, List, Option, Some, None}
 use Rattle.std.specs.Prelude.{is_some, Ok, Err}
 use Rattle.std.specs.Option.{option_map}
+use Rattle.std.specs.List.{AllByRecursion}
 use Rattle.std.specs.FinMap as finite
 use Rattle.vcard_lines.specs.declared.line.Line.{Line}
-use Rattle.vcard_text.specs.Cards.{uid_of}
+use Rattle.vcard_text.specs.Cards.{IsCard, uid_of}
 use Rattle.book_model.specs.declared.answers.Stored.{Stored}
 use Rattle.book_model.specs.declared.page.Page.{Page}
 use Rattle.book_model.specs.declared.refusal.Refusal.TheVariants.{BadToken}
@@ -21,7 +22,7 @@ use Rattle.book_resync.specs.Resyncing.{number_after_resync, book_after_resync, 
 use Rattle.book_model.specs.WellFormed.{IsWellFormedBook, IsWellFormed}
 use Rattle.book_laws.specs.Calls.{Call, histories_after_calls}
 use Rattle.book_resync.specs.ResyncCalls.{rows_after_accepted_calls, resync_calls}
-use Rattle.book_resync.specs.ResyncCalls.{resync_calls_of_book}
+use Rattle.book_resync.specs.ResyncCalls.{IsResyncCall, resync_calls_of_book}
 use Rattle.book_laws.specs.RowsAfterCalls.{rows_after_calls}
 use Rattle.book_laws.specs.StoreHistories.{AreSoundHistories, StoreHistory, rows_of}
 use Rattle.book_laws.specs.WellFormedLaws.{AreWithin}
@@ -49,6 +50,24 @@ IsSpare books spare = (name : List ℕ) (book : Book) → finite.get books name 
 -- there is such a card
 abbrev pub SpareCardsExist : Type 0
 SpareCardsExist = (books : Books) → (spare : List Line) × IsSpare books spare
+
+-- and if the books are well formed, there is one that a text can spell
+abbrev pub LegalSpareCardsExist : Type 0
+LegalSpareCardsExist = (limits : Bounds) (books : Books) →
+    IsInRange limits → IsWellFormed limits books →
+    (spare : List Line) × IsSpare books spare × IsCard spare
+
+-- each live card of the books is one that a text can spell
+abbrev pub HasLegalCards : Books → Type 0
+HasLegalCards books = (name uid : List ℕ) (book : Book) (stored : Stored) →
+    finite.get books name ≡ Some book → live_at book uid ≡ Some stored → IsCard stored.card
+
+-- Then each command of a resync is a put of such a card, a removal or a forget.
+abbrev pub ResyncCallsAreLegal : Type 0
+ResyncCallsAreLegal =
+    (limits : Bounds) (books : Books) (spare : List Line) (pairs : ℕ) →
+    IsCard spare → HasLegalCards books →
+    AllByRecursion IsResyncCall (resync_calls limits spare pairs books)
 
 -- a resync that isn't refused, of at least one pair
 pub record IsResync (limits : Bounds) (books : Books) (pairs : ℕ) (after : Books) : Type 0 where

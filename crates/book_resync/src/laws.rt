@@ -1,6 +1,7 @@
 //! What a resync is, and what it leaves. Each law is stated in `specs/ResyncLaws.antt`.
 ghost use Rattle.book_resync.specs.ResyncLaws.{BookResyncsAreCommands, ResyncsAreCommands};
-ghost use Rattle.book_resync.specs.ResyncLaws.{SpareCardsExist, ResyncsMatchHistories};
+ghost use Rattle.book_resync.specs.ResyncLaws.{SpareCardsExist, LegalSpareCardsExist};
+ghost use Rattle.book_resync.specs.ResyncLaws.{ResyncCallsAreLegal, ResyncsMatchHistories};
 ghost use Rattle.book_resync.specs.ResyncLaws.{ResyncsKeepWellFormed, ResyncsChangeEachBook};
 ghost use Rattle.book_resync.specs.ResyncLaws.{ResyncedRowsAreLive, ResyncsKeepCards};
 ghost use Rattle.book_resync.specs.ResyncLaws.{ResyncsKeepVersions, ResyncsExpireTokens};
@@ -11,10 +12,15 @@ ghost use Rattle.book_resync.specs.ResyncLaws.{ExpiredTokensStayRefused};
 /// - `book`: the commands of a book are accepted, and leave it in closed form.
 /// - `books`: the commands of all books are accepted, and leave the books of the resync.
 /// - `spare`: there is a card whose UID isn't live in any book.
+/// - `legal_spare`: if the books are well formed, there is one that a text can spell.
+/// - `legal`: with such a card, and if a text can spell each live card, each of the commands is a
+///   put of a card that a text can spell, a removal or a forget.
 pub fn resync_is_commands()
     ensures book { BookResyncsAreCommands }
     ensures books { ResyncsAreCommands }
     ensures spare { SpareCardsExist }
+    ensures legal_spare { LegalSpareCardsExist }
+    ensures legal { ResyncCallsAreLegal }
 {}
 
 /// The books after a resync are as after any list of calls.

@@ -19,3 +19,7 @@ pub mod PageTokenLemmas
 pub mod LifeLemmas
 pub mod LivedLemmas
 pub mod RestoreLemmas
+pub mod ResyncRunLemmas
+pub mod LegalCardLemmas
+pub mod ResyncLifeLemmas
+pub mod StoreLifeLemmas

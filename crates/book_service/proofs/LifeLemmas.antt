@@ -1,15 +1,15 @@
 -- Runs of a server, one after another.
-use Rattle.std.proofs.Common.{inl, inr, List, [], ◌∷◌, ◌++◌, sym, subst, ◌∙◌}
+use Rattle.std.proofs.Common.{◌≡◌, inl, inr, List, [], ◌∷◌, ◌++◌, sym, ap, subst, ◌∙◌}
 use Rattle.std.proofs.lemmas.List.{append_assoc}
 use Rattle.book_laws.specs.StoreHistories.{IsSoundStoreHistory}
 use Rattle.book_commands.specs.declared.reply.Reply.{Reply}
 use Rattle.book_service.specs.declared.event.Event.{Event}
-use Rattle.book_service.specs.Lives.{AlwaysInLives, LivesAreRuns, LivesStayWellFormed}
-use Rattle.book_service.specs.Lives.{PartsOfLivesAreRuns}
+use Rattle.book_service.specs.Lives.{AlwaysInLives, IsLife, LivesAreRuns, LivesStayWellFormed}
+use Rattle.book_service.specs.Lives.{PartsOfLivesAreRuns, ServerRun}
 use Rattle.book_service.specs.Promise.{Always, HasWellFormedRows, NextStateIsSound}
 use Rattle.book_service.specs.Promise.{RowsStayWellFormed}
 use Rattle.book_service.specs.Runs.{SystemState, TraceStep, AtEachStep, Run, end_of}
-use Rattle.book_service.proofs.StepLemmas.{runs_join, runs_split}
+use Rattle.book_service.proofs.StepLemmas.{end-append, runs_join, runs_split}
 
 pub lives_are_runs : LivesAreRuns
 lives_are_runs now [] trace life = subst (Run now) (sym life) tt
@@ -49,3 +49,25 @@ pub lives_stay_well_formed : RowsStayWellFormed → LivesStayWellFormed
 lives_stay_well_formed stay now runs trace sound formed life =
     at_end HasWellFormedRows now trace formed (stay now trace sound formed
     (lives_are_runs now runs trace life))
+
+-- a life that goes on from where another one led
+pub life-append : (now : SystemState) (runs others : List ServerRun) (trace more : List TraceStep)
+    → IsLife now runs trace → IsLife (end_of now trace) others more
+    → IsLife now (runs ++ others) (trace ++ more)
+life-append now [] others trace more none then =
+    subst (λ (t : List TraceStep). IsLife (end_of now t) others more
+    → IsLife now others (t ++ more)) (sym none) (λ life. life) then
+life-append now (first ∷ runs) others trace more life then =
+    let before = first.answered ++ life.0 in
+    let there : end_of now trace ≡ end_of (end_of now before) life.1 = ap (end_of now)
+    (life.5 ∙ sym (append_assoc first.answered life.0 life.1)) ∙ end-append now before life.1 in
+    let rest = life-append (end_of now before) runs others life.1 more life.4
+    (subst (λ (s : SystemState). IsLife s others more) there then) in (
+      life.0,
+      life.1 ++ more,
+      life.2,
+      life.3,
+      rest,
+      ap (λ (t : List TraceStep). t ++ more) life.5 ∙ append_assoc first.answered (life.0 ++ life.1)
+          more ∙ ap (λ (t : List TraceStep). first.answered ++ t) (append_assoc life.0 life.1 more),
+    )

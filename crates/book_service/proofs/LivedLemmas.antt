@@ -2,7 +2,7 @@
 use Rattle.std.proofs.Common.{◌≡◌, ◌<◌, ◌+◌, ℕ, inl, inr, List, [], ◌∷◌, ◌++◌, get_or, length, map}
 use Rattle.std.proofs.Common.{take, refl, sym, ap, subst, ◌∙◌, arith}
 use Rattle.std.proofs.Math.Logic.{∥∥₁_elim, ∥∥₁_map}
-use Rattle.std.proofs.lemmas.List.{append-nil, append_assoc, length-append, map-append, take_more}
+use Rattle.std.proofs.lemmas.List.{append-nil, length-append, map-append, take_more}
 use Rattle.book_commands.specs.declared.reply.Reply.{Reply}
 use Rattle.book_model.specs.Books.{Books}
 use Rattle.book_model.specs.Devices.{DeviceState}
@@ -14,45 +14,24 @@ use Rattle.book_service.specs.Crashes.{LivedTo, RanUntilStopped}
 use Rattle.book_service.specs.Lives.{IsLife, MadeOf, ServerRun}
 use Rattle.book_service.specs.Runs.{MatchesRows, Run, SystemState, TraceStep, end_of}
 use Rattle.book_service.proofs.StepLemmas.{end-append, run_limits}
-use Rattle.book_service.proofs.LifeLemmas.{lives_are_runs}
+use Rattle.book_service.proofs.LifeLemmas.{life-append, lives_are_runs}
 
 -- ---- one more run
 
-life_more : (now : SystemState) (runs : List ServerRun) (trace : List TraceStep) (run : ServerRun)
-    (made : List TraceStep) → IsLife now runs trace → Run (end_of now trace) run.answered
+pub life_more : (now : SystemState) (runs : List ServerRun) (trace : List TraceStep)
+    (run : ServerRun) (made : List TraceStep) → IsLife now runs trace
+    → Run (end_of now trace) run.answered
     → MadeOf run.interrupted (end_of (end_of now trace) run.answered) made
     → IsLife now (runs ++ run ∷ []) (trace ++ (run.answered ++ made))
-life_more now [] trace run made none answered makes =
-    subst (λ (t : List TraceStep). Run (end_of now t) run.answered
-    → MadeOf run.interrupted (end_of (end_of now t) run.answered) made
-    → IsLife now (run ∷ []) (t ++ (run.answered ++ made))) (sym none)
-    (λ here then. (
+life_more now runs trace run made life answered makes =
+    life-append now runs (run ∷ []) trace (run.answered ++ made) life (
       made,
       [],
-      here,
-      then,
+      answered,
+      makes,
       refl,
       ap (λ (t : List TraceStep). run.answered ++ t)
           (sym (append-nil made)),
-    )) answered makes
-life_more now (first ∷ runs) trace run made life answered makes =
-    let before = first.answered ++ life.0 in
-    let whole : trace ≡ before ++ life.1 =
-    life.5 ∙ sym (append_assoc first.answered life.0 life.1) in
-    let there : end_of now trace ≡ end_of (end_of now before) life.1 = ap (end_of now) whole
-    ∙ end-append now before life.1 in
-    let more = run.answered ++ made in
-    let rest = life_more (end_of now before) runs life.1 run made life.4
-    (subst (λ (s : SystemState). Run s run.answered) there answered)
-    (subst (λ (s : SystemState). MadeOf run.interrupted (end_of s run.answered) made) there
-    makes) in (
-      life.0,
-      life.1 ++ more,
-      life.2,
-      life.3,
-      rest,
-      ap (λ (t : List TraceStep). t ++ more) life.5 ∙ append_assoc first.answered (life.0 ++ life.1)
-          more ∙ ap (λ (t : List TraceStep). first.answered ++ t) (append_assoc life.0 life.1 more),
     )
 
 answers_more : (asked : List (List Event)) (replied : List (List Reply)) (runs : List ServerRun)

@@ -10,6 +10,8 @@ pub mod Promise
 pub mod Lives
 pub mod Crashes
 pub mod Restores
+pub mod Resyncs
+pub mod StoreLives
 pub mod Mirrors
 pub mod PageTokenLaws
 pub mod internal

@@ -14,6 +14,8 @@ mod page_tokens;
 mod reply;
 mod restarts;
 pub mod restores;
+pub mod resyncs;
+pub mod store_lives;
 mod texts;
 mod whole_books;
 
