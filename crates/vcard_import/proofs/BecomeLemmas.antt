@@ -5,7 +5,7 @@ use Rattle.import_text.specs.declared.raw_line.RawLine.{RawLine}
 use Rattle.vcard_lines.specs.declared.line.Line.{Line}
 use Rattle.vcard_import.specs.declared.change.Change.{Change}
 use Rattle.vcard_property.specs.SameLines.{AreLine}
-use Rattle.vcard_import.specs.Conversions.{BecomeCard}
+use Rattle.vcard_import.specs.Conversions.{BecomeCard, KeepsSameValue}
 use Rattle.vcard_import.specs.Delimiters.{is_delimiter}
 use Rattle.vcard_import.specs.Labels.{fits}
 use Rattle.vcard_import.specs.LeftOut.{may_go}
@@ -42,6 +42,7 @@ more (first ∷ raws) raw line change last card changes (inr (inr (inl k))) = in
   changes_are = ap (λ c. c ++ change) k.changes_are;
   place = k.place;
   kind = k.kind;
+  keeps = k.keeps;
   rest = more raws raw line change last k.others k.more k.rest;
 })))
 
@@ -68,9 +69,9 @@ kept raws raw card changes line same b =
 
 pub changed : (raws : List RawLine) (raw : RawLine) (card : List Line) (changes : List Change)
     (line : Line) (change : Change) → (AreLine raw.octets line → ⊥) → change.place ≡ raw.place
-    → fits change.kind line ≡ true → BecomeCard raws card changes
+    → fits change.kind line ≡ true → KeepsSameValue raw.octets line → BecomeCard raws card changes
     → BecomeCard (raws ++ raw ∷ []) (card ++ line ∷ []) (changes ++ change ∷ [])
-changed raws raw card changes line change differs place kind b =
+changed raws raw card changes line change differs place kind keeps b =
     more raws raw (line ∷ []) (change ∷ [])
     (inr (inr (inl (record {
       line = line;
@@ -82,6 +83,7 @@ changed raws raw card changes line change differs place kind b =
       changes_are = refl;
       place = place;
       kind = kind;
+      keeps = keeps;
       rest = (refl, refl);
     })))) card changes b
 

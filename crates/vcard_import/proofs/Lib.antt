@@ -9,3 +9,4 @@ pub mod RuleLemmas
 pub mod StepLemmas
 pub mod UidLemmas
 pub mod WholeCardLemmas
+mod ValueLemmas

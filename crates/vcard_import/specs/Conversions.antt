@@ -1,8 +1,9 @@
 -- Which card the logical lines of another program's card become, and which changes are reported.
--- What a changed line becomes is not defined.
+-- What a changed line becomes is defined only as far as its value goes.
 use Rattle.std.specs.Prelude.{ℕ, ◌≡◌, Bool, true, false, List, [], ◌∷◌, ◌++◌, map, codes, Some, ◌⊎◌}
 use Rattle.std.specs.Prelude.{filter, if◌then◌else◌}
 use Rattle.std.specs.List.{list_any}
+use Rattle.std.specs.Str.{trim}
 use Rattle.import_text.specs.RawLines.{raw_lines, is_encoded_as}
 use Rattle.import_text.specs.declared.raw_line.RawLine.{RawLine}
 use Rattle.vcard_lines.specs.declared.line.Line.{Line}
@@ -11,6 +12,7 @@ use Rattle.vcard_text.specs.Making.{upper_lines, AreTooLongCardLines}
 use Rattle.vcard_text.specs.Spelling.{without_bom}
 use Rattle.vcard_property.specs.Lines.{plain_line}
 use Rattle.vcard_property.specs.SameLines.{AreLine, has_encoding}
+use Rattle.vcard_property.specs.Values.{HasSameValue, KeepsValue}
 use Rattle.vcard_property.specs.declared.change_kind.ChangeKind.TheVariants.{Added}
 use Rattle.vcard_import.specs.Delimiters.{is_delimiter}
 use Rattle.vcard_import.specs.DerivedUid.{derived_uid}
@@ -38,9 +40,21 @@ pub record IsKept (octets : List ℕ) (Rest : List Line → Type 0) (card : List
   pub same : AreLine octets line
   pub rest : Rest others
 
+-- what the octets hold is a value of nothing but white space
+pub record IsBlank (octets : List ℕ) : Type 0 where
+  pub value : List ℕ
+  pub kept : KeepsValue octets value
+  pub blank : trim value ≡ []
+
+-- If each version writes the value of the logical line alike, the line of the card has it, as it is
+-- or in its text. Only a blank one, as that of an FN without a name, may be replaced.
+abbrev pub KeepsSameValue : List ℕ → Line → Type 0
+KeepsSameValue octets line =
+    HasSameValue octets → KeepsValue octets line.value ⊎ IsBlank octets
+
 -- The first line of the card isn't what the octets of the logical line spell, and the first change
--- is at the place of that logical line, of a kind that fits the line. The rest holds for the other
--- lines and changes.
+-- is at the place of that logical line, of a kind that fits the line. A value that each version
+-- writes alike is kept. The rest holds for the other lines and changes.
 pub record IsChanged (raw : RawLine) (Rest : List Line → List Change → Type 0)
     (card : List Line) (changes : List Change) : Type 0 where
   pub line : Line
@@ -52,6 +66,7 @@ pub record IsChanged (raw : RawLine) (Rest : List Line → List Change → Type 
   pub changes_are : changes ≡ change ∷ more
   pub place : change.place ≡ raw.place
   pub kind : fits change.kind line ≡ true
+  pub keeps : KeepsSameValue raw.octets line
   pub rest : Rest others more
 
 -- The logical line is a label, a picture or a sound without a line of its own. The first change is

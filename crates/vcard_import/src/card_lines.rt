@@ -4,11 +4,13 @@ ghost use Rattle.std.specs.Prelude.{◌<◌, codes, length, None};
 ghost use Rattle.vcard_lines.specs.declared.line.Line.{Line};
 ghost use Rattle.vcard_text.specs.Cards.{IsProperLine, has_line_named};
 ghost use Rattle.vcard_property.specs.Lines.{IsUidLine};
+ghost use Rattle.vcard_property.specs.Values.{HasSameValue, KeepsValue};
+ghost use Rattle.vcard_import.specs.Conversions.{KeepsSameValue};
 ghost use Rattle.vcard_import.specs.FirstUid.{first_uid};
 ghost use Rattle.vcard_import.specs.Labels.{HaveAddresses, fits, says_joined};
 ghost use Rattle.vcard_import.specs.LeftOut.{has_left_out, may_go, says_left_out};
 ghost use Rattle.vcard_import.specs.internal.Steps.{Makes, Extends, breaks_rule, found_uid};
-ghost use Rattle.vcard_import.specs.internal.Steps.{has_joined, has_stray_members};
+ghost use Rattle.vcard_import.specs.internal.Steps.{IsSpelledAt, has_joined, has_stray_members};
 
 use crate::change::Change;
 use crate::delimiters::{begins_card, is_delimiter};
@@ -43,6 +45,8 @@ fn labelled_line(
 ) -> Result<(Line, ChangeKind), NoMemory>
     ensures proper { IfOk result (λ made. IsProperLine made.0) }
     ensures kind { IfOk result (λ made. fits made.1 made.0 ≡ true) }
+    ensures keeps { HasSameValue octets.now
+        → IfOk result (λ made. KeepsValue octets.now made.0.value) }
 {
     let (line, kind) = convert_line(alloc, octets, version)?;
     if let Some(Labelling::Gets(text)) = label {
@@ -66,6 +70,7 @@ fn line_after(
     ensures proper { IfOk result (λ made. IsProperLine made.0) }
     ensures kind { IfOk result (λ made. fits made.1 made.0 ≡ true) }
     ensures allowed { IfOk result (λ made. breaks_rule seen reading made.0 ≡ false) }
+    ensures keeps { IfOk result (λ made. KeepsSameValue octets.now made.0) }
 {
     let (line, kind) = labelled_line(alloc, octets, reading.version, label)?;
     if !name.is_empty() && is_empty_name(&line) {
@@ -81,6 +86,7 @@ fn line_after(
 fn nested_line(alloc: Global, octets: &[u8]) -> Result<Line, NoMemory>
     ensures proper { IfOk result IsProperLine }
     ensures name { IfOk result (λ line. line.name ≡ codes "X-AGENT") }
+    ensures keeps { IfOk result (KeepsSameValue octets.now) }
 {
     let text = read_text(alloc, octets)?;
     text_line(alloc, "X-AGENT", text.as_str())
@@ -134,7 +140,7 @@ impl CardLines {
     ) -> Result<(), NoMemory>
         ensures extends { OnOk result ((reading : Reading) → IsProperLine line
             → fits kind line ≡ true → breaks_rule self.old.seen reading line ≡ false
-            → Extends reading (raw.now ∷ []) self.old self.new) }
+            → KeepsSameValue raw.now.octets line → Extends reading (raw.now ∷ []) self.old self.new) }
         ensures lines { OnOk result (self.new.lines ≡ self.old.lines ++ line ∷ []) }
     {
         if !are_line(alloc, raw.octets.as_slice(), &line)? {
@@ -225,6 +231,7 @@ fn lines_with_uid(
 ) -> Result<CardLines, NoMemory>
     requires within { uid.index < length raws.now }
     requires legal { IsUidLine uid.line }
+    requires spelled { IsSpelledAt raws.now uid.index uid.line }
     ensures makes { IfOk result (λ made. Makes raws.now made) }
     ensures uid { IfOk result (λ made. found_uid made.lines ≡ Some uid.line) }
     ensures members { reading.keeps_members ≡ false → IfOk result (λ made.

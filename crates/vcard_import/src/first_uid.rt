@@ -3,6 +3,7 @@ ghost use Rattle.std.specs.Prelude.{◌≡◌, ◌<◌, ◌&&◌, ◌||◌, IfOk
 ghost use Rattle.vcard_property.specs.Lines.{IsUidLine};
 ghost use Rattle.vcard_import.specs.Delimiters.{begins_card};
 ghost use Rattle.vcard_import.specs.FirstUid.{first_uid};
+ghost use Rattle.vcard_import.specs.internal.Steps.{IsSpelledAt};
 
 use crate::delimiters::begins_card;
 use import_text::RawLine;
@@ -42,6 +43,8 @@ pub(crate) fn first_uid(
         ≡ first_uid version raws.now) }
     ensures legal { IfOk result (λ found. IfSome found (λ uid. IsUidLine uid.line)) }
     ensures within { IfOk result (λ found. IfSome found (λ uid. uid.index < length raws.now)) }
+    ensures spelled { IfOk result (λ found. IfSome found (λ uid.
+        IsSpelledAt raws.now uid.index uid.line)) }
 {
     let mut begun = false;
     for (index, raw) in raws.iter().enumerate() {

@@ -1,5 +1,6 @@
 //! The formatted name of a card that has none, from its other properties.
-ghost use Rattle.std.specs.Prelude.{IfOk, string_bytes};
+ghost use Rattle.std.specs.Prelude.{◌≡◌, [], true, IfOk, string_bytes};
+ghost use Rattle.std.specs.Str.{trim};
 ghost use Rattle.vcard_lines.specs.Grammar.{AllInClass, is_permitted};
 
 use std::alloc::Global;
@@ -105,7 +106,9 @@ pub(crate) fn name_value(alloc: Global, lines: &[Line]) -> Result<String, NoMemo
 }
 
 /// Whether the line is an FN that has no name.
-pub(crate) fn is_empty_name(line: &Line) -> bool {
+pub(crate) fn is_empty_name(line: &Line) -> bool
+    ensures { result ≡ true → trim line.now.value ≡ [] }
+{
     line.name.as_str() == "FN" && line.value.as_str().trim().is_empty()
 }
 

@@ -12,7 +12,7 @@ use Rattle.vcard_property.proofs.ProperLemmas.{of-append}
 is_low : (octet : ℕ) → is_permitted octet ≡ false → octet < 128
 is_low octet e = grind (arith, nat_tests, e)
 
-permitted_char : (c : ℕ) → is_permitted c ≡ true → AllInClass is_permitted (encode_utf8 c)
+pub permitted_char : (c : ℕ) → is_permitted c ≡ true → AllInClass is_permitted (encode_utf8 c)
 permitted_char c p = recursion_from_All (λ b. is_permitted b ≡ true) (encode_utf8 c)
     (λ k d l. true_from_ne_false (is_permitted (get_or (encode_utf8 c) k d)) (λ e.
     let at : get_or (encode_utf8 c) k d ≡ get_or (encode_utf8 c) k 0 =

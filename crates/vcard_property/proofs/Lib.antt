@@ -2,3 +2,4 @@ pub mod ProperLemmas
 pub mod SameLemmas
 pub mod ControlLemmas
 pub mod MediaLemmas
+pub mod TextLemmas

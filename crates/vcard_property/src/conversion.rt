@@ -4,6 +4,7 @@ ghost use Rattle.vcard_lines.specs.declared.line.Line.{Line};
 ghost use Rattle.vcard_text.specs.Cards.{IsProperLine};
 ghost use Rattle.vcard_property.specs.Kinds.{fits_kind};
 ghost use Rattle.vcard_property.specs.SameLines.{AreLine, is_same_in};
+ghost use Rattle.vcard_property.specs.Values.{HasSameValue, KeepsValue, has_same_value, value_of};
 
 use crate::change_kind::ChangeKind;
 use crate::dates::has_fraction;
@@ -11,8 +12,9 @@ use crate::decoding::decode;
 use crate::kept_texts::text_line;
 use crate::proper_line::proper_line;
 use crate::property::{Encoding, Property, read_property};
-use crate::property_line::{is_date_name, line_of};
+use crate::property_line::{is_date_name, line_of, named_line};
 use crate::same_line::read_same_line;
+use crate::values::has_same_value;
 use crate::version::Version;
 use import_text::read_text;
 use std::alloc::Global;
@@ -62,20 +64,39 @@ fn kind_of(old: &str, new: &str, loss: Loss) -> ChangeKind
     }
 }
 
-/// The proper line that the text of these octets becomes as a property, and what became of it.
-/// `None` if the text is no property, or its line isn't proper.
-fn property_line(
+/// The proper line that a property becomes, with this value, and what became of it. `None` if its
+/// line isn't proper.
+fn line_with_value(
     alloc: Global,
-    text: &str,
+    property: Property,
+    value: &str,
+) -> Result<Option<(Line, ChangeKind)>, NoMemory>
+    ensures proper { IfOk result (λ made. IfSome made (λ line.
+        IsProperLine line.0 × (fits_kind line.1 line.0.name ≡ true))) }
+    ensures value { IfOk result (λ made. IfSome made (λ line. line.0.value ≡ value.now)) }
+{
+    let name = property.name.try_copy()?;
+    let value = String::from_str(alloc, value)?;
+    let line = named_line(alloc, property, value)?;
+    let Some(line) = proper_line(alloc, line)? else {
+        return Ok(None);
+    };
+    let kind = kind_of(name.as_str(), line.name.as_str(), Loss::Nothing);
+    Ok(Some((line, kind)))
+}
+
+/// The proper line that a property becomes, with its value in the form of vCard 4.0, and what became
+/// of it. `None` if its line isn't proper.
+fn rewritten_line(
+    alloc: Global,
+    property: Property,
     octets: &[u8],
     version: Version,
 ) -> Result<Option<(Line, ChangeKind)>, NoMemory>
     ensures { IfOk result (λ made. IfSome made (λ line.
         IsProperLine line.0 × (fits_kind line.1 line.0.name ≡ true))) }
 {
-    let Some(mut property) = read_property(alloc, text, version)? else {
-        return Ok(None);
-    };
+    let mut property = property;
     decode(alloc, &mut property, octets)?;
     let name = property.name.try_copy()?;
     let had_fraction = is_date_name(name.as_str()) && has_fraction(property.value.as_str());
@@ -93,6 +114,39 @@ fn property_line(
     };
     let kind = kind_of(name.as_str(), line.name.as_str(), loss);
     Ok(Some((line, kind)))
+}
+
+/// What is after the first colon of a text.
+fn value_of(text: &str) -> &str
+    ensures { result.now ≡ value_of text.now }
+{
+    match text.split_once(':') {
+        Some((_, value)) => value,
+        None => "",
+    }
+}
+
+/// The proper line that the text of these octets becomes as a property, and what became of it. A
+/// value that each version writes alike stays as it is. `None` if the text is no property, or its
+/// line isn't proper.
+fn property_line(
+    alloc: Global,
+    text: &str,
+    octets: &[u8],
+    version: Version,
+) -> Result<Option<(Line, ChangeKind)>, NoMemory>
+    ensures proper { IfOk result (λ made. IfSome made (λ line.
+        IsProperLine line.0 × (fits_kind line.1 line.0.name ≡ true))) }
+    ensures value { has_same_value text.now ≡ true → IfOk result (λ made. IfSome made (λ line.
+        line.0.value ≡ value_of text.now)) }
+{
+    let Some(property) = read_property(alloc, text, version)? else {
+        return Ok(None);
+    };
+    if has_same_value(text) {
+        return line_with_value(alloc, property, value_of(text));
+    }
+    rewritten_line(alloc, property, octets, version)
 }
 
 /// Converts a logical line of a card of that version to a line of vCard 4.0, and tells what became
@@ -113,6 +167,10 @@ pub fn convert_line(
     // A line that the version writes as vCard 4.0 does stays as it is.
     ensures stays { (line : Line) → AreLine octets.now line → is_same_in version line ≡ true
         → IfOk result (λ made. made.0 ≡ line) }
+
+    // A value that each version writes alike is in the line, or the line keeps the whole text.
+    ensures keeps { HasSameValue octets.now
+        → IfOk result (λ made. KeepsValue octets.now made.0.value) }
 {
     if let Some(line) = read_same_line(alloc, octets, version)? {
         return Ok((line, ChangeKind::Rewritten));

@@ -141,6 +141,8 @@ fn is_labelled(line: &Line) -> bool
 pub fn with_label(alloc: Global, line: &Line, label: &str) -> Result<Option<Line>, NoMemory>
     ensures proper { IfOk result (λ made. IfSome made IsProperLine) }
     ensures labelled { IfOk result (λ made. IfSome made (λ line. is_labelled line ≡ true)) }
+    ensures value { IfOk result (λ made. IfSome made (λ labelled.
+        labelled.value ≡ line.now.value)) }
 {
     let mut labelled = line.try_copy()?;
     labelled.params.push(label_param(alloc, label)?)?;

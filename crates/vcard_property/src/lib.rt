@@ -21,6 +21,7 @@ mod proper_line;
 mod property;
 mod property_line;
 mod same_line;
+mod values;
 mod version;
 
 pub use change_kind::ChangeKind;

@@ -18,7 +18,7 @@ fn len_before(octets: &[u8], mark: u8) -> usize
 
 /// The octets before the first one that is the mark.
 #[tactic(auto, using(crate::proofs::MediaLemmas::take_before))]
-fn before(octets: &[u8], mark: u8) -> &[u8]
+pub(crate) fn before(octets: &[u8], mark: u8) -> &[u8]
     ensures { result.now ≡ before mark octets.now }
 {
     let (front, _) = octets.split_at(len_before(octets, mark));
@@ -26,7 +26,7 @@ fn before(octets: &[u8], mark: u8) -> &[u8]
 }
 
 /// The octets after the first one that is the mark; none if there is no such one.
-fn after(octets: &[u8], mark: u8) -> &[u8]
+pub(crate) fn after(octets: &[u8], mark: u8) -> &[u8]
     ensures { result.now ≡ after mark octets.now }
 {
     let (_, rest) = octets.split_at(len_before(octets, mark));

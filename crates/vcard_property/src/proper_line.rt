@@ -67,7 +67,8 @@ pub fn is_proper_line(alloc: Global, line: &Line) -> Result<bool, NoMemory>
 /// The line with its name in upper case, if it is then a proper one. The only `Err` is out of
 /// memory.
 pub(crate) fn proper_line(alloc: Global, line: Line) -> Result<Option<Line>, NoMemory>
-    ensures { IfOk result (λ proper. IfSome proper IsProperLine) }
+    ensures proper { IfOk result (λ proper. IfSome proper IsProperLine) }
+    ensures line { IfOk result (λ proper. IfSome proper (λ proper. proper ≡ upper_line line)) }
 {
     let line = with_upper_name(line);
     if is_proper_line(alloc, &line)? {

@@ -1,4 +1,5 @@
 //! The line of vCard 4.0 for a property of any version (RFC 6350, section 6 and appendix A).
+ghost use Rattle.std.specs.Prelude.{◌≡◌, IfOk, string_bytes};
 
 use crate::binary::{data_uri, decoded_base64, is_format};
 use crate::dates::{basic_date, is_date};
@@ -134,12 +135,9 @@ fn without_formats(
 }
 
 /// The line of a property under a name, with a value.
-fn line_with(
-    alloc: Global,
-    property: Property,
-    name: Text,
-    value: String,
-) -> Result<Line, NoMemory> {
+fn line_with(alloc: Global, property: Property, name: Text, value: String) -> Result<Line, NoMemory>
+    ensures { IfOk result (λ line. line.value ≡ string_bytes value) }
+{
     let Property {
         group,
         name: _,
@@ -211,13 +209,12 @@ fn mark_text(alloc: Global, property: &mut Property) -> Result<(), NoMemory> {
     Ok(())
 }
 
-/// The line of a text or a URI.
-fn text_or_uri_line(alloc: Global, property: Property, version: Version) -> Result<Line, NoMemory> {
+/// The line of a property with a value, under the name that vCard 4.0 has for it.
+pub(crate) fn named_line(alloc: Global, property: Property, value: String) -> Result<Line, NoMemory>
+    ensures { IfOk result (λ line. line.value ≡ string_bytes value) }
+{
     let mut property = property;
-    omit_year_of_date(alloc, &mut property)?;
-    mark_text(alloc, &mut property)?;
     add_agent(alloc, &mut property)?;
-    let value = text_value(alloc, &property, version)?;
     let name = name_of(
         alloc,
         property.name.as_str(),
@@ -225,6 +222,15 @@ fn text_or_uri_line(alloc: Global, property: Property, version: Version) -> Resu
         property.is_uri,
     )?;
     line_with(alloc, property, name, value)
+}
+
+/// The line of a text or a URI.
+fn text_or_uri_line(alloc: Global, property: Property, version: Version) -> Result<Line, NoMemory> {
+    let mut property = property;
+    omit_year_of_date(alloc, &mut property)?;
+    mark_text(alloc, &mut property)?;
+    let value = text_value(alloc, &property, version)?;
+    named_line(alloc, property, value)
 }
 
 /// Leaves out of the types those that name the format of the value.

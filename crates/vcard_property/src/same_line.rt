@@ -12,10 +12,10 @@ use std::alloc::Global;
 use vcard_lines::read_line;
 use vcard_text::{CardFault, Line, NoMemory, Param, Part, UID_OCTETS_MAX};
 
-fn has_octet(value: &str, octet: u8) -> bool
+pub(crate) fn has_octet(value: &[u8], octet: u8) -> bool
     ensures { result ≡ has_octet octet value.now }
 {
-    value.as_bytes().iter().any(|other| *other == octet)
+    value.iter().any(|other| *other == octet)
 }
 
 /// Whether the line has the name.
@@ -29,14 +29,14 @@ pub(crate) fn is_named(line: &Line, name: &str) -> bool
 fn is_uid(value: &str) -> bool
     ensures { result ≡ is_uid value.now }
 {
-    1 <= value.len() && value.len() <= UID_OCTETS_MAX && !has_octet(value, b'\t')
+    1 <= value.len() && value.len() <= UID_OCTETS_MAX && !has_octet(value.as_bytes(), b'\t')
 }
 
 fn is_plain_text(line: &Line) -> bool
     ensures { result ≡ is_plain_text line.now }
 {
     is_named(line, "UID")
-        || (!has_octet(line.value.as_str(), b',')
+        || (!has_octet(line.value.as_str().as_bytes(), b',')
             && (is_named(line, "FN")
                 || is_named(line, "NOTE")
                 || is_named(line, "TITLE")
@@ -52,7 +52,7 @@ fn has_no_params(line: &Line) -> bool
 fn is_same_in_all(line: &Line) -> bool
     ensures { result ≡ is_same_in_all line.now }
 {
-    has_no_params(line) && !has_octet(line.value.as_str(), b'\\') && is_plain_text(line)
+    has_no_params(line) && !has_octet(line.value.as_str().as_bytes(), b'\\') && is_plain_text(line)
 }
 
 /// Whether the parameter is ENCODING.
@@ -87,6 +87,7 @@ pub(crate) fn read_same_line(
     version: Version,
 ) -> Result<Option<Line>, NoMemory>
     ensures line { IfOk result (λ line. line ≡ same_line version octets.now) }
+    ensures spelled { IfOk result (λ line. IfSome line (AreLine octets.now)) }
     ensures proper { IfOk result (λ line. IfSome line IsProperLine) }
 {
     let Ok(text) = str::from_utf8(octets) else {
@@ -107,6 +108,7 @@ pub fn read_uid_line(
     version: Version,
 ) -> Result<Option<Line>, NoMemory>
     ensures line { IfOk result (λ line. line ≡ uid_line version octets.now) }
+    ensures spelled { IfOk result (λ line. IfSome line (AreLine octets.now)) }
     ensures legal { IfOk result (λ line. IfSome line IsUidLine) }
 {
     match read_same_line(alloc, octets, version)? {

@@ -1,6 +1,6 @@
 -- What the loop over the logical lines keeps. Public contracts don't cite it.
 use Rattle.std.specs.Prelude.{◌≡◌, Bool, false, ◌||◌, ◌&&◌, not, List, [], ◌++◌, codes}
-use Rattle.std.specs.Prelude.{find, Ok, Option}
+use Rattle.std.specs.Prelude.{find, get_or, ℕ, Ok, Option}
 use Rattle.std.specs.List.{AllByRecursion, list_any}
 use Rattle.import_text.specs.declared.raw_line.RawLine.{RawLine}
 use Rattle.vcard_lines.specs.declared.line.Line.{Line}
@@ -8,6 +8,7 @@ use Rattle.vcard_text.specs.Cards.{IsProperLine, has_line_named, line_is_named, 
 use Rattle.vcard_text.specs.FirstFaults.{is_group}
 use Rattle.vcard_text.specs.Making.{upper_lines}
 use Rattle.vcard_text.specs.MakingSteps.{check_lines_after}
+use Rattle.vcard_property.specs.SameLines.{AreLine}
 use Rattle.vcard_import.specs.Conversions.{BecomeCard}
 use Rattle.vcard_import.specs.Labels.{is_joined}
 use Rattle.vcard_import.specs.LeftOut.{has_left_out}
@@ -40,6 +41,11 @@ ArePassed lines = (others : List Line)
 -- the first UID line
 abbrev pub found_uid : List Line → Option Line
 found_uid lines = find (line_is_named (codes "UID")) lines
+
+-- the logical line at the index spells the line
+abbrev pub IsSpelledAt : List RawLine → ℕ → Line → Type 0
+IsSpelledAt raws index line =
+    (raw : RawLine) → raw ≡ get_or raws index raw → AreLine raw.octets line
 
 -- `seen` is what the lines have
 pub record IsSeen (seen : Seen) (lines : List Line) : Type 0 where

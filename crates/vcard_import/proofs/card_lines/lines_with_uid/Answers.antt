@@ -1,4 +1,4 @@
-use Rattle.std.proofs.Common.{◌+◌, rules, refl, subst, false, true}
+use Rattle.std.proofs.Common.{◌+◌, rules, refl, subst, false, true, inl}
 use Rattle.std.proofs.lemmas.List.{take_rest}
 use Rattle.vcard_import.specs.declared.rules.Reading.{Reading}
 use Rattle.vcard_import.specs.internal.Steps.{Extends}
@@ -32,7 +32,11 @@ made c = with_uid (others c.args.reading) (takes c.args.reading) c.args.raws.now
     refl refl refl refl refl c.requires.within c.index-raws-index.is c.requires.legal
     c.new-made.ensures.makes c.new-made.ensures.uid c.new-made.ensures.members
     c.new-made.ensures.whole c.new-made.ensures.unjoined
-    (search rules) (λ p b. c.in_ok-push.ensures.extends (takes c.args.reading) p refl b)
+    (search rules) (λ p b. c.in_ok-push.ensures.extends (takes c.args.reading) p refl b (λ _. inl (inl (record {
+      line = c.args.uid.line;
+      spelled = c.requires.spelled c.index-raws-index.result c.index-raws-index.is;
+      value_is = refl;
+    }))))
     c.in_ok-push.ensures.lines
     (subst (λ raws. Extends (others c.args.reading) raws c.push.new.self c.push_raws-2.new.self)
     (take_rest c.args.raws.now (c.args.uid.index + 1)) c.in_ok-push_raws.ensures)

@@ -1,6 +1,7 @@
 use Rattle.std.proofs.Common.{◌≡◌, ◌∙◌, ◌&&◌, ◌||◌, ◌+◌, drop, rules, true, false, None, Some, sym}
-use Rattle.std.proofs.Common.{ap, arith}
-use Rattle.vcard_property.specs.SameLines.{uid_line}
+use Rattle.std.proofs.Common.{ap, arith, subst}
+use Rattle.std.proofs.lemmas.List.{get_or_default}
+use Rattle.vcard_property.specs.SameLines.{AreLine, uid_line}
 use Rattle.vcard_import.specs.Delimiters.{begins_card}
 use Rattle.vcard_import.specs.FirstUid.{first_uid_after}
 use Rattle.vcard_import.proofs.UidLemmas.{at_end, no_uid_there, second_card, uid_there}
@@ -39,3 +40,10 @@ loop-index-preserved c =
 pub returns-clause-line : goal.returns-clause-line
 returns-clause-line c = sym (at_end c.args.version c.loop-index.begun c.args.raws.now
     c.loop-index.index (omega arith)) ∙ c.loop-index.invariant
+
+pub returns-in-Some-clause-spelled : goal.returns-in-Some-clause-spelled
+returns-in-Some-clause-spelled c = λ raw is.
+    let spelled : AreLine c.index-raws-index.result.octets c.in-Some.line = search rules in
+    subst (λ r. AreLine r.octets c.in-Some.line)
+    (c.index-raws-index.is ∙ (get_or_default c.args.raws.now c.loop-index.index
+    c.index-raws-index.result raw c.loop-index-test.true ∙ sym is)) spelled

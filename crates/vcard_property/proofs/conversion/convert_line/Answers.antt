@@ -1,4 +1,6 @@
-use Rattle.std.proofs.Common.{◌≡◌, ◌∙◌, rules, None, sym}
+use Rattle.std.proofs.Common.{◌≡◌, ◌∙◌, rules, true, None, sym, ap, inl, inr, refl}
+use Rattle.vcard_property.specs.Values.{has_control, has_same_value, value_of}
+use Rattle.vcard_property.proofs.TextLemmas.{no_control, text_stays}
 use Rattle.vcard_property.proofs.SameLemmas.{line_is_found}
 use Rattle.vcard_property.proofs.conversion.convert_line.Goals as goal
 
@@ -13,3 +15,25 @@ returns-clause-stays c = λ line are same.
     let none : c.in_ok-line.field-0 ≡ None = search rules in
     absurd (line_is_found c.args.version c.args.octets.now line are same (sym none
     ∙ c.in_ok-line.ensures.line))
+
+pub returns-in-Some-clause-keeps : goal.returns-in-Some-clause-keeps
+returns-in-Some-clause-keeps c = λ _. inl (record {
+  line = c.in-Some.line;
+  spelled = search rules;
+  value_is = refl;
+})
+
+pub returns-in-Some-2-clause-keeps : goal.returns-in-Some-2-clause-keeps
+returns-in-Some-2-clause-keeps c = λ octets.
+    let text : c.as_str.result.now ≡ c.args.octets.now =
+    c.as_str.ensures.value ∙ c.in_ok-text.ensures ∙ text_stays c.args.octets.now octets.utf8 in
+    let same : has_same_value c.as_str.result.now ≡ true = ap has_same_value text ∙ octets.same in
+    let value : c.in-Some-2.made.0.value ≡ value_of c.as_str.result.now = search (rules, same) in
+    inr (inl (value ∙ ap value_of text))
+
+pub returns-clause-keeps : goal.returns-clause-keeps
+returns-clause-keeps c = λ octets.
+    let text : c.as_str-2.result.now ≡ c.args.octets.now =
+    c.as_str-2.ensures.value ∙ c.in_ok-text.ensures ∙ text_stays c.args.octets.now octets.utf8 in
+    inr (inr (c.in_ok-line-2.ensures.text (ap has_control text
+    ∙ no_control c.args.octets.now octets.same) ∙ text))

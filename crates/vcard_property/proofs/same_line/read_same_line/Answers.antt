@@ -26,3 +26,8 @@ returns-in-Ok-read_line-clause-proper c =
       utf8 = c.in-Ok.ensures.cases.1;
       spelled = spelled;
     })
+
+pub returns-in-Ok-read_line-clause-spelled : goal.returns-in-Ok-read_line-clause-spelled
+returns-in-Ok-read_line-clause-spelled c =
+    let spelled : parse_line c.args.octets.now ≡ Ok c.in-Ok-read_line.line = search rules in
+    record { utf8 = c.in-Ok.ensures.cases.1; spelled = spelled }

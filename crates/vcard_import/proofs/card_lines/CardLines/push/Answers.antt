@@ -10,7 +10,7 @@ use Rattle.vcard_import.proofs.card_lines.CardLines.push.Goals.{then-not-branch+
 use Rattle.vcard_import.proofs.card_lines.CardLines.push.Goals.{else-not-branch}
 
 pub returns-clause-extends : goal.returns-clause-extends
-returns-clause-extends c = λ reading proper kind allowed.
+returns-clause-extends c = λ reading proper kind allowed keeps.
     elim c.if-not-branch.branch [
       | then-not-branch+in_ok-push w ↦
           let differs : AreLine c.args.raw.now.octets c.args.line → ⊥ = search rules in
@@ -19,7 +19,7 @@ returns-clause-extends c = λ reading proper kind allowed.
           (search rules)
           (λ before b. changed before c.args.raw.now c.args.self.now.lines c.args.self.now.changes
           c.args.line (record { place = c.args.raw.now.place; kind = c.args.kind }) differs
-          (λ _. c.args.raw.now.place) kind b) proper allowed
+          (λ _. c.args.raw.now.place) kind keeps b) proper allowed
           (none_more is_left_out c.args.self.now.changes (record {
             place = c.args.raw.now.place;
             kind = c.args.kind;
