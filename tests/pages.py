@@ -67,8 +67,12 @@ class Page:
         return re.findall(r"\]\(([^)\s]+)\)", self.prose())
 
     def anchors(self):
-        """The names by which links reach the page's headings, as GitHub makes them."""
+        """The names by which links reach the page's headings, as GitHub makes them.
+
+        Of a link in a heading only the text counts.
+        """
         headings = re.findall(r"^#+ (.*)$", self.prose(), re.MULTILINE)
+        headings = [re.sub(r"\[([^]]*)\]\([^)]*\)", r"\1", it) for it in headings]
         return {re.sub(r"[^\w\- ]", "", it.lower()).replace(" ", "-") for it in headings}
 
 
