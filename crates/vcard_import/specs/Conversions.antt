@@ -46,8 +46,9 @@ pub record IsBlank (octets : List ℕ) : Type 0 where
   pub kept : KeepsValue octets value
   pub blank : trim value ≡ []
 
--- If each version writes the value of the logical line alike, the line of the card has it, as it is
--- or in its text. Only a blank one, as that of an FN without a name, may be replaced.
+-- If each version writes the value of the logical line alike, or it is a picture, a sound or a key in
+-- base64, the line of the card has it: as it is, as a `data:` URI or in its text. Only a blank one, as
+-- that of an FN without a name, may be replaced.
 abbrev pub KeepsSameValue : List ℕ → Line → Type 0
 KeepsSameValue octets line =
     HasSameValue octets → KeepsValue octets line.value ⊎ IsBlank octets

@@ -1,14 +1,20 @@
--- Lines whose value each version of vCard writes alike, so that vCard 4.0 has it as it is.
-use Rattle.std.specs.Prelude.{ℕ, ◌≡◌, Bool, true, not, ◌&&◌, ◌||◌, ◌==◌, ◌⊎◌, List, codes}
+-- Lines whose value each version of vCard writes alike, so that vCard 4.0 has it as it is; and
+-- pictures, sounds and keys in base64, which are `data:` URIs there (RFC 6350, sections 6.2.4, 6.6.3,
+-- 6.7.5 and 6.8.1).
+use Rattle.std.specs.Prelude.{ℕ, ◌≡◌, Bool, true, not, ◌&&◌, ◌||◌, ◌==◌, ◌⊎◌, List, ◌++◌}
+use Rattle.std.specs.Prelude.{codes, if◌then◌else◌, Option, None, Some}
 use Rattle.std.specs.Char.{is_ascii_graphic, is_control}
 use Rattle.std.specs.List.{list_all, list_any, slice_split}
+use Rattle.std.specs.Option.{is_some}
 use Rattle.std.specs.Str.{IsUtf8, chars, str_eq_ignore_ascii_case}
+use Rattle.base64.specs.Engines.{standard}
+use Rattle.base64.specs.GeneralPurpose.{encode_of}
 use Rattle.base_types.specs.Octets.{backslash, colon, comma, dot, quote, semicolon, tab}
 use Rattle.import_text.specs.RawLines.{head, is_encoded_as}
-use Rattle.vcard_lines.specs.Grammar.{is_name_octet, is_permitted}
+use Rattle.vcard_lines.specs.Grammar.{is_name_octet}
 use Rattle.vcard_lines.specs.TextValues.{unescaped_text}
 use Rattle.vcard_lines.specs.declared.line.Line.{Line}
-use Rattle.vcard_property.specs.Media.{after, before}
+use Rattle.vcard_property.specs.Media.{after, base64_octets, before}
 use Rattle.vcard_property.specs.SameLines.{AreLine, has_octet}
 
 -- ---- the name
@@ -91,10 +97,53 @@ has_same_value line = is_plain_name (written_name line) && not (is_named_so has_
     && not (has_octet quote (head line)) && not (is_encoded line) && not (has_control line)
     && has_plain_value line
 
--- the octets are the text of such a line
+-- ---- pictures
+
+abbrev pub is_media_name : List ℕ → Bool
+is_media_name name = str_eq_ignore_ascii_case name (codes "PHOTO")
+    || str_eq_ignore_ascii_case name (codes "LOGO")
+    || str_eq_ignore_ascii_case name (codes "SOUND")
+    || str_eq_ignore_ascii_case name (codes "KEY")
+
+-- the part of a head says that the value is base64
+abbrev pub names_base64 : List ℕ → Bool
+names_base64 part = str_eq_ignore_ascii_case part (codes "ENCODING=B")
+    || str_eq_ignore_ascii_case part (codes "ENCODING=BASE64")
+    || str_eq_ignore_ascii_case part (codes "BASE64")
+
+-- a part of the head says so
+abbrev pub is_in_base64 : List ℕ → Bool
+is_in_base64 line = list_any names_base64 (slice_split (λ octet. octet == semicolon) (head line))
+
+-- the line is a picture, a sound or a key, and its head says that its value is base64
+abbrev pub has_media : List ℕ → Bool
+has_media line =
+    is_media_name (written_name line) && is_in_base64 line && not (has_control line)
+
+-- the octets of the picture, the sound or the key that the line has in it; none if its value isn't
+-- base64
+abbrev pub media_of : List ℕ → Option (List ℕ)
+media_of line = if has_media line then base64_octets (value_of line) else None
+
+-- The value is a `data:` URI of these octets: a media type, and their base64.
+pub record IsDataUri (octets value : List ℕ) : Type 0 where
+  pub media : List ℕ
+  pub found : media_of octets ≡ Some media
+  pub media_type : List ℕ
+  pub value_is : value ≡ codes "data:" ++ media_type ++ codes ";base64," ++ encode_of standard media
+
+-- ---- what stays
+
+-- the octets are the text of a line whose value is the same in each version, or of a picture, a
+-- sound or a key in base64
 pub record HasSameValue (octets : List ℕ) : Type 0 where
   pub utf8 : IsUtf8 octets
-  pub same : has_same_value octets ≡ true
+  pub same : (has_same_value octets || is_some (media_of octets)) ≡ true
+
+-- the value is that of the line if it is the same in each version, or a `data:` URI of the picture
+abbrev pub HasValueOf : List ℕ → List ℕ → Type 0
+HasValueOf octets value = ((has_same_value octets ≡ true) × (value ≡ value_of octets))
+    ⊎ IsDataUri octets value
 
 -- the value is that of the line that the octets spell
 pub record IsSpelled (octets value : List ℕ) : Type 0 where
@@ -102,8 +151,8 @@ pub record IsSpelled (octets value : List ℕ) : Type 0 where
   pub spelled : AreLine octets line
   pub value_is : value ≡ line.value
 
--- The value has what the octets hold: it is that of the line that they spell, it is their value, or
+-- The value has what the octets hold: it is that of the line that they spell, it has their value, or
 -- it encodes their whole text.
 abbrev pub KeepsValue : List ℕ → List ℕ → Type 0
 KeepsValue octets value = IsSpelled octets value
-    ⊎ ((value ≡ value_of octets) ⊎ (unescaped_text value ≡ octets))
+    ⊎ (HasValueOf octets value ⊎ (unescaped_text value ≡ octets))

@@ -1,10 +1,14 @@
 //! Converts one logical line.
-ghost use Rattle.std.specs.Prelude.{◌≡◌, ℕ, List, true, IfOk, IfSome};
+ghost use Rattle.std.specs.Prelude.{◌≡◌, ◌++◌, ◌||◌, ℕ, List, true, IfOk, IfSome, codes};
+ghost use Rattle.std.specs.Option.{is_some};
 ghost use Rattle.vcard_lines.specs.declared.line.Line.{Line};
 ghost use Rattle.vcard_text.specs.Cards.{IsProperLine};
 ghost use Rattle.vcard_property.specs.Kinds.{fits_kind};
 ghost use Rattle.vcard_property.specs.SameLines.{AreLine, is_same_in};
-ghost use Rattle.vcard_property.specs.Values.{HasSameValue, KeepsValue, has_same_value, value_of};
+ghost use Rattle.vcard_property.specs.Values.{HasSameValue, HasValueOf, KeepsValue, media_of};
+ghost use Rattle.vcard_property.specs.Values.{has_same_value, value_of};
+ghost use Rattle.base64.specs.Engines.{standard};
+ghost use Rattle.base64.specs.GeneralPurpose.{encode_of};
 
 use crate::change_kind::ChangeKind;
 use crate::dates::has_fraction;
@@ -12,9 +16,9 @@ use crate::decoding::decode;
 use crate::kept_texts::text_line;
 use crate::proper_line::proper_line;
 use crate::property::{Encoding, Property, read_property};
-use crate::property_line::{is_date_name, line_of, named_line};
+use crate::property_line::{binary_line, is_date_name, line_of, named_line};
 use crate::same_line::read_same_line;
-use crate::values::has_same_value;
+use crate::values::{has_same_value, media_of};
 use crate::version::Version;
 use import_text::read_text;
 use std::alloc::Global;
@@ -85,6 +89,27 @@ fn line_with_value(
     Ok(Some((line, kind)))
 }
 
+/// The proper line that a picture, a sound or a key becomes, as a `data:` URI of these octets, and
+/// what became of it. `None` if its line isn't proper.
+fn media_line(
+    alloc: Global,
+    property: Property,
+    octets: &[u8],
+) -> Result<Option<(Line, ChangeKind)>, NoMemory>
+    ensures proper { IfOk result (λ made. IfSome made (λ line.
+        IsProperLine line.0 × (fits_kind line.1 line.0.name ≡ true))) }
+    ensures value { IfOk result (λ made. IfSome made (λ line. (media : List ℕ) × (line.0.value
+        ≡ codes "data:" ++ media ++ codes ";base64," ++ encode_of standard octets.now))) }
+{
+    let name = property.name.try_copy()?;
+    let line = binary_line(alloc, property, octets)?;
+    let Some(line) = proper_line(alloc, line)? else {
+        return Ok(None);
+    };
+    let kind = kind_of(name.as_str(), line.name.as_str(), Loss::Nothing);
+    Ok(Some((line, kind)))
+}
+
 /// The proper line that a property becomes, with its value in the form of vCard 4.0, and what became
 /// of it. `None` if its line isn't proper.
 fn rewritten_line(
@@ -127,8 +152,8 @@ fn value_of(text: &str) -> &str
 }
 
 /// The proper line that the text of these octets becomes as a property, and what became of it. A
-/// value that each version writes alike stays as it is. `None` if the text is no property, or its
-/// line isn't proper.
+/// value that each version writes alike stays as it is, and so does a picture. `None` if the text is
+/// no property, or its line isn't proper.
 fn property_line(
     alloc: Global,
     text: &str,
@@ -137,14 +162,17 @@ fn property_line(
 ) -> Result<Option<(Line, ChangeKind)>, NoMemory>
     ensures proper { IfOk result (λ made. IfSome made (λ line.
         IsProperLine line.0 × (fits_kind line.1 line.0.name ≡ true))) }
-    ensures value { has_same_value text.now ≡ true → IfOk result (λ made. IfSome made (λ line.
-        line.0.value ≡ value_of text.now)) }
+    ensures value { (has_same_value text.now || is_some (media_of text.now)) ≡ true
+        → IfOk result (λ made. IfSome made (λ line. HasValueOf text.now line.0.value)) }
 {
     let Some(property) = read_property(alloc, text, version)? else {
         return Ok(None);
     };
     if has_same_value(text) {
         return line_with_value(alloc, property, value_of(text));
+    }
+    if let Some(media) = media_of(alloc, text)? {
+        return media_line(alloc, property, media.as_slice());
     }
     rewritten_line(alloc, property, octets, version)
 }
@@ -168,7 +196,8 @@ pub fn convert_line(
     ensures stays { (line : Line) → AreLine octets.now line → is_same_in version line ≡ true
         → IfOk result (λ made. made.0 ≡ line) }
 
-    // A value that each version writes alike is in the line, or the line keeps the whole text.
+    // A value that each version writes alike is in the line, and so is a picture, a sound or a key
+    // in base64; or the line keeps the whole text.
     ensures keeps { HasSameValue octets.now
         → IfOk result (λ made. KeepsValue octets.now made.0.value) }
 {

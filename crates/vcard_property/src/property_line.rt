@@ -1,5 +1,7 @@
 //! The line of vCard 4.0 for a property of any version (RFC 6350, section 6 and appendix A).
-ghost use Rattle.std.specs.Prelude.{◌≡◌, IfOk, string_bytes};
+ghost use Rattle.std.specs.Prelude.{◌≡◌, ◌++◌, List, ℕ, IfOk, codes, string_bytes};
+ghost use Rattle.base64.specs.Engines.{standard};
+ghost use Rattle.base64.specs.GeneralPurpose.{encode_of};
 
 use crate::binary::{data_uri, decoded_base64, is_format};
 use crate::dates::{basic_date, is_date};
@@ -241,7 +243,14 @@ fn drop_formats(alloc: Global, property: &mut Property, name: &str) -> Result<()
 }
 
 /// The line of a binary value, as a `data:` URI.
-fn binary_line(alloc: Global, property: Property, octets: &[u8]) -> Result<Line, NoMemory> {
+pub(crate) fn binary_line(
+    alloc: Global,
+    property: Property,
+    octets: &[u8],
+) -> Result<Line, NoMemory>
+    ensures { IfOk result (λ line. (media : List ℕ) × (line.value
+        ≡ codes "data:" ++ media ++ codes ";base64," ++ encode_of standard octets.now)) }
+{
     let mut property = property;
     let name = property.name.try_copy()?;
     let uri = data_uri(alloc, name.as_str(), property.types.as_slice(), octets)?;

@@ -1,16 +1,22 @@
-//! Lines whose value each version of vCard writes alike, so that it stays as it is.
-ghost use Rattle.std.specs.Prelude.{◌≡◌, ◌||◌, not};
+//! Lines whose value each version of vCard writes alike, so that it stays as it is; and pictures,
+//! sounds and keys in base64.
+ghost use Rattle.std.specs.Prelude.{◌≡◌, ◌||◌, not, IfOk};
 ghost use Rattle.std.specs.Char.{is_ascii_graphic};
 ghost use Rattle.std.specs.List.{list_all, list_any};
+ghost use Rattle.std.specs.Option.{option_map};
 ghost use Rattle.import_text.specs.RawLines.{head};
 ghost use Rattle.vcard_property.specs.Values.{escapes_commas, has_control, has_other_form};
 ghost use Rattle.vcard_property.specs.Values.{has_plain_value, has_same_value, is_b, is_bare_b};
-ghost use Rattle.vcard_property.specs.Values.{is_encoded, is_named_so, is_plain_name};
+ghost use Rattle.vcard_property.specs.Values.{has_media, is_encoded, is_in_base64, is_media_name};
+ghost use Rattle.vcard_property.specs.Values.{is_named_so, is_plain_name, media_of, names_base64};
 ghost use Rattle.vcard_property.specs.Values.{says_encoding, value_of, written_name};
 
+use crate::binary::decoded_octets;
 use crate::media::{after, before};
 use crate::same_line::has_octet;
 use import_text::is_encoded_as;
+use std::alloc::Global;
+use vcard_text::NoMemory;
 
 /// The octets before the first colon.
 fn head(line: &[u8]) -> &[u8]
@@ -152,4 +158,51 @@ pub(crate) fn has_same_value(text: &str) -> bool
         && !is_encoded(line)
         && !has_control(text)
         && has_plain_value(line)
+}
+
+fn is_media_name(name: &[u8]) -> bool
+    ensures { result ≡ is_media_name name.now }
+{
+    name.eq_ignore_ascii_case(b"PHOTO")
+        || name.eq_ignore_ascii_case(b"LOGO")
+        || name.eq_ignore_ascii_case(b"SOUND")
+        || name.eq_ignore_ascii_case(b"KEY")
+}
+
+/// Whether a part of a head says that the value is base64.
+fn names_base64(part: &[u8]) -> bool
+    ensures { result ≡ names_base64 part.now }
+{
+    part.eq_ignore_ascii_case(b"ENCODING=B")
+        || part.eq_ignore_ascii_case(b"ENCODING=BASE64")
+        || part.eq_ignore_ascii_case(b"BASE64")
+}
+
+/// Whether the head says that the value is base64.
+fn is_in_base64(line: &[u8]) -> bool
+    ensures { result ≡ is_in_base64 line.now }
+{
+    head(line)
+        .split(|octet| *octet == b';')
+        .any(|part| names_base64(part))
+}
+
+/// Whether the line is a picture, a sound or a key, and its head says that its value is base64.
+fn has_media(text: &str) -> bool
+    ensures { result ≡ has_media text.now }
+{
+    let line = text.as_bytes();
+    is_media_name(written_name(line)) && is_in_base64(line) && !has_control(text)
+}
+
+/// The octets of the picture, the sound or the key that the line has in it. `None` if its value
+/// isn't base64.
+pub(crate) fn media_of(alloc: Global, text: &str) -> Result<Option<Vec<u8>>, NoMemory>
+    ensures { IfOk result (λ found.
+        option_map (λ octets. octets.items) found ≡ media_of text.now) }
+{
+    if !has_media(text) {
+        return Ok(None);
+    }
+    decoded_octets(alloc, after(text.as_bytes(), b':'))
 }

@@ -1,5 +1,6 @@
-use Rattle.std.proofs.Common.{◌≡◌, ◌∙◌, rules, true, None, sym, ap, inl, inr, refl}
-use Rattle.vcard_property.specs.Values.{has_control, has_same_value, value_of}
+use Rattle.std.proofs.Common.{◌≡◌, ◌∙◌, rules, true, None, sym, ap, inl, inr, refl, subst, ◌||◌}
+use Rattle.vcard_property.specs.Values.{HasValueOf, has_control, has_same_value, media_of}
+use Rattle.std.specs.Option.{is_some}
 use Rattle.vcard_property.proofs.TextLemmas.{no_control, text_stays}
 use Rattle.vcard_property.proofs.SameLemmas.{line_is_found}
 use Rattle.vcard_property.proofs.conversion.convert_line.Goals as goal
@@ -27,9 +28,10 @@ pub returns-in-Some-2-clause-keeps : goal.returns-in-Some-2-clause-keeps
 returns-in-Some-2-clause-keeps c = λ octets.
     let text : c.as_str.result.now ≡ c.args.octets.now =
     c.as_str.ensures.value ∙ c.in_ok-text.ensures ∙ text_stays c.args.octets.now octets.utf8 in
-    let same : has_same_value c.as_str.result.now ≡ true = ap has_same_value text ∙ octets.same in
-    let value : c.in-Some-2.made.0.value ≡ value_of c.as_str.result.now = search (rules, same) in
-    inr (inl (value ∙ ap value_of text))
+    let known : (has_same_value c.as_str.result.now || is_some (media_of c.as_str.result.now))
+    ≡ true = ap (λ t. has_same_value t || is_some (media_of t)) text ∙ octets.same in
+    let value : HasValueOf c.as_str.result.now c.in-Some-2.made.0.value = search (rules, known) in
+    inr (inl (subst (λ t. HasValueOf t c.in-Some-2.made.0.value) text value))
 
 pub returns-clause-keeps : goal.returns-clause-keeps
 returns-clause-keeps c = λ octets.
