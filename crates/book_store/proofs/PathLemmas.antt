@@ -1,6 +1,6 @@
 -- Why a file at a path that holds a store doesn't open.
-use Rattle.std.proofs.Common.{◌≡◌, ◌⊎◌, inl, inr, IfSome, Option, Some, None, ap, refl, sym, subst}
-use Rattle.std.proofs.Common.{◌∙◌}
+use Rattle.std.proofs.Common.{◌≡◌, ◌⊎◌, inl, inr, IfErr, IfSome, Option, Some, None, ap, refl, sym, subst}
+use Rattle.std.proofs.Common.{◌∙◌, Err, Ok, Result}
 use Rattle.sqlite.specs.declared.error.Error.{Error}
 use Rattle.sqlite.specs.declared.error.Error.TheVariants.{SqliteFailure}
 use Rattle.sqlite.specs.declared.error.ErrorCode.TheVariants.{CannotOpen, DatabaseBusy}
@@ -23,12 +23,14 @@ use Rattle.sqlite_trees.specs.Objects.{catalog_tree}
 use Rattle.sqlite_trees.specs.declared.error.StoreError.{StoreError}
 use Rattle.sqlite_trees.specs.declared.error.StoreError.TheVariants as stored
 use Rattle.book_model.specs.Books.{Books}
+use Rattle.named_files.specs.Connections.{FailsToConnect, IsUnopenedError}
 use Rattle.database_files.specs.Restarts.{ShowsOpened}
 use Rattle.store_schema.proofs.LeftoverLemmas.{no_database}
 use Rattle.store_schema.specs.OpenFaults.{open_fault_of_error}
 use Rattle.store_schema.specs.declared.open_fault.OpenFault.{OpenFault}
 use Rattle.store_schema.specs.declared.open_fault.OpenFault.TheVariants.{Memory, Store}
 use Rattle.book_store.specs.FileRefusals.{ForgetsNoFault, IsFileOpenRefusal, IsUnlessNoDatabase}
+use Rattle.book_store.specs.FileRefusals.{IsUnlessVacant}
 use Rattle.book_store.specs.Restarts.{FailsAtOpening, FailsOnceOpened, HasPathCause, HoldsStore}
 use Rattle.book_store.specs.Restarts.{declared_over}
 
@@ -64,23 +66,18 @@ module _ {D : Type 0} {g : Ghosts D} where
     pub image_is : image_of g files ≡ image
     pub fails : IsCleanLeft left → FailsToOpenFiles files left error
 
-  pub fails_with : (A B : Files D → Type 0) (image : Image) (error : Error)
-      (rest : Option (Leftover D g)) → IfSome rest (λ left. (files : Files D) × A files × B files
-      × (IsCleanLeft left → FailsToOpenFiles files left error × LeavesFiles files left))
-      → ((files : Files D) → A files → B files → image_of g files ≡ image)
-      → IfSome rest (FailsWith image error)
-  fails_with A B image error None h same = tt
-  fails_with A B image error (Some left) h same = record {
+  pub fails_with : (image : Image) (error : Error) (rest : Option (Leftover D g))
+      → IfSome rest (FailsToConnect image error) → IfSome rest (FailsWith image error)
+  fails_with image error None h = tt
+  fails_with image error (Some left) h = record {
     files = h.0;
-    image_is = same h.0 h.1 h.2;
-    fails = λ clean. (h.3 clean).0;
+    image_is = h.1;
+    fails = λ clean. (h.2 clean).0;
   }
 
   -- what is said if no files were opened isn't that they hold no database
-  pub named_apart : (error : Error) (rest : Option (Leftover D g)) → (rest ≡ None
-      → (error ≡ SqliteFailure CannotOpen) ⊎ ((error ≡ SqliteFailure OutOfMemory)
-      ⊎ (error ≡ SqliteFailure DatabaseBusy)))
-      → rest ≡ None → ¬ (error ≡ SqliteFailure NotADatabase)
+  pub named_apart : (error : Error) (rest : Option (Leftover D g))
+      → (rest ≡ None → IsUnopenedError error) → rest ≡ None → ¬ (error ≡ SqliteFailure NotADatabase)
   named_apart error rest names none is = elim (names none) [
     | inl other ↦ let two = sym other ∙ is in cc
     | inr (inl other) ↦ let two = sym other ∙ is in cc
@@ -142,3 +139,10 @@ module _ {D : Type 0} {g : Ghosts D} where
       let it = other (holds_one image trees holds error left failed before) in
       let cause = left_cause image db trees holds error left fault failed before it.0 in
       subst (HasPathCause image db fault) (sym it.1) (λ again. cause) clean
+
+-- the file wasn't refused as empty
+pub unless_vacant : {A L : Type 0} {P : OpenFault × Option L → Type 0}
+    (result : Result A (OpenFault × Option L)) → IfErr result P
+    → IfErr result (λ refused. IsUnlessVacant refused (P refused))
+unless_vacant (Ok value) h = tt
+unless_vacant (Err refused) h = inr h

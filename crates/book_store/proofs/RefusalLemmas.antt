@@ -108,18 +108,6 @@ refused_kind conn refused Memory h = tt
 
 -- ---- no connection was opened over the files
 
-module _ {D : Type 0} {g : Ghosts D} (A B : Files D → Type 0) where
-  -- this is left of the files
-  abbrev left_of : Option (Leftover D g) → Error → Type 0
-  left_of rest error = IfSome rest (λ left. (files : Files D) × A files × B files
-      × IsLeftOf files error left)
-
-  pub fails_over : (image : Image) (error : Error) (rest : Option (Leftover D g))
-      → left_of rest error → ((files : Files D) → A files → B files → image_of g files ≡ image)
-      → FailsOver image error rest
-  fails_over image error None h same = tt
-  fails_over image error (Some left) h same = (h.0, same h.0 h.1 h.2, h.3)
-
 pub open_fault_of_files : {D : Type 0} {g : Ghosts D} (error : Error) (left new : Leftover D g)
     (fault : OpenFault) → IsOpenFaultAfter error left new fault
     → IsOpenRefusalAfter error (Some left) fault (Some new)

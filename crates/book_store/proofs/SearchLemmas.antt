@@ -1,6 +1,7 @@
 -- What a search of a connection for a faulty row found, by what the files held over which it was
 -- opened.
-use Rattle.std.proofs.Common.{arith, Option, Some, None, Result, Ok, Err}
+use Rattle.std.proofs.Common.{arith, refl, Option, Some, None, Result, Ok, Err}
+use Rattle.named_files.specs.FileOpenings.{ComesOf}
 use Rattle.sqlite.specs.declared.file.Leftover.TheVariants as leftover
 use Rattle.sqlite.specs.Effect.{Database}
 use Rattle.sqlite.specs.Files.{file_state}
@@ -22,7 +23,7 @@ use Rattle.store_schema.specs.declared.open_fault.OpenFault.TheVariants.{Store, 
 use Rattle.store_schema.specs.declared.open_fault.OpenFault.TheVariants.{OtherSchema, Damaged}
 use Rattle.store_schema.specs.declared.open_fault.OpenFault.TheVariants.{NotEmpty, Memory}
 use Rattle.store_schema.proofs.LeftoverLemmas.{still_clean}
-use Rattle.book_store.specs.FileSearches.{IsFileSearch}
+use Rattle.book_store.specs.FileSearches.{IsFileSearch, with_fault}
 use Rattle.book_store.proofs.RefusalLemmas.{opened_fault, shown}
 
 -- a fault of the search is one of opening the tables
@@ -59,3 +60,9 @@ module _ {D : Type 0} {g : Ghosts D} (image : Image) (conn searched : Held (File
         right_fault = λ clean. opening_fault (file_state conn).now fault (searched_is clean);
         from_outside = opens;
       })
+
+-- a search of files that were opened returns them with a fault
+pub opened_search : {A L : Type 0} (found : Result A OpenFault) (left : L)
+    → ComesOf None (with_fault found (Some left))
+opened_search (Ok found) left = refl
+opened_search (Err fault) left = λ is. let it = is in cc

@@ -102,3 +102,8 @@ module _ {D : Type 0} {g : Ghosts D} where
       Error → Option (Leftover D g) → OpenFault → Option (Leftover D g) → Type 0
   IsOpenRefusalAfter error old fault new =
       (image : Image) → FailsOver image error old → IsFileOpenRefusal image fault new
+
+-- The file was refused since it is empty and has no log, which a call of the system told; or this
+-- holds.
+abbrev pub IsUnlessVacant : {L : Type 0} → OpenFault × Option L → Type 0 → Type 0
+IsUnlessVacant refused Otherwise = (refused ≡ (NotOurs, None)) ⊎ Otherwise

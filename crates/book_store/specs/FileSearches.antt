@@ -24,3 +24,9 @@ module _ {D : Type 0} {g : Ghosts D} (image : Image) where
   IsFileSearch (Ok found) None = ⊥
   IsFileSearch (Ok found) (Some left) = IsCleanLeft left → IsFoundInFiles image found
   IsFileSearch (Err fault) left = IsFileOpenRefusal image fault left
+
+-- the result of a search, with what is left of the files beside its fault alone
+abbrev pub with_fault : {A L : Type 0} → Result A OpenFault → Option L
+    → Result A (OpenFault × Option L)
+with_fault (Ok found) left = Ok found
+with_fault (Err fault) left = Err (fault, left)

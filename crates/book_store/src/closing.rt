@@ -12,6 +12,7 @@ ghost use Rattle.std.specs.Prelude.{◌≡◌, IfOk, OnOk, false};
 use crate::real_files::{OpensFiles, RealFiles};
 use crate::schema_creation::is_schema_empty;
 use crate::sql_store::SqlStore;
+use named_files::log_name;
 use sqlite::{Alter, Connection, FileStore, Files};
 use sqlite_disk::Disk;
 use sqlite_std_file::{FileFrom, Unknown};
@@ -168,7 +169,7 @@ fn copy_books<S: Alter, D: Disk + Drop, F: OpensFiles<D>>(
 
 /// The name of a file's log.
 pub(crate) fn log_of(rt: &HostRuntime, path: &str) -> Result<String, OpenFault> {
-    match format!(in rt.alloc(); "{path}-wal") {
+    match log_name(rt.alloc(), path) {
         Ok(log) => Ok(log),
         Err(_) => Err(OpenFault::Memory),
     }

@@ -1,13 +1,15 @@
 //! Finds the row at fault in a file that isn't opened since it is damaged.
-ghost use Rattle.book_store.specs.FileSearches.{IsFileSearch};
+ghost use Rattle.book_store.specs.FileSearches.{IsFileSearch, with_fault};
+ghost use Rattle.named_files.specs.FileOpenings.{OpensFound};
 ghost use Rattle.sqlite.specs.WalFiles.{image_at};
 
 use crate::files::open_refusal;
 use crate::sql_store::SqlStore;
 use book_model::Limits;
-use sqlite::{Connection, FileStore, Leftover};
+use named_files::{NamedFiles, SystemFiles, connect_found};
+use sqlite::{FileStore, Leftover};
 use sqlite_std_file::{FileFrom, Start, Unknown};
-use std::fs;
+use std::alloc::Global;
 use store_check::faults::FaultyRow;
 use store_check::opening::find_faulty_row;
 use store_schema::OpenFault;
@@ -23,27 +25,41 @@ impl<S: Start> SqlStore<FileStore<FileFrom<S>>> {
     /// file holds well-formed books. Which of several faulty rows it is, is only tested, and so is
     /// that it writes no row.
     ///
-    /// Fails as `open_from` does. It fails with `Damaged` only if rows break the declarations of
+    /// Fails as `open_in` does. It fails with `Damaged` only if rows break the declarations of
     /// their tables: then no connection opens, and no row can be named.
-    pub fn find_fault_from(rt: &HostRuntime, path: &str, start: S) -> FileSearch<S>
+    pub fn find_fault_in<F: NamedFiles<S>>(
+        files: &mut F,
+        alloc: Global,
+        path: &str,
+        start: S,
+    ) -> FileSearch<S>
+        // If something is at this path, one connection is opened to it; nothing else is asked.
+        ensures calls { OpensFound path.now (with_fault result.0 result.1)
+            (F.log files.old) (F.log files.new) }
+
         // What was found is right for what the file and its log held.
-        ensures { IsFileSearch (image_at S.Start) result.0 result.1 }
+        ensures right { IsFileSearch (F.image files.old path.now) result.0 result.1 }
     {
-        // Opening a connection would create the file.
-        if !fs::exists(rt, path).unwrap_or(false) {
-            return (Err(OpenFault::Store), None);
-        }
-        match Connection::open_from(rt, path, false, start) {
+        match connect_found(files, path, start) {
             Ok(connection) => {
                 let mut conn = connection;
-                let found = find_faulty_row(rt.alloc(), &mut conn, Limits::standard());
+                let found = find_faulty_row(alloc, &mut conn, Limits::standard());
                 (found, Some(Leftover::Store(conn.into_store())))
             }
             Err((error, left)) => {
-                let (fault, left) = open_refusal(rt.alloc(), error, left);
+                let (fault, left) = open_refusal(alloc, error, left);
                 (Err(fault), left)
             }
         }
+    }
+
+    /// `find_fault_in` over the files of the system. What the file at the path held is what `start`
+    /// represents.
+    pub fn find_fault_from(rt: &HostRuntime, path: &str, start: S) -> FileSearch<S>
+        ensures { IsFileSearch (image_at S.Start) result.0 result.1 }
+    {
+        let mut files = SystemFiles::new(rt);
+        SqlStore::find_fault_in(&mut files, rt.alloc(), path, start)
     }
 }
 

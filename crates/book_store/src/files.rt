@@ -11,6 +11,8 @@ ghost use Rattle.book_store.specs.FileRefusals.{
   IsUnlessNoDatabase,
 };
 ghost use Rattle.book_model.specs.Books.{Books};
+ghost use Rattle.named_files.specs.FileCalls.{unless_left};
+ghost use Rattle.named_files.specs.FileOpenings.{IsRefusalOf};
 ghost use Rattle.book_store.specs.OpenOutcomes.{StartsWithoutTables};
 ghost use Rattle.book_store.specs.PageSums.{has_page_sums};
 ghost use Rattle.book_store.specs.Restarts.{HasPathCause, HoldsStore, declared_over};
@@ -24,14 +26,13 @@ ghost use Rattle.sqlite.specs.WalFiles.{image_at};
 ghost use Rattle.std.specs.FinMap as finite;
 ghost use Rattle.std.specs.Prelude.{◌≡◌, IfErr, IfOk};
 
-use crate::closing::log_of;
 use crate::schema_creation::is_schema_empty;
 use crate::sql_store::SqlStore;
 use book_model::Limits;
-use sqlite::{Connection, Error, ErrorCode, FileStore, Leftover};
+use named_files::SystemFiles;
+use sqlite::{Error, ErrorCode, FileStore, Leftover};
 use sqlite_std_file::{FileFrom, Start, Unknown};
 use std::alloc::Global;
-use std::fs;
 use store_schema::{FileRefusal, OpenFault, fault_of_leftover, load_schema, open_fault_of};
 
 /// A store of books in a file, with a log beside it that has the file's name and `-wal`. `S`
@@ -98,13 +99,14 @@ fn open_fault_after<S: Start>(
 
 /// Returns why no store is created in files if opening a connection failed with the error, and what
 /// is left of the files.
-fn creation_refusal<S: Start>(
+pub(crate) fn creation_refusal<S: Start>(
     alloc: Global,
     error: Error,
     left: Option<Leftover<FileFrom<S>>>,
 ) -> FileRefusal<S>
     ensures kind { IsCreationFault result.0 }
     ensures refused { IsCreationRefusalAfter error left result.0 result.1 }
+    ensures files { IsRefusalOf (unless_left error left) result }
 {
     match left {
         Some(left) => {
@@ -124,6 +126,7 @@ pub(crate) fn open_refusal<S: Start>(
 ) -> FileRefusal<S>
     ensures right { IsOpenRefusalAfter error left result.0 result.1 }
     ensures clean { ForgetsNoFault left result.1 }
+    ensures files { IsRefusalOf (unless_left error left) result }
     ensures other { IsUnlessNoDatabase error
         ((result.0 ≡ open_fault_of_error error) × (result.1 ≡ left)) }
 {
@@ -138,15 +141,8 @@ pub(crate) fn open_refusal<S: Start>(
 }
 
 impl<S: Start> SqlStore<FileStore<FileFrom<S>>> {
-    /// Creates a store without books in the file at the path. The file is created if there is none,
-    /// and may exist if it is empty. Each page of a new file ends in a sum of its octets, and an
-    /// opening refuses a file in which one is wrong.
-    ///
-    /// Fails with `NotEmpty` if it has tables, also if their rows break their declarations; with
-    /// `NotOurs` if it is not a database; with `Memory` if memory runs out; and with `Store` if it
-    /// can't be used: another process has it open, it has two names, or the disk fails. An error
-    /// returns what is left of the files, if they were opened. What they hold then is only tested:
-    /// no book, but a new file may remain, empty or as a database without tables.
+    /// `create_in` over the files of the system. What the file at the path held is what `start`
+    /// represents.
     pub fn create_from(
         rt: &HostRuntime,
         path: &str,
@@ -164,24 +160,12 @@ impl<S: Start> SqlStore<FileStore<FileFrom<S>>> {
         ensures refused { IfErr result (λ refused.
             IsFileCreationRefusal (image_at S.Start) refused.0 refused.1) }
     {
-        match Connection::open_from(rt, path, true, start) {
-            Ok(connection) => match SqlStore::try_adopt_new(rt.alloc(), connection, limits) {
-                Ok(store) => Ok(store),
-                Err((fault, conn)) => Err((fault, Some(Leftover::Store(conn.into_store())))),
-            },
-            Err((error, left)) => Err(creation_refusal(rt.alloc(), error, left)),
-        }
+        let mut files = SystemFiles::new(rt);
+        SqlStore::create_in(&mut files, rt.alloc(), path, limits, start)
     }
 
-    /// Opens the store in the file at the path, with the books that the file and the log beside it
-    /// held. Only tested: no row is written; the log is created, or its commits are recovered; and
-    /// an empty file may be written to before it is refused.
-    ///
-    /// Fails as `try_adopt` does for the tables in the file, with `Damaged` also if their rows
-    /// break their declarations; with `NotOurs` if the file is not a database or is empty; with
-    /// `Memory` if memory runs out; and with `Store` if there is no file or it can't be used:
-    /// another process has it open, it has two names, or the disk fails. An error returns what is
-    /// left of the files, if they were opened.
+    /// `open_in` over the files of the system. What the file at the path held is what `start`
+    /// represents.
     pub fn open_from(
         rt: &HostRuntime,
         path: &str,
@@ -206,34 +190,9 @@ impl<S: Start> SqlStore<FileStore<FileFrom<S>>> {
             → IfErr result (λ refused. HasPathCause (image_at S.Start)
             (declared_over holds.trees) refused.0 refused.1) }
     {
-        // Opening a connection would create the file.
-        if !fs::exists(rt, path).unwrap_or(false) {
-            return Err((OpenFault::Store, None));
-        }
-        match Connection::open_from(rt, path, false, start) {
-            Ok(connection) => match SqlStore::try_adopt(rt.alloc(), connection, limits) {
-                Ok(store) => Ok(store),
-                Err((fault, conn)) => Err((fault, Some(Leftover::Store(conn.into_store())))),
-            },
-            Err((error, left)) => Err(open_refusal(rt.alloc(), error, left)),
-        }
+        let mut files = SystemFiles::new(rt);
+        SqlStore::open_in(&mut files, rt.alloc(), path, limits, start)
     }
-}
-
-/// Whether there is a file at the path, and it is empty.
-fn is_empty_file(rt: &HostRuntime, path: &str) -> bool {
-    match fs::metadata(rt, path) {
-        Ok(found) => found.is_file() && found.len() == 0,
-        Err(_) => false,
-    }
-}
-
-/// Whether the file is there and empty, and has no log. Opening a connection would write to it.
-fn holds_nothing(rt: &HostRuntime, path: &str) -> bool {
-    let Ok(log) = log_of(rt, path) else {
-        return false;
-    };
-    is_empty_file(rt, path) && !fs::exists(rt, log.as_str()).unwrap_or(true)
 }
 
 impl SqlStore<FileStore<FileFrom<Unknown>>> {
@@ -250,18 +209,15 @@ impl SqlStore<FileStore<FileFrom<Unknown>>> {
         }
     }
 
-    /// `open_from`, for a program that proves nothing about the contents of the file. The clauses
-    /// here state nothing about a file that wasn't empty. Only tested: an empty file without a log
-    /// is refused as `NotOurs`, and stays as it is.
+    /// `open_filled` over the files of the system, for a program that proves nothing about the
+    /// contents of the file. The clauses here state nothing about a file that wasn't empty.
     pub fn open(rt: &HostRuntime, path: &str, limits: Limits) -> Result<FileBooks, OpenFault>
         ensures well_formed { IfOk result (λ store. IsOpenOnHonestDisk (file_state store.conn)
             → HoldsWellFormed max_limits (file_state store.conn).now) }
         ensures limits { IfOk result (λ store. store.limits ≡ limits) }
     {
-        if holds_nothing(rt, path) {
-            return Err(OpenFault::NotOurs);
-        }
-        match SqlStore::open_from(rt, path, limits, Unknown) {
+        let mut files = SystemFiles::new(rt);
+        match SqlStore::open_filled(&mut files, rt.alloc(), path, limits, Unknown) {
             Ok(store) => Ok(store),
             Err((fault, _left)) => Err(fault),
         }

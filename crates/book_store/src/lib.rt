@@ -13,6 +13,7 @@ mod files;
 mod keeps;
 pub mod laws;
 mod leaving_out;
+mod named_stores;
 mod opening;
 mod real_files;
 mod restarting;

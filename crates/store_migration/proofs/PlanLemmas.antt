@@ -1,5 +1,5 @@
 -- The rows of the first schema against the migrated tables.
-use Rattle.std.proofs.Common.{◌≡◌, inl, inr, ℤ, pos, max, List, [], ◌∷◌, map, length, Ok, Err}
+use Rattle.std.proofs.Common.{◌≡◌, ℤ, pos, max, List, [], ◌∷◌, map, length, Ok, Err}
 use Rattle.std.proofs.Common.{Result, IfOk, IfErr, IsPermutation, sym, ap, subst, ◌∙◌}
 use Rattle.std.specs.Prelude.{Vec}
 use Rattle.std.specs.declared.alloc.Global.{Global}
@@ -22,7 +22,6 @@ use Rattle.store_check.specs.OpenResults.{IsRowCheckResult}
 use Rattle.store_check.specs.RowChecks.{AreWellStored, HasNumber, decode_book}
 use Rattle.store_check.specs.ListedRows.{AreListedRows, WellStoredAreHeld}
 use Rattle.store_schema.specs.FirstSchema.{IsFirstSchema, first_number}
-use Rattle.store_schema.specs.OpenFaults.{IsErrorFault}
 use Rattle.store_schema.specs.declared.open_fault.OpenFault.{OpenFault}
 use Rattle.store_schema.specs.declared.open_fault.OpenFault.TheVariants.{Store, NotOurs}
 use Rattle.store_schema.specs.declared.open_fault.OpenFault.TheVariants.{OtherSchema, Damaged}

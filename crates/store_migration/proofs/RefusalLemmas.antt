@@ -1,5 +1,6 @@
 -- Why files are not migrated, by what they held.
 use Rattle.std.proofs.Common.{◌≡◌, ◌∙◌, ap, inr, arith, IfSome, Option, Some, Err, subst, sym}
+use Rattle.named_files.specs.Connections.{FailsToConnect}
 use Rattle.sqlite.specs.declared.error.Error.{Error}
 use Rattle.sqlite.specs.declared.error.Error.TheVariants.{SqliteFailure}
 use Rattle.sqlite.specs.declared.error.ErrorCode.{ErrorCode}
@@ -30,16 +31,10 @@ use Rattle.store_migration.specs.Migration.{IsMigrationRefusal, MigratesWellForm
 
 -- ---- no connection was opened over the files
 
-module _ {D : Type 0} {g : Ghosts D} (A B : Files D → Type 0) where
-  -- this is left of the files
-  abbrev left_of : Option (Leftover D g) → Error → Type 0
-  left_of rest error = IfSome rest (λ left. (files : Files D) × A files × B files
-      × IsLeftOf files error left)
-
-  pub files_left : (error : Error) (rest : Option (Leftover D g)) (left : Leftover D g)
-      → rest ≡ Some left → left_of rest error → (files : Files D) × A files × B files
-      × IsLeftOf files error left
-  files_left error rest left is h = subst (λ r. left_of r error) is h
+pub files_left : {D : Type 0} {g : Ghosts D} (image : Image) (error : Error) (rest :
+    Option (Leftover D g)) (left : Leftover D g) → rest ≡ Some left
+    → IfSome rest (FailsToConnect image error) → FailsToConnect image error left
+files_left image error rest left is h = subst (λ r. IfSome r (FailsToConnect image error)) is h
 
 -- since they hold no database
 pub no_database_left : {D : Type 0} {g : Ghosts D} (files : Files D) (error : Error) (code :

@@ -1,4 +1,5 @@
 //! Migrates stores in files.
+ghost use Rattle.named_files.specs.FileOpenings.{OpensFound};
 ghost use Rattle.sqlite.specs.Files.{file_state};
 ghost use Rattle.sqlite.specs.State.{HasCleanDisk};
 ghost use Rattle.sqlite.specs.WalFiles.{image_at};
@@ -10,10 +11,10 @@ ghost use Rattle.store_migration.specs.Migration.{
 };
 
 use crate::migrating::migrate_connection;
+use named_files::{NamedFiles, SystemFiles, connect_found};
 use sqlite::{Connection, Error, ErrorCode, FileStore, Leftover};
 use sqlite_std_file::{FileFrom, Start, Unknown};
 use std::alloc::Global;
-use std::fs;
 use store_schema::{FileRefusal, OpenFault, fault_of_first_leftover, open_fault_of};
 
 /// Returns why files are not migrated over which opening a connection failed with the error. `left`
@@ -36,6 +37,40 @@ fn fault_after<S: Start>(alloc: Global, error: Error, left: &mut Leftover<FileFr
 /// `Memory` if memory runs out; and with `Store` if there is no file or it can't be used: another
 /// process has it open, it has two names, or the disk fails. An error returns what is left of the
 /// files, if they were opened.
+pub fn migrate_in<S: Start, F: NamedFiles<S>>(
+    files: &mut F,
+    alloc: Global,
+    path: &str,
+    start: S,
+) -> Result<(u64, Connection<FileStore<FileFrom<S>>>), FileRefusal<S>>
+    // If something is at this path, one connection is opened to it; nothing else is asked.
+    ensures calls { OpensFound path.now result (F.log files.old) (F.log files.new) }
+    ensures migrates { IfOk result (λ done. HasCleanDisk (file_state done.1)
+        → MigratesFrom file_state (F.image files.old path.now) done.0 done.1) }
+
+    // The fault is right for what the file and its log held.
+    ensures refused { IfErr result (λ refused.
+        IsFileMigrationRefusal (F.image files.old path.now) refused.0 refused.1) }
+{
+    match connect_found(files, path, start) {
+        Ok(connection) => {
+            let mut conn = connection;
+            match migrate_connection(alloc, &mut conn) {
+                Ok(books) => Ok((books, conn)),
+                Err(fault) => Err((fault, Some(Leftover::Store(conn.into_store())))),
+            }
+        }
+        Err((error, Some(left))) => {
+            let mut left = left;
+            let fault = fault_after(alloc, error, &mut left);
+            Err((fault, Some(left)))
+        }
+        Err((error, None)) => Err((open_fault_of(error), None)),
+    }
+}
+
+/// `migrate_in` over the files of the system. What the file at the path held is what `start`
+/// represents.
 pub fn migrate_from<S: Start>(
     rt: &HostRuntime,
     path: &str,
@@ -48,25 +83,8 @@ pub fn migrate_from<S: Start>(
     ensures refused { IfErr result (λ refused.
         IsFileMigrationRefusal (image_at S.Start) refused.0 refused.1) }
 {
-    // Opening a connection would create the file.
-    if !fs::exists(rt, path).unwrap_or(false) {
-        return Err((OpenFault::Store, None));
-    }
-    match Connection::open_from(rt, path, false, start) {
-        Ok(connection) => {
-            let mut conn = connection;
-            match migrate_connection(rt.alloc(), &mut conn) {
-                Ok(books) => Ok((books, conn)),
-                Err(fault) => Err((fault, Some(Leftover::Store(conn.into_store())))),
-            }
-        }
-        Err((error, Some(left))) => {
-            let mut left = left;
-            let fault = fault_after(rt.alloc(), error, &mut left);
-            Err((fault, Some(left)))
-        }
-        Err((error, None)) => Err((open_fault_of(error), None)),
-    }
+    let mut files = SystemFiles::new(rt);
+    migrate_in(&mut files, rt.alloc(), path, start)
 }
 
 /// `migrate_from`, for a program that proves nothing about the contents of the file. Returns the

@@ -1,10 +1,8 @@
 use Rattle.sqlite.specs.Files.{file_state}
-use Rattle.sqlite.specs.WalFiles.{image_at}
-use Rattle.store_schema.proofs.LeftoverLemmas.{seen_alike}
 use Rattle.book_store.proofs.FileLemmas.{created_start}
 use Rattle.book_store.specs.PageSums.{has_page_sums}
-use Rattle.book_store.proofs.RefusalLemmas.{created_fault, fails_over, refused_kind}
-use Rattle.book_store.proofs.files.SqlStore+FileStore+FileFrom+S.create_from.Goals as goal
+use Rattle.book_store.proofs.RefusalLemmas.{created_fault, refused_kind}
+use Rattle.book_store.proofs.named_stores.SqlStore+FileStore+FileFrom+S.create_in.Goals as goal
 
 pub returns-in-Ok-try_adopt_new-clause-found : goal.returns-in-Ok-try_adopt_new-clause-found
 returns-in-Ok-try_adopt_new-clause-found g c =
@@ -19,12 +17,10 @@ returns-in-Err-try_adopt_new-clause-fault g c =
 
 pub returns-in-Err-try_adopt_new-clause-refused : goal.returns-in-Err-try_adopt_new-clause-refused
 returns-in-Err-try_adopt_new-clause-refused g c =
-    created_fault (image_at g.S.Start) c.in-Ok.connection c.in-Err-try_adopt_new.conn
+    created_fault _ c.in-Ok.connection c.in-Err-try_adopt_new.conn
     c.into_store.result c.in-Ok.ensures.opened c.in-Ok.ensures.found c.into_store.ensures.quiet
     c.in-Err-try_adopt_new.fault c.in-Err-try_adopt_new.ensures.refused
 
 pub returns-in-Err-clause-refused : goal.returns-in-Err-clause-refused
 returns-in-Err-clause-refused g c =
-    c.creation_refusal.ensures.refused (image_at g.S.Start) (fails_over _ _ (image_at g.S.Start)
-    c.in-Err.error c.in-Err.left c.in-Err.ensures.cause (λ files log db. seen_alike
-    g.S.Start.log g.S.Start.db log.0 log.1 db.0 db.1))
+    c.creation_refusal.ensures.refused _ c.in-Err.ensures.cause

@@ -1,0 +1,3 @@
+pub mod FileCalls
+pub mod Connections
+pub mod FileOpenings
