@@ -141,8 +141,8 @@ module _ {D : Type 0} {g : Ghosts D} where
       subst (HasPathCause image db fault) (sym it.1) (λ again. cause) clean
 
 -- the file wasn't refused as empty
-pub unless_vacant : {A L : Type 0} {P : OpenFault × Option L → Type 0}
-    (result : Result A (OpenFault × Option L)) → IfErr result P
-    → IfErr result (λ refused. IsUnlessVacant refused (P refused))
-unless_vacant (Ok value) h = tt
-unless_vacant (Err refused) h = inr h
+pub unless_vacant : {A L : Type 0} (result : Result A (OpenFault × Option L))
+    (Fact : OpenFault × Option L → Type 0) → IfErr result Fact
+    → IfErr result (λ refused. IsUnlessVacant refused (Fact refused))
+unless_vacant (Ok value) Fact h = tt
+unless_vacant (Err refused) Fact h = inr h

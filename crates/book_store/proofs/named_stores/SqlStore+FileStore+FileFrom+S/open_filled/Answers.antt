@@ -20,4 +20,6 @@ returns-in-Ok-false-clause-cause g c books holds =
     → (holds : HoldsStore (image c.args.path.now) books) → IfErr c.open_in.result (λ refused.
     HasPathCause (image c.args.path.now) (declared_over holds.trees) refused.0 refused.1))
     c.is_vacant.ensures.same c.open_in.ensures.cause in
-    unless_vacant c.open_in.result (causes books holds)
+    unless_vacant c.open_in.result (λ refused.
+    HasPathCause (g.F.NamedFiles.image c.args.files.now c.args.path.now)
+    (declared_over holds.trees) refused.0 refused.1) (causes books holds)
