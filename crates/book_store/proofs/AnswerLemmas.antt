@@ -25,15 +25,14 @@ use Rattle.store_tables.proofs.FailureLemmas.{outside_later}
 use Rattle.store_tables.proofs.SchemaCreationLemmas.{clean_before}
 use Rattle.store_rows.specs.TableBooks.{books_in, books_of}
 use Rattle.store_lookups.specs.CallResults.{FollowsStep, GivenCounts, GivenSoundRows}
-use Rattle.store_lookups.specs.ChangeFaults.{ChangeFaultsFromOutside, HaveFreeIds}
-use Rattle.store_lookups.specs.Faults.{IsDeniedFault}
+use Rattle.store_lookups.specs.ChangeFaults.{ChangeFaultsFromOutside}
 use Rattle.store_lookups.specs.StoreFaults.{FaultsFromOutside, HasOutsideCauseOfFault}
-use Rattle.store_lookups.specs.StoredBooks.{HoldCounts, IsOpenOnHonestDisk, IsCommittedAndSound}
+use Rattle.store_lookups.specs.StoredBooks.{HoldCounts}
 use Rattle.store_lookups.specs.StoredBooks.{KeepsCounts, stored_books}
-use Rattle.store_writes.specs.TableChanges.{AppliesStep, CommitsOnce, CommitsStep, StaysOpenOnOk}
+use Rattle.store_writes.specs.TableChanges.{AppliesStep, CommitsOnce, CommitsStep}
 use Rattle.store_writes.proofs.CallLemmas.{fault_does, read_before, read_keeps_sound}
 use Rattle.store_writes.proofs.TransactionFaults.{outside_sooner}
-use Rattle.book_store.specs.Answering.{IsOpenUnlessFault, IsTestFault, StandsOrFaults}
+use Rattle.book_store.specs.Answering.{IsOpenUnlessFault, StandsOrFaults}
 use Rattle.book_store.specs.StoreViews.{ChangesStore, IsStore, ReadsStore, StoreView}
 use Rattle.book_store.proofs.CountLemmas.{kept_counts, still_counts}
 use Rattle.book_store.proofs.StoreLemmas.{LeavesCommitted, changed_store, changes_outside}

@@ -1,5 +1,5 @@
 -- The books of a copy, also without some of them, and of the files of a store that was closed.
-use Rattle.std.proofs.Common.{◌≡◌, ◌<◌, ◌≤◌, ◌*◌, inl, inr, map, ℕ, ℤ, [], List, Bool, IsTrue}
+use Rattle.std.proofs.Common.{◌≡◌, ◌<◌, ◌≤◌, ◌*◌, map, ℕ, ℤ, [], List, Bool, IsTrue}
 use Rattle.std.proofs.Common.{Result, Ok, Err, IfOk, OnOk, refl, ap, sym, subst, ◌∙◌}
 use Rattle.std.specs.FinMap as finite
 use Rattle.std.specs.List.{AllByRecursion}

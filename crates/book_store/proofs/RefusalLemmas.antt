@@ -1,5 +1,5 @@
 -- Why no store was opened or created in files, by what they held.
-use Rattle.std.proofs.Common.{◌≡◌, ◌∙◌, ap, inl, inr, arith, IfSome, Option, Some, None, Ok, Err}
+use Rattle.std.proofs.Common.{◌≡◌, ◌∙◌, ap, inl, inr, arith, Some, Ok, Err}
 use Rattle.std.proofs.Common.{subst, sym}
 use Rattle.sqlite.specs.declared.error.Error.{Error}
 use Rattle.sqlite.specs.declared.error.Error.TheVariants.{SqliteFailure}
@@ -33,7 +33,7 @@ use Rattle.store_schema.specs.declared.open_fault.OpenFault.TheVariants.{Store, 
 use Rattle.store_schema.specs.declared.open_fault.OpenFault.TheVariants.{OtherSchema, Damaged}
 use Rattle.store_schema.specs.declared.open_fault.OpenFault.TheVariants.{NotEmpty, Memory}
 use Rattle.store_check.specs.OpenResults.{max_limits}
-use Rattle.book_store.specs.FileRefusals.{FailsOver, IsCreationFaultAfter, IsCreationRefusalAfter}
+use Rattle.book_store.specs.FileRefusals.{IsCreationFaultAfter, IsCreationRefusalAfter}
 use Rattle.book_store.specs.FileRefusals.{IsFileCreationFault, IsOpenFaultAfter, IsOpenRefusalAfter}
 use Rattle.book_store.specs.OpenOutcomes.{IsCreationRefusal, IsOpenRefusal}
 
