@@ -45,6 +45,21 @@ CARDS = [
         [],
     ),
     Converted(
+        "a tab is no control character: it stays in a text that is kept, and in an FN that is made",
+        card("3.0", "UID:a", "N:Lee\tX;Ann;;;", "no\tproperty", "TEL;HOME:1\t2"),
+        ["UID:a", "N:Lee\tX;Ann;;;", "X-UNREADABLE:no\tproperty", "TEL;TYPE=home:1\t2",
+         "FN:Ann Lee\tX"],
+        ["line 5: kept as X-UNREADABLE", "line 6: TEL rewritten", "line 1: FN added"],
+    ),
+    Converted(
+        "base64 beside another encoding, in either order: the octets are those of a PNG",
+        card("3.0", "UID:a", "FN:Ann", "PHOTO;ENCODING=b;ENCODING=8BIT:iVBORw==",
+             "LOGO;QUOTED-PRINTABLE;BASE64:iVBORw=="),
+        ["UID:a", "FN:Ann", "PHOTO:data:image/png;base64,iVBORw==",
+         "LOGO:data:image/png;base64,iVBORw=="],
+        ["line 5: PHOTO rewritten", "line 6: LOGO rewritten"],
+    ),
+    Converted(
         "an old telephone: quoted-printable with soft line breaks, and parameters without names",
         card(
             "2.1",
