@@ -21,11 +21,12 @@ from statistics import median
 
 from cards import card, uid
 from dav import HREF, PROPERTIES, TOKEN, XML, Peer, Radicale, xml
-from table import machine, octets
+from table import machine, octets, put_between
 from tosculai import ROOT, Tosculai, digest, find_program
 from wire import Failure, Wire, field
 
-PAGE, BEGIN, END = ROOT / "perf/README.md", "<!-- CardDAV begins. -->", "<!-- CardDAV ends. -->"
+PAGE = ROOT / "perf/README.md"
+BEGIN, END = "<!-- CardDAV begins. -->\n", "<!-- CardDAV ends. -->\n"
 PHONES, PHOTOS = 50, 500
 TICK = os.sysconf("SC_CLK_TCK")
 
@@ -271,13 +272,6 @@ def measure(count, few, folder):
     return report(count, days, more)
 
 
-def write(text):
-    """Puts the table into the page."""
-    page = PAGE.read_text(encoding="utf-8")
-    head, rest = page.split(BEGIN)
-    PAGE.write_text(f"{head}{BEGIN}\n\n{text}\n{END}{rest.split(END)[1]}", encoding="utf-8")
-
-
 def main():
     parser = argparse.ArgumentParser(description=__doc__.partition("\n")[0])
     parser.add_argument("--quick", action="store_true", help="200 cards and few calls")
@@ -290,7 +284,7 @@ def main():
             f"`{digest(find_program())[:16]}..`.\n\n" + measure(count, few, given.folder))
     print(text, end="")
     if given.write:
-        write(text)
+        put_between(PAGE, BEGIN, END, text)
     return 0
 
 

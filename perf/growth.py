@@ -23,7 +23,7 @@ sys.dont_write_bytecode = True
 
 from cards import rows, uid
 from instructions import CALLS, TIMES, count_run, have_valgrind
-from table import duration, instructions, machine, octets
+from table import duration, instructions, machine, octets, put_between
 from tosculai import BOOKS, ROOT, Tosculai, digest, find_program
 from wire import Failure
 
@@ -174,15 +174,6 @@ def count_cells(row, counts):
     return [row.title, *small, *large, f"{cards:,.2f}×", f"{books:,.2f}×"]
 
 
-def write(text):
-    """Puts the text into docs/OPERATING.md, between its two marks."""
-    before, begin, rest = PAGE.read_text(encoding="utf-8").partition(BEGIN)
-    _, end, after = rest.partition(END)
-    if not (begin and end):
-        raise Failure(f"{PAGE} lacks its marks")
-    PAGE.write_text(f"{before}{begin}\n{text}\n{end}{after}", encoding="utf-8")
-
-
 def main():
     parser = argparse.ArgumentParser(description=__doc__.partition("\n")[0])
     parser.add_argument("--write", action="store_true", help="put the table into OPERATING.md too")
@@ -197,7 +188,7 @@ def main():
         text = measure(old + [find_program()], options.folder)
         print(text, end="")
         if options.write:
-            write(text)
+            put_between(PAGE, BEGIN, END, text)
     except (Failure, OSError, SubprocessError) as failure:
         print(f"growth: {failure}", file=sys.stderr)
         return 1

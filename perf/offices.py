@@ -29,7 +29,7 @@ sys.dont_write_bytecode = True
 from cards import card, rows, uid
 from load import request
 from server import Server
-from table import duration, machine, octets
+from table import duration, machine, octets, put_between
 from tosculai import digest, find_program
 from wire import PATIENCE, Failure, Wire
 
@@ -228,15 +228,6 @@ def measure(offices, devices, seconds, folder):
             f"| --- | --- |\n{lines}")
 
 
-def write(text):
-    """Puts the table into README.md, between its two marks."""
-    before, begin, rest = PAGE.read_text(encoding="utf-8").partition(BEGIN)
-    _, end, after = rest.partition(END)
-    if not (begin and end):
-        raise Failure(f"{PAGE} lacks its marks")
-    PAGE.write_text(f"{before}{begin}\n{text}\n{end}{after}", encoding="utf-8")
-
-
 def main():
     parser = argparse.ArgumentParser(description=__doc__.partition("\n")[0])
     parser.add_argument("--offices", type=int, default=50, help="servers (%(default)s)")
@@ -251,7 +242,7 @@ def main():
             text = measure(given.offices, given.devices, 2 if given.quick else 10, folder)
         print(text, end="")
         if given.write:
-            write(text)
+            put_between(PAGE, BEGIN, END, text)
     except (Failure, OSError, SubprocessError) as failure:
         print(f"offices: {failure}", file=sys.stderr)
         return 1

@@ -7,6 +7,8 @@ from collections import namedtuple
 from datetime import date
 from statistics import median
 
+from wire import Failure
+
 # A column of the table: its heading, the column that its times are compared with or None, and
 # its figures, a dictionary for each round.
 Column = namedtuple("Column", "title base rounds")
@@ -94,6 +96,15 @@ def ratio(row, column):
         return ""
     times = median(ratios)
     return f", {times:,.0f}×" if times >= 10 else f", {times:,.1f}×"
+
+
+def put_between(page, begin, end, text):
+    """Puts the text into the page, between its two marks, each of which is a line."""
+    before, begin, rest = page.read_text(encoding="utf-8").partition(begin)
+    _, end, after = rest.partition(end)
+    if not (begin and end):
+        raise Failure(f"{page} lacks its marks")
+    page.write_text(f"{before}{begin}\n{text}\n{end}{after}", encoding="utf-8")
 
 
 def machine(folder):

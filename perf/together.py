@@ -23,7 +23,7 @@ sys.dont_write_bytecode = True
 from cards import rows
 from instructions import CALLS, TIMES, count_run, have_valgrind
 from load import FEEDS, Load, rate, request
-from table import duration, instructions, machine, octets
+from table import duration, instructions, machine, octets, put_between
 from tosculai import ROOT, Tosculai, digest, find_program
 from wire import Failure, Wire
 
@@ -236,15 +236,6 @@ def measure(plan, place, old, with_instructions):
     )
 
 
-def write(text):
-    """Puts the text into docs/OPERATING.md, between its two marks."""
-    before, begin, rest = PAGE.read_text(encoding="utf-8").partition(BEGIN)
-    _, end, after = rest.partition(END)
-    if not (begin and end):
-        raise Failure(f"{PAGE} lacks its marks")
-    PAGE.write_text(f"{before}{begin}\n{text}\n{end}{after}", encoding="utf-8")
-
-
 def report(line):
     print(line, file=sys.stderr, flush=True)
 
@@ -267,7 +258,7 @@ def main():
         text = measure(plan, options.folder, old, options.instructions)
         print(text, end="")
         if options.write:
-            write(text)
+            put_between(PAGE, BEGIN, END, text)
     except (Failure, OSError, SubprocessError) as failure:
         report(f"together: {failure}")
         return 1

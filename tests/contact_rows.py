@@ -135,7 +135,10 @@ EXPORTS = [
     ),
 ]
 
-# A title, a header and one row, and the lines of the card but UID and those that begin with X-.
+# Lines that many of these cards have.
+ANN = ["EMAIL:a@x.test", "FN:Ann Lee", "N:Lee;Ann;;;"]
+# A title, a header and one row, and the lines of the card but UID and those that begin with X-, in
+# any order.
 KNOWN_HEADERS = [
     (
         "a small one",
@@ -145,7 +148,7 @@ KNOWN_HEADERS = [
     (
         "a small one with names",
         "First Name,Last Name,Email,Mobile Phone,Company\nAnn,Lee,a@x.test,555,Acme\n",
-        ["EMAIL:a@x.test", "FN:Ann Lee", "N:Lee;Ann;;;", "ORG:Acme", "TEL;TYPE=cell:555"],
+        [*ANN, "ORG:Acme", "TEL;TYPE=cell:555"],
     ),
     (
         "Thunderbird in English",
@@ -156,26 +159,11 @@ KNOWN_HEADERS = [
         "Web Page 2,Birth Year,Birth Month,Birth Day,Custom 1,Notes\n"
         "Ann,Lee,Ann Lee,Annie,a@x.test,a2@x.test,,1,2,3,4,5,1 Main St,2nd floor,Town,IL,627,US,"
         "2 Main St,,City,IL,628,US,Boss,Sales,Acme,https://a.test,https://b.test,1980,4,15,,hi\n",
-        [
-            "ADR;TYPE=home:;2nd floor;1 Main St;Town;IL;627;US",
-            "ADR;TYPE=work:;;2 Main St;City;IL;628;US",
-            "BDAY:19800415",
-            "EMAIL:a2@x.test",
-            "EMAIL:a@x.test",
-            "FN:Ann Lee",
-            "N:Lee;Ann;;;",
-            "NICKNAME:Annie",
-            "NOTE:hi",
-            "ORG:Acme;Sales",
-            "TEL;TYPE=cell:5",
-            "TEL;TYPE=fax:3",
-            "TEL;TYPE=home:2",
-            "TEL;TYPE=pager:4",
-            "TEL;TYPE=work:1",
-            "TITLE:Boss",
-            "URL:https://a.test",
-            "URL;TYPE=home:https://b.test",
-        ],
+        [*ANN, "ADR;TYPE=home:;2nd floor;1 Main St;Town;IL;627;US",
+         "ADR;TYPE=work:;;2 Main St;City;IL;628;US", "BDAY:19800415", "EMAIL:a2@x.test",
+         "NICKNAME:Annie", "NOTE:hi", "ORG:Acme;Sales", "TEL;TYPE=cell:5", "TEL;TYPE=fax:3",
+         "TEL;TYPE=home:2", "TEL;TYPE=pager:4", "TEL;TYPE=work:1", "TITLE:Boss",
+         "URL:https://a.test", "URL;TYPE=home:https://b.test"],
     ),
     (
         "Thunderbird in German",
@@ -187,20 +175,9 @@ KNOWN_HEADERS = [
         "Geburtstag,Notizen\n"
         "Ann,Lee,Ann Lee,,a@x.test,,,1,2,3,,5,Weg 1,,Ort,,10115,DE,Platz 2,Stadt,10117,Leiterin,"
         "Einkauf,Acme,,1980,4,15,\n",
-        [
-            "ADR;TYPE=home:;;Weg 1;Ort;;10115;DE",
-            "ADR;TYPE=work:;;Platz 2;Stadt;;10117;",
-            "BDAY:19800415",
-            "EMAIL:a@x.test",
-            "FN:Ann Lee",
-            "N:Lee;Ann;;;",
-            "ORG:Acme;Einkauf",
-            "TEL;TYPE=cell:5",
-            "TEL;TYPE=fax:3",
-            "TEL;TYPE=home:2",
-            "TEL;TYPE=work:1",
-            "TITLE:Leiterin",
-        ],
+        [*ANN, "ADR;TYPE=home:;;Weg 1;Ort;;10115;DE", "ADR;TYPE=work:;;Platz 2;Stadt;;10117;",
+         "BDAY:19800415", "ORG:Acme;Einkauf", "TEL;TYPE=cell:5", "TEL;TYPE=fax:3",
+         "TEL;TYPE=home:2", "TEL;TYPE=work:1", "TITLE:Leiterin"],
     ),
     (
         "the users of Office 365",
@@ -209,17 +186,8 @@ KNOWN_HEADERS = [
         "Street address,Title,User principal name\n"
         "FALSE,Town,US,Sales,Ann Lee,3,Ann,Lee,5,1-2-3,B12,1,627,SMTP:a@x.test,IL,1 Main St,Boss,"
         "a@x.test\n",
-        [
-            "ADR;TYPE=work:;;1 Main St;Town;IL;627;US",
-            "EMAIL:a@x.test",
-            "FN:Ann Lee",
-            "N:Lee;Ann;;;",
-            "ORG:;Sales",
-            "TEL;TYPE=cell:5",
-            "TEL;TYPE=work,fax:3",
-            "TEL;TYPE=work:1",
-            "TITLE:Boss",
-        ],
+        [*ANN, "ADR;TYPE=work:;;1 Main St;Town;IL;627;US", "ORG:;Sales", "TEL;TYPE=cell:5",
+         "TEL;TYPE=work,fax:3", "TEL;TYPE=work:1", "TITLE:Boss"],
     ),
     (
         "Outlook in German",
@@ -275,20 +243,13 @@ KNOWN_HEADERS = [
         "LinkedIn",
         "First Name,Last Name,URL,Email Address,Company,Position,Connected On\n"
         "Ann,Lee,https://a.test,a@x.test,Acme,Boss,15 Apr 2020\n",
-        [
-            "EMAIL:a@x.test",
-            "FN:Ann Lee",
-            "N:Lee;Ann;;;",
-            "ORG:Acme",
-            "TITLE:Boss",
-            "URL:https://a.test",
-        ],
+        [*ANN, "ORG:Acme", "TITLE:Boss", "URL:https://a.test"],
     ),
     (
         "HubSpot",
         "Record ID,First Name,Last Name,Email,Phone Number,Company name,Lead Status\n"
         "12,Ann,Lee,a@x.test,1,Acme,New\n",
-        ["EMAIL:a@x.test", "FN:Ann Lee", "N:Lee;Ann;;;", "ORG:Acme", "TEL:1"],
+        [*ANN, "ORG:Acme", "TEL:1"],
     ),
     (
         "Google in German",
@@ -306,7 +267,7 @@ KNOWN_HEADERS = [
     (
         "given names beside names",
         "Name,Vorname,Telefon,E-Mail\nLee,Ann,1,a@x.test\n",
-        ["EMAIL:a@x.test", "FN:Ann Lee", "N:Lee;Ann;;;", "TEL:1"],
+        [*ANN, "TEL:1"],
     ),
     (
         "the users of Office 365 in the centre of today",
@@ -314,17 +275,8 @@ KNOWN_HEADERS = [
         "Mobile Phone,Object Id,Office,Phone number,Postal code,State,Street address,Title,"
         "User principal name\n"
         "FALSE,Town,US,Sales,Ann Lee,3,Ann,Lee,5,1-2-3,B12,1,627,IL,1 Main St,Boss,a@x.test\n",
-        [
-            "ADR;TYPE=work:;;1 Main St;Town;IL;627;US",
-            "EMAIL:a@x.test",
-            "FN:Ann Lee",
-            "N:Lee;Ann;;;",
-            "ORG:;Sales",
-            "TEL;TYPE=cell:5",
-            "TEL;TYPE=work,fax:3",
-            "TEL;TYPE=work:1",
-            "TITLE:Boss",
-        ],
+        [*ANN, "ADR;TYPE=work:;;1 Main St;Town;IL;627;US", "ORG:;Sales", "TEL;TYPE=cell:5",
+         "TEL;TYPE=work,fax:3", "TEL;TYPE=work:1", "TITLE:Boss"],
     ),
     (
         "the template for users of Office 365",
@@ -332,18 +284,8 @@ KNOWN_HEADERS = [
         "Office Phone,Mobile Phone,Fax,Alternate email address,Address,City,State or Province,"
         "ZIP or Postal Code,Country or Region\n"
         "a@x.test,Ann,Lee,Ann Lee,Boss,Sales,B12,1,5,3,a2@x.test,1 Main St,Town,IL,627,US\n",
-        [
-            "ADR:;;1 Main St;Town;IL;627;US",
-            "EMAIL:a2@x.test",
-            "EMAIL:a@x.test",
-            "FN:Ann Lee",
-            "N:Lee;Ann;;;",
-            "ORG:;Sales",
-            "TEL;TYPE=cell:5",
-            "TEL;TYPE=fax:3",
-            "TEL;TYPE=work:1",
-            "TITLE:Boss",
-        ],
+        [*ANN, "ADR:;;1 Main St;Town;IL;627;US", "EMAIL:a2@x.test", "ORG:;Sales",
+         "TEL;TYPE=cell:5", "TEL;TYPE=fax:3", "TEL;TYPE=work:1", "TITLE:Boss"],
     ),
     (
         "a job beside a name",
@@ -353,7 +295,7 @@ KNOWN_HEADERS = [
     (
         "a job beside a company, as Apollo, Yahoo and ZoomInfo have it",
         "First Name,Last Name,Title,Company,Email\nAnn,Lee,CEO,Acme,a@x.test\n",
-        ["EMAIL:a@x.test", "FN:Ann Lee", "N:Lee;Ann;;;", "ORG:Acme", "TITLE:CEO"],
+        [*ANN, "ORG:Acme", "TITLE:CEO"],
     ),
     (
         "Salesforce: the salutation is another column",
@@ -411,15 +353,8 @@ KNOWN_HEADERS = [
         "First,Last,Email,Title,Company,Home Address,Home City,Home State,Home ZIP,Home Country,"
         "Work Address,Work City,Work State,Work ZIP,Work Country\n"
         "Ann,Lee,a@x.test,Boss,Acme,1 Main St,Town,IL,627,US,2 Main St,City,IL,628,US\n",
-        [
-            "ADR;TYPE=home:;;1 Main St;Town;IL;627;US",
-            "ADR;TYPE=work:;;2 Main St;City;IL;628;US",
-            "EMAIL:a@x.test",
-            "FN:Ann Lee",
-            "N:Lee;Ann;;;",
-            "ORG:Acme",
-            "TITLE:Boss",
-        ],
+        [*ANN, "ADR;TYPE=home:;;1 Main St;Town;IL;627;US",
+         "ADR;TYPE=work:;;2 Main St;City;IL;628;US", "ORG:Acme", "TITLE:Boss"],
     ),
     (
         "labels that are types, in English and German",
@@ -442,31 +377,24 @@ KNOWN_HEADERS = [
         "Outlook's main and primary numbers",
         "First Name,Last Name,E-mail Address,Business Phone,Company Main Phone,Primary Phone,"
         "Other Phone\nAnn,Lee,a@x.test,1,2,3,4\n",
-        ["EMAIL:a@x.test", "FN:Ann Lee", "N:Lee;Ann;;;", "TEL:4", "TEL;TYPE=work,x-main:2",
-         "TEL;TYPE=work:1", "TEL;TYPE=x-primary:3"],
+        [*ANN, "TEL:4", "TEL;TYPE=work,x-main:2", "TEL;TYPE=work:1", "TEL;TYPE=x-primary:3"],
     ),
     (
         "a year of zeros",
         "First Name,Last Name,Birthday,Anniversary,E-mail Address\n"
         "Ann,Lee,0000-04-15,15.04.0000,a@x.test\n",
-        ["ANNIVERSARY:--0415", "BDAY:--0415", "EMAIL:a@x.test", "FN:Ann Lee", "N:Lee;Ann;;;"],
+        [*ANN, "ANNIVERSARY:--0415", "BDAY:--0415"],
     ),
     (
         "a birthday without its year in three columns",
         "First Name,Last Name,Primary Email,Birth Year,Birth Month,Birth Day\n"
         "Ann,Lee,a@x.test,,4,15\n",
-        ["BDAY:--0415", "EMAIL:a@x.test", "FN:Ann Lee", "N:Lee;Ann;;;"],
+        [*ANN, "BDAY:--0415"],
     ),
     (
         "a partner in German",
         "Vorname,Nachname,E-Mail-Adresse,Partner,Kinder\nAnn,Lee,a@x.test,Bo,Cy\n",
-        [
-            "EMAIL:a@x.test",
-            "FN:Ann Lee",
-            "N:Lee;Ann;;;",
-            "RELATED;TYPE=child;VALUE=text:Cy",
-            "RELATED;TYPE=spouse;VALUE=text:Bo",
-        ],
+        [*ANN, "RELATED;TYPE=child;VALUE=text:Cy", "RELATED;TYPE=spouse;VALUE=text:Bo"],
     ),
     (
         "a whole name beside its parts, in German",
@@ -476,12 +404,12 @@ KNOWN_HEADERS = [
     (
         "family names that are called names",
         "Name,First Name,Email\nLee,Ann,a@x.test\n",
-        ["EMAIL:a@x.test", "FN:Ann Lee", "N:Lee;Ann;;;"],
+        ANN,
     ),
     (
         "given names that are called names",
         "Surname,Name,Email\nLee,Ann,a@x.test\n",
-        ["EMAIL:a@x.test", "FN:Ann Lee", "N:Lee;Ann;;;"],
+        ANN,
     ),
     (
         "a place beside cities, in the German of Outlook",

@@ -35,13 +35,18 @@ def added_uid(octets):
     return uuid.UUID(bytes=digest[:16], version=5).urn
 
 
+def of_ann(title, version, lines, becomes, report):
+    """A card whose UID and FN stay: its first line after them is line 5."""
+    first = ["UID:a", "FN:Ann"]
+    return Converted(title, card(version, *first, *lines), [*first, *becomes], report)
+
+
 CARDS = [
-    Converted(
+    of_ann(
         "vCard 4.0 stays as it is",
-        card("4.0", "UID:a", "FN:Ann", "TEL;VALUE=uri;TYPE=\"voice,home\":tel:+1-555-555-5555",
-             "KEY;X-A=\"b\":1"),
-        ["UID:a", "FN:Ann", "TEL;VALUE=uri;TYPE=\"voice,home\":tel:+1-555-555-5555",
-         "KEY;X-A=\"b\":1"],
+        "4.0",
+        ["TEL;VALUE=uri;TYPE=\"voice,home\":tel:+1-555-555-5555", "KEY;X-A=\"b\":1"],
+        ["TEL;VALUE=uri;TYPE=\"voice,home\":tel:+1-555-555-5555", "KEY;X-A=\"b\":1"],
         [],
     ),
     Converted(
@@ -51,12 +56,11 @@ CARDS = [
          "FN:Ann Lee\tX"],
         ["line 5: kept as X-UNREADABLE", "line 6: TEL rewritten", "line 1: FN added"],
     ),
-    Converted(
+    of_ann(
         "base64 beside another encoding, in either order: the octets are those of a PNG",
-        card("3.0", "UID:a", "FN:Ann", "PHOTO;ENCODING=b;ENCODING=8BIT:iVBORw==",
-             "LOGO;QUOTED-PRINTABLE;BASE64:iVBORw=="),
-        ["UID:a", "FN:Ann", "PHOTO:data:image/png;base64,iVBORw==",
-         "LOGO:data:image/png;base64,iVBORw=="],
+        "3.0",
+        ["PHOTO;ENCODING=b;ENCODING=8BIT:iVBORw==", "LOGO;QUOTED-PRINTABLE;BASE64:iVBORw=="],
+        ["PHOTO:data:image/png;base64,iVBORw==", "LOGO:data:image/png;base64,iVBORw=="],
         ["line 5: PHOTO rewritten", "line 6: LOGO rewritten"],
     ),
     Converted(
@@ -76,11 +80,11 @@ CARDS = [
         ["line 4: N rewritten", "line 5: FN rewritten", "line 7: TEL rewritten",
          "line 8: TEL rewritten", "line 9: X-PHONE rewritten"],
     ),
-    Converted(
+    of_ann(
         "a photograph of vCard 2.1, which ends with an empty line",
-        card("2.1", "UID:a", "FN:Ann", "PHOTO;PNG;ENCODING=BASE64:", " " + PNG[:40],
-             " " + PNG[40:], "", "TEL:1"),
-        ["UID:a", "FN:Ann", "PHOTO:data:image/png;base64," + PNG, "TEL:1"],
+        "2.1",
+        ["PHOTO;PNG;ENCODING=BASE64:", " " + PNG[:40], " " + PNG[40:], "", "TEL:1"],
+        ["PHOTO:data:image/png;base64," + PNG, "TEL:1"],
         ["line 5: PHOTO rewritten"],
     ),
     Converted(
@@ -100,11 +104,12 @@ CARDS = [
         ["line 5: TEL rewritten", "line 6: BDAY rewritten", "line 7: CLASS kept as X-CLASS",
          "line 8: REV rewritten"],
     ),
-    Converted(
+    of_ann(
         "a telephone of Apple: groups with labels, and a photograph",
-        card("3.0", "UID:a", "FN:Ann", "item1.EMAIL:a@example.test",
-             "item1.X-ABLABEL:_$!<Work>!$_", "PHOTO;ENCODING=b;TYPE=PNG:" + PNG),
-        ["UID:a", "FN:Ann", "item1.EMAIL:a@example.test", "item1.X-ABLABEL:_$!<Work>!$_",
+        "3.0",
+        ["item1.EMAIL:a@example.test", "item1.X-ABLABEL:_$!<Work>!$_",
+         "PHOTO;ENCODING=b;TYPE=PNG:" + PNG],
+        ["item1.EMAIL:a@example.test", "item1.X-ABLABEL:_$!<Work>!$_",
          "PHOTO:data:image/png;base64," + PNG],
         ["line 7: PHOTO rewritten"],
     ),
@@ -115,48 +120,47 @@ CARDS = [
         ["UID:g", "FN:Group", "KIND:group", "MEMBER:urn:uuid:x"],
         ["line 5: X-ADDRESSBOOKSERVER-KIND renamed", "line 6: X-ADDRESSBOOKSERVER-MEMBER renamed"],
     ),
-    Converted(
+    of_ann(
         "a label, which vCard 4.0 has as a parameter",
-        card("3.0", "UID:a", "FN:Ann", "LABEL;TYPE=home:1 Park Lane\\nLondon"),
-        ["UID:a", "FN:Ann", "ADR;TYPE=home;LABEL=\"1 Park Lane^nLondon\":;;;;;;"],
+        "3.0",
+        ["LABEL;TYPE=home:1 Park Lane\\nLondon"],
+        ["ADR;TYPE=home;LABEL=\"1 Park Lane^nLondon\":;;;;;;"],
         ["line 5: LABEL renamed"],
     ),
-    Converted(
+    of_ann(
         "labels go onto the addresses of their types, in order, also of those that come later; one "
         "too many is an address of its own",
-        card("3.0", "UID:a", "FN:Ann", "LABEL;TYPE=work:W1", "ADR;TYPE=HOME:;;h1;;;;",
-             "ADR;TYPE=work,pref:;;w1;;;;", "item1.ADR;TYPE=dom,work:;;w2;;;;",
-             "ADR;TYPE=work;LABEL=own:;;w3;;;;", "LABEL;TYPE=HOME,postal:H1",
-             "LABEL;TYPE=work:W2\\nTown", "LABEL;TYPE=work:W3", "LABEL:O"),
-        ["UID:a", "FN:Ann", "ADR;TYPE=home;LABEL=\"H1\":;;h1;;;;",
-         "ADR;TYPE=work;PREF=1;LABEL=\"W1\":;;w1;;;;",
-         "item1.ADR;TYPE=dom,work;LABEL=\"W2^nTown\":;;w2;;;;",
-         "ADR;TYPE=work;LABEL=own:;;w3;;;;", "ADR;TYPE=work;LABEL=\"W3\":;;;;;;",
-         "ADR;LABEL=\"O\":;;;;;;"],
+        "3.0",
+        ["LABEL;TYPE=work:W1", "ADR;TYPE=HOME:;;h1;;;;", "ADR;TYPE=work,pref:;;w1;;;;",
+         "item1.ADR;TYPE=dom,work:;;w2;;;;", "ADR;TYPE=work;LABEL=own:;;w3;;;;",
+         "LABEL;TYPE=HOME,postal:H1", "LABEL;TYPE=work:W2\\nTown", "LABEL;TYPE=work:W3", "LABEL:O"],
+        ["ADR;TYPE=home;LABEL=\"H1\":;;h1;;;;", "ADR;TYPE=work;PREF=1;LABEL=\"W1\":;;w1;;;;",
+         "item1.ADR;TYPE=dom,work;LABEL=\"W2^nTown\":;;w2;;;;", "ADR;TYPE=work;LABEL=own:;;w3;;;;",
+         "ADR;TYPE=work;LABEL=\"W3\":;;;;;;", "ADR;LABEL=\"O\":;;;;;;"],
         ["line 5: LABEL joined to its ADR", "line 6: ADR given a LABEL",
          "line 7: ADR given a LABEL", "line 8: ADR given a LABEL",
-         "line 10: LABEL joined to its ADR",
-         "line 11: LABEL joined to its ADR", "line 12: LABEL renamed", "line 13: LABEL renamed"],
+         "line 10: LABEL joined to its ADR", "line 11: LABEL joined to its ADR",
+         "line 12: LABEL renamed", "line 13: LABEL renamed"],
     ),
-    Converted(
+    of_ann(
         "a label with a group, or with more than its types, is an address of its own",
-        card("3.0", "UID:a", "FN:Ann", "ADR;TYPE=home:;;h1;;;;", "item1.LABEL;TYPE=home:H1",
-             "LABEL;TYPE=home;LANGUAGE=de:H2", "LABEL;TYPE=home;VALUE=text:H3"),
-        ["UID:a", "FN:Ann", "ADR;TYPE=home;LABEL=\"H3\":;;h1;;;;",
-         "item1.ADR;TYPE=home;LABEL=\"H1\":;;;;;;",
+        "3.0",
+        ["ADR;TYPE=home:;;h1;;;;", "item1.LABEL;TYPE=home:H1", "LABEL;TYPE=home;LANGUAGE=de:H2",
+         "LABEL;TYPE=home;VALUE=text:H3"],
+        ["ADR;TYPE=home;LABEL=\"H3\":;;h1;;;;", "item1.ADR;TYPE=home;LABEL=\"H1\":;;;;;;",
          "ADR;TYPE=home;LANGUAGE=de;LABEL=\"H2\":;;;;;;"],
         ["line 5: ADR given a LABEL", "line 6: LABEL renamed", "line 7: LABEL renamed",
          "line 8: LABEL joined to its ADR"],
     ),
-    Converted(
+    of_ann(
         "a label with a group or with parameters belongs to the address that has the same",
-        card("3.0", "UID:a", "FN:Ann", "item1.ADR;TYPE=home:;;h1;;;;",
-             "ADR;TYPE=home;LANGUAGE=de:;;h2;;;;", "ADR;TYPE=home:;;h3;;;;",
-             "LABEL;TYPE=home:H3", "LABEL;TYPE=home;LANGUAGE=de:H2", "item1.LABEL;TYPE=home:H1",
-             "item1.LABEL;TYPE=work:W"),
-        ["UID:a", "FN:Ann", "item1.ADR;TYPE=home;LABEL=\"H1\":;;h1;;;;",
-         "ADR;TYPE=home;LANGUAGE=de;LABEL=\"H2\":;;h2;;;;",
-         "ADR;TYPE=home;LABEL=\"H3\":;;h3;;;;", "item1.ADR;TYPE=work;LABEL=\"W\":;;;;;;"],
+        "3.0",
+        ["item1.ADR;TYPE=home:;;h1;;;;", "ADR;TYPE=home;LANGUAGE=de:;;h2;;;;",
+         "ADR;TYPE=home:;;h3;;;;", "LABEL;TYPE=home:H3", "LABEL;TYPE=home;LANGUAGE=de:H2",
+         "item1.LABEL;TYPE=home:H1", "item1.LABEL;TYPE=work:W"],
+        ["item1.ADR;TYPE=home;LABEL=\"H1\":;;h1;;;;",
+         "ADR;TYPE=home;LANGUAGE=de;LABEL=\"H2\":;;h2;;;;", "ADR;TYPE=home;LABEL=\"H3\":;;h3;;;;",
+         "item1.ADR;TYPE=work;LABEL=\"W\":;;;;;;"],
         ["line 5: ADR given a LABEL", "line 6: ADR given a LABEL", "line 7: ADR given a LABEL",
          "line 8: LABEL joined to its ADR", "line 9: LABEL joined to its ADR",
          "line 10: LABEL joined to its ADR", "line 11: LABEL renamed"],
@@ -190,16 +194,18 @@ CARDS = [
          "line 1: FN has U+FFFD in place of characters that couldn't be read",
          "line 1: read as Windows-1252: 2 lines that aren't UTF-8"],
     ),
-    Converted(
+    of_ann(
         "a line that is no property is kept",
-        card("3.0", "UID:a", "FN:Ann", "no property"),
-        ["UID:a", "FN:Ann", "X-UNREADABLE:no property"],
+        "3.0",
+        ["no property"],
+        ["X-UNREADABLE:no property"],
         ["line 5: kept as X-UNREADABLE"],
     ),
-    Converted(
+    of_ann(
         "the second UID, and a member outside a group",
-        card("4.0", "UID:a", "FN:Ann", "UID:b", "MEMBER:c"),
-        ["UID:a", "FN:Ann", "X-UID:b", "X-MEMBER:c"],
+        "4.0",
+        ["UID:b", "MEMBER:c"],
+        ["X-UID:b", "X-MEMBER:c"],
         ["line 5: UID kept as X-UID", "line 6: MEMBER kept as X-MEMBER"],
     ),
     Converted(
@@ -208,11 +214,11 @@ CARDS = [
         ["UID:a", "N:Low;Bob;;;", "EMAIL:b@example.test", "FN:Bob Low"],
         ["line 1: FN added"],
     ),
-    Converted(
+    of_ann(
         "iOS: a birthday without a year; vCard 3.0 has the latitude first",
-        card("3.0", "UID:a", "FN:Ann", "BDAY;X-APPLE-OMIT-YEAR=1604;VALUE=date:1604-04-12",
-             "GEO:37.386013;-122.082932"),
-        ["UID:a", "FN:Ann", "BDAY:--0412", "GEO:geo:37.386013,-122.082932"],
+        "3.0",
+        ["BDAY;X-APPLE-OMIT-YEAR=1604;VALUE=date:1604-04-12", "GEO:37.386013;-122.082932"],
+        ["BDAY:--0412", "GEO:geo:37.386013,-122.082932"],
         ["line 5: BDAY rewritten", "line 6: GEO rewritten"],
     ),
     Converted(
@@ -223,10 +229,11 @@ CARDS = [
          "ANNIVERSARY;X-APPLE-OMIT-YEAR=1604:20040501", "GEO:37.386013,-122.082932"],
         ["line 5: X-ANNIVERSARY rewritten", "line 6: ANNIVERSARY rewritten"],
     ),
-    Converted(
+    of_ann(
         "vCard 2.1 has the longitude first",
-        card("2.1", "UID:a", "FN:Ann", "GEO:37.24,-17.87", "GEO:geo:-17.87,37.24"),
-        ["UID:a", "FN:Ann", "GEO:geo:-17.87,37.24", "GEO:geo:-17.87,37.24"],
+        "2.1",
+        ["GEO:37.24,-17.87", "GEO:geo:-17.87,37.24"],
+        ["GEO:geo:-17.87,37.24", "GEO:geo:-17.87,37.24"],
         ["line 5: GEO rewritten"],
     ),
     Converted(
@@ -404,13 +411,13 @@ CARDS = [
          "line 8: ROLE rewritten", "line 9: TEL rewritten",
          "line 1: read as Windows-1252: 2 lines that aren't UTF-8"],
     ),
-    Converted(
+    of_ann(
         "a year of zeros is none",
-        card("3.0", "UID:a", "FN:Ann", "BDAY:0000-04-15", "ANNIVERSARY:00000501",
-             "X-ANNIVERSARY:0000-06-01", "BDAY;VALUE=text:0000-04-15", "BDAY:2000-04-15",
-             "NOTE:0000-04-15"),
-        ["UID:a", "FN:Ann", "BDAY:--0415", "ANNIVERSARY:--0501", "X-ANNIVERSARY:--0601",
-         "BDAY;VALUE=text:0000-04-15", "BDAY:20000415", "NOTE:0000-04-15"],
+        "3.0",
+        ["BDAY:0000-04-15", "ANNIVERSARY:00000501", "X-ANNIVERSARY:0000-06-01",
+         "BDAY;VALUE=text:0000-04-15", "BDAY:2000-04-15", "NOTE:0000-04-15"],
+        ["BDAY:--0415", "ANNIVERSARY:--0501", "X-ANNIVERSARY:--0601", "BDAY;VALUE=text:0000-04-15",
+         "BDAY:20000415", "NOTE:0000-04-15"],
         ["line 5: BDAY rewritten", "line 6: ANNIVERSARY rewritten",
          "line 7: X-ANNIVERSARY rewritten", "line 9: BDAY rewritten"],
     ),
@@ -450,31 +457,24 @@ CARDS = [
         ["line 3: MEMBER kept as X-MEMBER", "line 6: END kept as X-END", "line 1: FN added",
          "line 1: UID added"],
     ),
-    Converted(
+    of_ann(
         "quoted-printable (RFC 2045, section 6.7, rules 1 and 5, notes 1 and 2); a form feed, "
         "which no card may have, is a space",
-        card(
-            "2.1",
-            "UID:a",
-            "FN:Ann",
-            "NOTE;QUOTED-PRINTABLE:Now's the time =",
-            "for all folk to come=",
-            " to the aid of their country.",
-            "NOTE;QUOTED-PRINTABLE:=0C=3D",
-            "NOTE;QUOTED-PRINTABLE:=4g=C3=bc=4",
-        ),
-        ["UID:a", "FN:Ann",
-         "NOTE:Now's the time for all folk to come to the aid of their country.", "NOTE: =",
+        "2.1",
+        ["NOTE;QUOTED-PRINTABLE:Now's the time =", "for all folk to come=",
+         " to the aid of their country.", "NOTE;QUOTED-PRINTABLE:=0C=3D",
+         "NOTE;QUOTED-PRINTABLE:=4g=C3=bc=4"],
+        ["NOTE:Now's the time for all folk to come to the aid of their country.", "NOTE: =",
          "NOTE:=4gü=4"],
         ["line 5: NOTE rewritten", "line 8: NOTE lost control characters",
          "line 9: NOTE rewritten"],
     ),
-    Converted(
+    of_ann(
         "the folded line of RFC 6350, section 3.2, and a word that a fold cuts",
-        card("3.0", "UID:a", "FN:Ann", "NOTE:This is a long description",
-             "  that exists on a long line.", "NOTE;QUOTED-", " PRINTABLE:a=", "b"),
-        ["UID:a", "FN:Ann", "NOTE:This is a long description that exists on a long line.",
-         "NOTE:ab"],
+        "3.0",
+        ["NOTE:This is a long description", "  that exists on a long line.", "NOTE;QUOTED-",
+         " PRINTABLE:a=", "b"],
+        ["NOTE:This is a long description that exists on a long line.", "NOTE:ab"],
         ["line 7: NOTE rewritten"],
     ),
     Converted(
@@ -515,49 +515,51 @@ CARDS = [
         ["UID:a", "FN:", "FN:Ann", "N:Lee;Pat"],
         [],
     ),
-    Converted(
+    of_ann(
         "a line break of CR alone, of LF alone and of both",
-        card("2.1", "UID:a", "FN:Ann",
-             "NOTE;ENCODING=QUOTED-PRINTABLE:a=0Db=0Ac=0D=0Ad=0A=0De=0D=0D"),
-        ["UID:a", "FN:Ann", "NOTE:a\\nb\\nc\\nd\\n\\ne\\n\\n"],
+        "2.1",
+        ["NOTE;ENCODING=QUOTED-PRINTABLE:a=0Db=0Ac=0D=0Ad=0A=0De=0D=0D"],
+        ["NOTE:a\\nb\\nc\\nd\\n\\ne\\n\\n"],
         ["line 5: NOTE rewritten"],
     ),
-    Converted(
+    of_ann(
         "a backslash before a character that RFC 2426 (section 5) doesn't escape",
-        card("3.0", "UID:a", "FN:Ann", "NOTE:C:\\Users\\bob", "TITLE:1\\:2\\\\3"),
-        ["UID:a", "FN:Ann", "NOTE:C:\\\\Users\\\\bob", "TITLE:1:2\\\\3"],
+        "3.0",
+        ["NOTE:C:\\Users\\bob", "TITLE:1\\:2\\\\3"],
+        ["NOTE:C:\\\\Users\\\\bob", "TITLE:1:2\\\\3"],
         ["line 5: NOTE rewritten", "line 6: TITLE rewritten"],
     ),
-    Converted(
+    of_ann(
         "a caret in a parameter: RFC 6868 (section 3.1) writes it twice",
-        card("3.0", "UID:a", "FN:Ann", "ADR;X-A=\"1^n2\";X-B=^:;;;;;;"),
-        ["UID:a", "FN:Ann", "ADR;X-A=\"1^^n2\";X-B=^^:;;;;;;"],
+        "3.0",
+        ["ADR;X-A=\"1^n2\";X-B=^:;;;;;;"],
+        ["ADR;X-A=\"1^^n2\";X-B=^^:;;;;;;"],
         ["line 5: ADR rewritten"],
     ),
-    Converted(
+    of_ann(
         "a line of vCard 2.1 that Qt cut at 76 octets: the space before the rest isn't the "
         "value's, but a second one is",
-        card("2.1", "UID:a", "FN:Ann", "NOTE:" + LONG_WORD[:71], " " + LONG_WORD[71:146],
-             " " + LONG_WORD[146:], "TITLE:" + LONG_WORD[:70], "  " + LONG_WORD),
-        ["UID:a", "FN:Ann", "NOTE:" + LONG_WORD, "TITLE:" + LONG_WORD[:70] + " " + LONG_WORD],
+        "2.1",
+        ["NOTE:" + LONG_WORD[:71], " " + LONG_WORD[71:146], " " + LONG_WORD[146:],
+         "TITLE:" + LONG_WORD[:70], "  " + LONG_WORD],
+        ["NOTE:" + LONG_WORD, "TITLE:" + LONG_WORD[:70] + " " + LONG_WORD],
         [],
     ),
-    Converted(
+    of_ann(
         "a card of vCard 2.1 in which one line is folded that isn't full: each is folded at white "
         "space, which the values keep",
-        card("2.1", "UID:a", "FN:Ann", "NOTE:" + LONG_WORD[:71], " " + LONG_WORD,
-             "TITLE:Head", " of sales"),
-        ["UID:a", "FN:Ann", "NOTE:" + LONG_WORD[:71] + " " + LONG_WORD, "TITLE:Head of sales"],
+        "2.1",
+        ["NOTE:" + LONG_WORD[:71], " " + LONG_WORD, "TITLE:Head", " of sales"],
+        ["NOTE:" + LONG_WORD[:71] + " " + LONG_WORD, "TITLE:Head of sales"],
         [],
     ),
-    Converted(
+    of_ann(
         "a photo that is cut at 72 octets tells nothing of the text beside it, which is cut at 76: "
         "its words stay whole, before and after the photo",
-        card("2.1", "UID:a", "FN:Ann", "URL:https://" + LONG_WORD[:64], " " + LONG_WORD[64:],
-             "PHOTO;ENCODING=BASE64;JPEG:", " " + PNG[:72], " " + PNG[72:], "",
-             "NOTE:" + LONG_WORD[:71], " " + LONG_WORD[71:]),
-        ["UID:a", "FN:Ann", "URL:https://" + LONG_WORD, "PHOTO:data:image/jpeg;base64," + PNG,
-         "NOTE:" + LONG_WORD],
+        "2.1",
+        ["URL:https://" + LONG_WORD[:64], " " + LONG_WORD[64:], "PHOTO;ENCODING=BASE64;JPEG:",
+         " " + PNG[:72], " " + PNG[72:], "", "NOTE:" + LONG_WORD[:71], " " + LONG_WORD[71:]],
+        ["URL:https://" + LONG_WORD, "PHOTO:data:image/jpeg;base64," + PNG, "NOTE:" + LONG_WORD],
         ["line 7: PHOTO rewritten"],
     ),
     Converted(
@@ -571,33 +573,35 @@ CARDS = [
          "LOGO:data:image/png;base64," + PNG, "TITLE:Head of:  sales", "NOTE:" + LONG_WORD],
         ["line 5: PHOTO rewritten", "line 8: LOGO rewritten", "line 11: TITLE rewritten"],
     ),
-    Converted(
+    of_ann(
         "a photo that is cut at 76 octets tells nothing either: a title that is folded at a space "
         "keeps it, and so does the note",
-        card("2.1", "UID:a", "FN:Ann", "PHOTO;ENCODING=BASE64;PNG:" + PNG[:50], " " + PNG[50:], "",
-             "TITLE:Head", " of sales", "NOTE:" + LONG_WORD[:71], " " + LONG_WORD[:30]),
-        ["UID:a", "FN:Ann", "PHOTO:data:image/png;base64," + PNG, "TITLE:Head of sales",
+        "2.1",
+        ["PHOTO;ENCODING=BASE64;PNG:" + PNG[:50], " " + PNG[50:], "", "TITLE:Head", " of sales",
+         "NOTE:" + LONG_WORD[:71], " " + LONG_WORD[:30]],
+        ["PHOTO:data:image/png;base64," + PNG, "TITLE:Head of sales",
          "NOTE:" + LONG_WORD[:71] + " " + LONG_WORD[:30]],
         ["line 5: PHOTO rewritten"],
     ),
-    Converted(
+    of_ann(
         "vCard 4.0 has no ENCODING: a photo is a URI, and a note is a text (RFC 6350, sections "
         "6.2.4 and 6.7.2); the other lines stay as they are",
-        card("4.0", "UID:a", "FN:Ann", "PHOTO;ENCODING=b;TYPE=PNG:" + PNG,
-             "LOGO;MEDIATYPE=image/png;encoding=BASE64:" + PNG,
-             "KEY;ENCODING=b:data:application/pgp-keys;base64,AAAA",
-             "NOTE;ENCODING=QUOTED-PRINTABLE:a=3Db=0Ac", "TEL;TYPE=\"Home\":1"),
-        ["UID:a", "FN:Ann", "PHOTO:data:image/png;base64," + PNG,
+        "4.0",
+        ["PHOTO;ENCODING=b;TYPE=PNG:" + PNG, "LOGO;MEDIATYPE=image/png;encoding=BASE64:" + PNG,
+         "KEY;ENCODING=b:data:application/pgp-keys;base64,AAAA",
+         "NOTE;ENCODING=QUOTED-PRINTABLE:a=3Db=0Ac", "TEL;TYPE=\"Home\":1"],
+        ["PHOTO:data:image/png;base64," + PNG,
          "LOGO;MEDIATYPE=image/png:data:image/png;base64," + PNG,
          "KEY:data:application/pgp-keys;base64,AAAA", "NOTE:a=b\\nc", "TEL;TYPE=\"Home\":1"],
         ["line 5: PHOTO rewritten", "line 6: LOGO rewritten", "line 7: KEY rewritten",
          "line 8: NOTE rewritten"],
     ),
-    Converted(
+    of_ann(
         "ENCODING beside a URI says nothing (RFC 6350, section 6.2.4: PHOTO is a URI)",
-        card("3.0", "UID:a", "FN:Ann", "PHOTO;ENCODING=b;TYPE=PNG:data:image/png;base64," + PNG,
-             "PHOTO;ENCODING=BASE64:http://a.test/b.png"),
-        ["UID:a", "FN:Ann", "PHOTO:data:image/png;base64," + PNG, "PHOTO:http://a.test/b.png"],
+        "3.0",
+        ["PHOTO;ENCODING=b;TYPE=PNG:data:image/png;base64," + PNG,
+         "PHOTO;ENCODING=BASE64:http://a.test/b.png"],
+        ["PHOTO:data:image/png;base64," + PNG, "PHOTO:http://a.test/b.png"],
         ["line 5: PHOTO rewritten", "line 6: PHOTO rewritten"],
     ),
     Converted(
@@ -617,35 +621,38 @@ CARDS = [
         ["UID:a", "FN:Ann", "NOTE:a=b"],
         ["line 5: NOTE rewritten"],
     ),
-    Converted(
+    of_ann(
         "a line that a soft line break makes a part of the one before is reported if it begins as "
         "a property does; not so if the line before isn't quoted-printable, or if a blank line "
         "comes between them",
-        card("2.1", "UID:a", "FN:Ann", "NOTE;ENCODING=QUOTED-PRINTABLE:abc=", "TEL:123", "TEL:4",
-             "TITLE;ENCODING=QUOTED-PRINTABLE:Head=0D=0A=", "Tel: 5=", "TEL5:6",
-             "ROLE;QUOTED-PRINTABLE:b=3D=", "", "EMAIL:a@x.test", "X-A:b=", "ORG:Acme",
-             "X-NOTE;QUOTED-PRINTABLE:b=", "c=", "home.TEL;CELL:7=", "EMAIL:c"),
-        ["UID:a", "FN:Ann", "NOTE:abcTEL:123", "TEL:4", "TITLE:Head\\nTel: 5TEL5:6", "ROLE:b=",
-         "EMAIL:a@x.test", "X-A:b=", "ORG:Acme", "X-NOTE:bchome.TEL;CELL:7EMAIL:c"],
+        "2.1",
+        ["NOTE;ENCODING=QUOTED-PRINTABLE:abc=", "TEL:123", "TEL:4",
+         "TITLE;ENCODING=QUOTED-PRINTABLE:Head=0D=0A=", "Tel: 5=", "TEL5:6",
+         "ROLE;QUOTED-PRINTABLE:b=3D=", "", "EMAIL:a@x.test", "X-A:b=", "ORG:Acme",
+         "X-NOTE;QUOTED-PRINTABLE:b=", "c=", "home.TEL;CELL:7=", "EMAIL:c"],
+        ["NOTE:abcTEL:123", "TEL:4", "TITLE:Head\\nTel: 5TEL5:6", "ROLE:b=", "EMAIL:a@x.test",
+         "X-A:b=", "ORG:Acme", "X-NOTE:bchome.TEL;CELL:7EMAIL:c"],
         ["line 5: NOTE rewritten", "line 8: TITLE rewritten", "line 11: ROLE rewritten",
          "line 16: X-NOTE rewritten",
          "line 6: TEL is a part of NOTE, since the line before ends with =",
          "line 18: TEL is a part of X-NOTE, since the line before ends with ="],
     ),
-    Converted(
+    of_ann(
         "white space after a name is no part of it",
-        card("3.0", "UID:a", "FN:Ann", "TEL ;TYPE=home:1", "a.EMAIL :b@example.test", "CLASS\t:x"),
-        ["UID:a", "FN:Ann", "TEL;TYPE=home:1", "a.EMAIL:b@example.test", "X-CLASS:x"],
+        "3.0",
+        ["TEL ;TYPE=home:1", "a.EMAIL :b@example.test", "CLASS\t:x"],
+        ["TEL;TYPE=home:1", "a.EMAIL:b@example.test", "X-CLASS:x"],
         ["line 5: TEL rewritten", "line 6: EMAIL rewritten", "line 7: CLASS kept as X-CLASS"],
     ),
-    Converted(
+    of_ann(
         "a time in vCard 4.0 has no fraction of a second (RFC 6350, section 4.3.2): one in the "
         "extended form loses it",
-        card("3.0", "UID:a", "FN:Ann", "BDAY:1980-04-12T10:22:33.5Z",
-             "ANNIVERSARY:1980-04-12T10:22:33,25-05:00", "BDAY:1980-04-12T10:22:33Z",
-             "ANNIVERSARY:19800412T102233.5Z", "REV:1980-04-12T10:22:33.5Z"),
-        ["UID:a", "FN:Ann", "BDAY:19800412T102233Z", "ANNIVERSARY:19800412T102233-0500",
-         "BDAY:19800412T102233Z", "ANNIVERSARY:19800412T102233.5Z", "REV:19800412T102233Z"],
+        "3.0",
+        ["BDAY:1980-04-12T10:22:33.5Z", "ANNIVERSARY:1980-04-12T10:22:33,25-05:00",
+         "BDAY:1980-04-12T10:22:33Z", "ANNIVERSARY:19800412T102233.5Z",
+         "REV:1980-04-12T10:22:33.5Z"],
+        ["BDAY:19800412T102233Z", "ANNIVERSARY:19800412T102233-0500", "BDAY:19800412T102233Z",
+         "ANNIVERSARY:19800412T102233.5Z", "REV:19800412T102233Z"],
         ["line 5: BDAY lost the fraction of a second",
          "line 6: ANNIVERSARY lost the fraction of a second", "line 7: BDAY rewritten",
          "line 9: REV rewritten"],
@@ -656,24 +663,23 @@ CARDS = [
         ["UID:a", "N:Only\\, Jr;A,B;;Dr., Prof.;", "FN:Dr. Prof. A B Only\\, Jr"],
         ["line 1: FN added"],
     ),
-    Converted(
+    of_ann(
         "what is no date of RFC 6350, section 4.3, is a text (sections 6.2.5 and 6.2.6)",
-        card("3.0", "UID:a", "FN:Ann", "BDAY:15.04.1980", "BDAY;VALUE=date:04/15/1980",
-             "BDAY:1980-4-5", "ANNIVERSARY:April 15, 1980", "BDAY:198004151", "BDAY:"),
-        ["UID:a", "FN:Ann", "BDAY;VALUE=text:15.04.1980", "BDAY;VALUE=text:04/15/1980",
-         "BDAY;VALUE=text:1980-4-5", "ANNIVERSARY;VALUE=text:April 15\\, 1980",
-         "BDAY;VALUE=text:198004151", "BDAY:"],
+        "3.0",
+        ["BDAY:15.04.1980", "BDAY;VALUE=date:04/15/1980", "BDAY:1980-4-5",
+         "ANNIVERSARY:April 15, 1980", "BDAY:198004151", "BDAY:"],
+        ["BDAY;VALUE=text:15.04.1980", "BDAY;VALUE=text:04/15/1980", "BDAY;VALUE=text:1980-4-5",
+         "ANNIVERSARY;VALUE=text:April 15\\, 1980", "BDAY;VALUE=text:198004151", "BDAY:"],
         ["line 5: BDAY rewritten", "line 6: BDAY rewritten", "line 7: BDAY rewritten",
          "line 8: ANNIVERSARY rewritten", "line 9: BDAY rewritten"],
     ),
-    Converted(
+    of_ann(
         "the forms of RFC 6350, section 4.3, are dates, and so are those without a day or a year",
-        card("2.1", "UID:a", "FN:Ann", "BDAY:19800415", "BDAY:1980-04", "BDAY:1980", "BDAY:--0415",
-             "BDAY:--04", "BDAY:---15", "BDAY:T102200", "BDAY:19800415T102200Z",
-             "ANNIVERSARY:19800415T10-0500"),
-        ["UID:a", "FN:Ann", "BDAY:19800415", "BDAY:1980-04", "BDAY:1980", "BDAY:--0415",
-         "BDAY:--04", "BDAY:---15", "BDAY:T102200", "BDAY:19800415T102200Z",
-         "ANNIVERSARY:19800415T10-0500"],
+        "2.1",
+        ["BDAY:19800415", "BDAY:1980-04", "BDAY:1980", "BDAY:--0415", "BDAY:--04", "BDAY:---15",
+         "BDAY:T102200", "BDAY:19800415T102200Z", "ANNIVERSARY:19800415T10-0500"],
+        ["BDAY:19800415", "BDAY:1980-04", "BDAY:1980", "BDAY:--0415", "BDAY:--04", "BDAY:---15",
+         "BDAY:T102200", "BDAY:19800415T102200Z", "ANNIVERSARY:19800415T10-0500"],
         [],
     ),
     Converted(

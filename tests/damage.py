@@ -4,19 +4,8 @@ The draws are the same with each version of Python, since `Drawing` has its own 
 """
 
 from exchanges import CLIENTS, STAFF, connection, row
-from http_requests import (
-    COLUMNS,
-    books,
-    export,
-    forget,
-    get,
-    import_rows,
-    move,
-    put,
-    remove,
-    sync,
-    tally,
-)
+from http_requests import COLUMNS, books, export, forget, get, import_rows, move, put, remove, sync
+from http_requests import tally
 
 # Octets that mean something in a head, and others.
 OCTETS = b"\r\n :;,?&=/%+-.019azAZ\t\x00\x7f\x80\xc3\xa9\xff"

@@ -6,6 +6,8 @@ exactly if the model does.
 
 import os
 import socket
+import struct
+import threading
 import time
 import unittest
 from contextlib import contextmanager
@@ -28,6 +30,13 @@ class Pace:
     def mark(self):
         now = time.monotonic()
         self.longest, self.last = max(self.longest, now - self.last), now
+
+
+def reset(connection):
+    """Closes it as a client does that crashes: without waiting for anything."""
+    linger = struct.pack("ii", 1, 0)
+    connection.socket.setsockopt(socket.SOL_SOCKET, socket.SO_LINGER, linger)
+    connection.socket.close()
 
 
 def again_if_slow(attempt, most):
@@ -111,6 +120,28 @@ class ServedTest(unittest.TestCase):
             if not session.closed:
                 connection.finish()
             self.compare(octets, further, connection.rest())
+
+    def send_and_read_slowly(self, octets, wanted):
+        """Sends more than is replied to, on a connection that closes, and reads 4,096 at a time."""
+
+        def attempt(pace):
+            with self.connection() as connection:
+                connection.socket.setsockopt(socket.SOL_SOCKET, socket.SO_RCVBUF, 4096)
+                sender = threading.Thread(target=connection.send, args=[octets])
+                sender.start()
+                replied = b""
+                while len(replied) < len(wanted):
+                    time.sleep(0.001)
+                    taken = connection.take(4096)
+                    if not taken:
+                        break
+                    replied += taken
+                replied += connection.rest()
+                sender.join()
+            self.compare(octets, wanted, replied)
+
+        # The rest of what it sends is waited for for a second.
+        again_if_slow(attempt, 0.8)
 
     @contextmanager
     def connection(self):

@@ -6,24 +6,8 @@ the last often asks what the books hold. To add a row, copy one; to add a reques
 
 from collections import namedtuple
 
-from http_requests import (
-    COLUMNS,
-    FULL_CARDS,
-    books,
-    card,
-    create,
-    export,
-    forget,
-    get,
-    import_rows,
-    move,
-    people,
-    put,
-    remove,
-    request,
-    sync,
-    tally,
-)
+from http_requests import COLUMNS, FULL_CARDS, books, card, create, export, forget, get, import_rows
+from http_requests import move, people, put, remove, request, sync, tally
 
 Row = namedtuple("Row", "title connections")
 Sent = namedtuple("Sent", "title octets")

@@ -7,6 +7,30 @@ them: a backslash at the end of a line here joins it with the next.
 
 HELP = {}
 
+FILE = ("<FILE>", "Path of the store file")
+BOOK = ("<BOOK>", "Name of the book, 1 to 40 characters of a-z, 0-9 and -")
+
+
+def plain(order, about, arguments, example, more=""):
+    """The help of an order whose only option is its help."""
+    width = max(len(name) for name, _ in arguments)
+    rows = "".join(f"  {name:{width}}  {text}\n" for name, text in arguments)
+    names = " ".join(name for name, _ in arguments)
+    return f"""\
+{about}
+
+Usage: contacts {order} {names}
+
+Arguments:
+{rows}
+Options:
+  -h, --help  Print help
+
+Example:
+  contacts {order} {example}
+""" + (f"\n{more}" if more else "")
+
+
 HELP[""] = """\
 Contact server that stores address books and syncs them to many devices
 
@@ -67,40 +91,25 @@ Example:
 A card may have up to 262,144 bytes, and its UID 1 to 255 bytes.
 """
 
-HELP["init"] = """\
-Create a store file; an existing file must be empty
-
-Usage: contacts init <FILE>
-
-Arguments:
-  <FILE>  Path of the store file
-
-Options:
-  -h, --help  Print help
-
-Example:
-  contacts init office.db
-
+HELP["init"] = plain(
+    "init",
+    "Create a store file; an existing file must be empty",
+    [FILE],
+    "office.db",
+    """\
 A store may have up to 100 books.
-"""
+""",
+)
 
-HELP["book"] = """\
-Create an empty book and print its id
-
-Usage: contacts book <FILE> <BOOK>
-
-Arguments:
-  <FILE>  Path of the store file
-  <BOOK>  Name of the book, 1 to 40 characters of a-z, 0-9 and -
-
-Options:
-  -h, --help  Print help
-
-Example:
-  contacts book office.db staff
-
+HELP["book"] = plain(
+    "book",
+    "Create an empty book and print its id",
+    [FILE, BOOK],
+    "office.db staff",
+    """\
 A store may have up to 100 books, and a book up to 10,000 cards.
-"""
+""",
+)
 
 HELP["run"] = """\
 Serve the books over HTTP on 127.0.0.1, or at a Unix socket, until it is stopped
@@ -158,31 +167,23 @@ Prints the address and port before accepting connections. A request body may hav
 bytes.
 """
 
-HELP["import"] = """\
-Import cards from a CSV file into a book
-
-Usage: contacts import <FILE> <BOOK> <KEY> <CSV>
-
-Arguments:
-  <FILE>  Path of the store file
-  <BOOK>  Name of the book, 1 to 40 characters of a-z, 0-9 and -
-  <KEY>   Import key, 1 to 64 characters of A-Z, a-z, 0-9, . _ -; repeating the key of a completed \
-import changes nothing and prints its result again
-  <CSV>   CSV file with a header row, up to 8,388,608 bytes
-
-Options:
-  -h, --help  Print help
-
-Example:
-  contacts import office.db staff "$(date +%F-%H%M%S)" people.csv
-
+HELP["import"] = plain(
+    "import",
+    "Import cards from a CSV file into a book",
+    [FILE, BOOK,
+     ("<KEY>", "Import key, 1 to 64 characters of A-Z, a-z, 0-9, . _ -; repeating the key of a "
+               "completed import changes nothing and prints its result again"),
+     ("<CSV>", "CSV file with a header row, up to 8,388,608 bytes")],
+    'office.db staff "$(date +%F-%H%M%S)" people.csv',
+    """\
 Use a new key for each import: repeating a key imports nothing, and its output looks like that of \
 the first import.
 
 The header row is `uid,vcard` for a UID and a vCard per row, or \
 `uid,fn,family,given,email,tel,org,note` for one property per column. Either all cards are \
 imported or none. A card may have up to 262,144 bytes, and a book up to 10,000 cards.
-"""
+""",
+)
 
 HELP["export"] = """\
 Write the cards of a book to standard output as CSV or as vCards
@@ -206,41 +207,24 @@ Examples:
   contacts export office.db staff --vcf --as 3.0 > people.vcf
 """
 
-HELP["tally"] = """\
-Print how many cards a book has, and counts of its changes by kind
+HELP["tally"] = plain(
+    "tally",
+    "Print how many cards a book has, and counts of its changes by kind",
+    [FILE, BOOK],
+    "office.db staff",
+)
 
-Usage: contacts tally <FILE> <BOOK>
-
-Arguments:
-  <FILE>  Path of the store file
-  <BOOK>  Name of the book, 1 to 40 characters of a-z, 0-9 and -
-
-Options:
-  -h, --help  Print help
-
-Example:
-  contacts tally office.db staff
-"""
-
-HELP["forget"] = """\
-Forget the removals recorded in a book up to a change number
-
-Usage: contacts forget <FILE> <BOOK> <UPTO>
-
-Arguments:
-  <FILE>  Path of the store file
-  <BOOK>  Name of the book, 1 to 40 characters of a-z, 0-9 and -
-  <UPTO>  Number of the last change to forget, 0 to 999999999999999
-
-Options:
-  -h, --help  Print help
-
-Example:
-  contacts forget office.db staff 100
-
+HELP["forget"] = plain(
+    "forget",
+    "Forget the removals recorded in a book up to a change number",
+    [FILE, BOOK,
+     ("<UPTO>", "Number of the last change to forget, 0 to 999999999999999")],
+    "office.db staff 100",
+    """\
 UPTO must be from the book's horizon to its number; `contacts tally` prints both. Devices with an \
 older sync token must start over with a full sync.
-"""
+""",
+)
 
 HELP["mirror"] = """\
 Sync a book to a new device page by page, and print the device's copy
@@ -261,37 +245,20 @@ Example:
   contacts mirror office.db staff --limit 10 --pages 100
 """
 
-HELP["expand"] = """\
-List the people in a group and in its nested groups
+HELP["expand"] = plain(
+    "expand",
+    "List the people in a group and in its nested groups",
+    [FILE, BOOK,
+     ("<UID>", "UID of the group, 1 to 255 bytes")],
+    "office.db staff choir",
+)
 
-Usage: contacts expand <FILE> <BOOK> <UID>
-
-Arguments:
-  <FILE>  Path of the store file
-  <BOOK>  Name of the book, 1 to 40 characters of a-z, 0-9 and -
-  <UID>   UID of the group, 1 to 255 bytes
-
-Options:
-  -h, --help  Print help
-
-Example:
-  contacts expand office.db staff choir
-"""
-
-HELP["migrate"] = """\
-Convert a store file from schema 1 to schema 2, and print its number of books
-
-Usage: contacts migrate <FILE>
-
-Arguments:
-  <FILE>  Path of the store file
-
-Options:
-  -h, --help  Print help
-
-Example:
-  contacts migrate office.db
-"""
+HELP["migrate"] = plain(
+    "migrate",
+    "Convert a store file from schema 1 to schema 2, and print its number of books",
+    [FILE],
+    "office.db",
+)
 
 HELP["copy"] = """\
 Copy the books of a store file into a new file, and print their number
@@ -360,23 +327,17 @@ every device copies the book anew. Cards stay as they are. All books change in o
 Refused if a book would pass 1,000,000,000,000 changes.
 """
 
-HELP["check"] = """\
-Check a CSV file or a vCard, and print its number of rows or the first fault
-
-Usage: contacts check <FILE>
-
-Arguments:
-  <FILE>  CSV file with a header row, or a vCard if the name ends in `.vcf`, up to 8,388,608 bytes
-
-Options:
-  -h, --help  Print help
-
-Example:
-  contacts check people.csv
-
+HELP["check"] = plain(
+    "check",
+    "Check a CSV file or a vCard, and print its number of rows or the first fault",
+    [("<FILE>", "CSV file with a header row, or a vCard if the name ends in `.vcf`, up to "
+                "8,388,608 bytes")],
+    "people.csv",
+    """\
 Needs no store file. Row 0 is the header, and row 1 the first row after it. A file with a fault is \
 refused, with status 1.
-"""
+""",
+)
 
 HELP["convert"] = """\
 Convert cards and contacts of other programs to vCard 4.0, as CSV for `import`
@@ -419,38 +380,23 @@ are named after the first FILE, `phone-1.csv`, `phone-2.csv` and so on, beside i
 No file is overwritten, and nothing is written before each FILE is known to be one that is converted.
 """
 
-HELP["books"] = """\
-List the books with their ids, cards, numbers, horizons and keeps
+HELP["books"] = plain(
+    "books",
+    "List the books with their ids, cards, numbers, horizons and keeps",
+    [FILE],
+    "office.db",
+)
 
-Usage: contacts books <FILE>
-
-Arguments:
-  <FILE>  Path of the store file
-
-Options:
-  -h, --help  Print help
-
-Example:
-  contacts books office.db
-"""
-
-HELP["verify"] = """\
-Test the whole store file, and list its books or print the row at fault
-
-Usage: contacts verify <FILE>
-
-Arguments:
-  <FILE>  Path of the store file
-
-Options:
-  -h, --help  Print help
-
-Example:
-  contacts verify office.db
-
+HELP["verify"] = plain(
+    "verify",
+    "Test the whole store file, and list its books or print the row at fault",
+    [FILE],
+    "office.db",
+    """\
 Tests what each command that uses the file tests first: every row of the file. A damaged file ends \
 with `fault open 4`.
-"""
+""",
+)
 
 # clap's own `help` command.
 HELP["help"] = """\

@@ -1,5 +1,9 @@
 """The configuration of an nginx that runs in a folder of its own, in the foreground."""
 
+import time
+
+from program import PATIENCE
+
 MAIN = """\
 daemon off;
 pid nginx.pid;
@@ -18,3 +22,15 @@ http {
 def configuration(http):
     """The configuration with these lines within `http`."""
     return f"{MAIN}{http}}}\n"
+
+
+def once_it_listens(ask):
+    """What `ask` returns. It is asked again while nobody listens at its port."""
+    until = time.monotonic() + PATIENCE
+    while True:
+        try:
+            return ask()
+        except ConnectionRefusedError:
+            if time.monotonic() > until:
+                raise
+            time.sleep(0.05)

@@ -1,5 +1,6 @@
 """Files of the program: made by orders and requests, copied, read and changed by sqlite3."""
 
+import json
 import os
 import resource
 import shutil
@@ -9,6 +10,7 @@ import tempfile
 from collections import namedtuple
 from pathlib import Path
 
+from http_requests import put, remove, sync
 from program import Ended, Folder, Server, run
 from tables import Tables
 
@@ -16,6 +18,8 @@ from tables import Tables
 Contents = namedtuple("Contents", "declared rows")
 
 
+# What a device is told whose token is of before a resync.
+TOO_OLD = {"cause": 4, "fault": "valid-sync-token", "number": 10}
 MEMORY = "/dev/shm"
 ROOM = 40_000_000  # octets, more than any of these tests writes
 
@@ -60,6 +64,36 @@ def serve(file, *requests):
     """The replies to these requests over one connection."""
     with Server(file) as server:
         return server.ask(b"".join(requests))
+
+
+def bodies(replies):
+    """The JSON values of the replies."""
+    return [json.loads(it.rpartition(b"\r\n\r\n")[2]) for it in replies.split(b"HTTP/1.1 ")[1:]]
+
+
+def ask(file, *requests):
+    """The JSON values of the replies to these requests over one connection."""
+    return bodies(serve(file, *requests))
+
+
+def start_again(test, file, lost):
+    """Changes the book that was put back, as its test_lost_time says, and returns its page.
+
+    Three changes bring the book to the number of the device that was there before, 5. The device is
+    told to start again, and then equals the book. No version of the lost time names another card.
+    """
+    changes = [put("staff", "e", "Eve"), remove("staff", "b"), put("staff", "a", "Annabel")]
+    test.assertEqual([{"put": "created", "version": 1_000_003}, {"number": 1_000_004},
+                      {"put": "edited", "version": 1_000_005}], ask(file, *changes))
+    refused, page = ask(file, sync("staff", "1/5/5"), sync("staff"))
+    test.assertEqual(TOO_OLD, refused)
+    test.assertEqual({"e": 1_000_003, "a": 1_000_005},
+                     {it["uid"]: it["version"] for it in page["members"]})
+    for uid, version in lost.items():
+        with test.subTest(uid=uid):
+            refused, = ask(file, put("staff", uid, "Zoe", f"?version={version}"))
+            test.assertEqual("version-mismatch", refused["fault"])
+    return page
 
 
 def copy(file, folder):

@@ -10,7 +10,7 @@ import tarfile
 from functools import lru_cache
 
 from help_texts import HELP
-from program import PATIENCE, PROGRAM, ROOT
+from program import PATIENCE, PROGRAM
 
 EPOCH = "1790000000"
 # The orders of the program.

@@ -7,22 +7,8 @@ To add one, copy a line.
 
 from collections import namedtuple
 
-from http_requests import (
-    COLUMNS,
-    FULL_CARDS,
-    card,
-    create,
-    forget,
-    get,
-    import_rows,
-    move,
-    people,
-    put,
-    remove,
-    request,
-    sync,
-    tally,
-)
+from http_requests import COLUMNS, FULL_CARDS, card, create, forget, get, import_rows, move, people
+from http_requests import put, remove, request, sync, tally
 
 # The number of the refusal, what its body has beside number and fault, and the request.
 Row = namedtuple("Row", "number more request")

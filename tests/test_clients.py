@@ -7,25 +7,13 @@ replies are those of the model. test_together has many clients at once.
 import copy
 import signal
 import socket
-import struct
 import threading
 import time
 import unittest
 
-from dialogue import ServedTest, Talk, again_if_slow
-from http_requests import (
-    COLUMNS,
-    books,
-    card,
-    create,
-    export,
-    get,
-    import_rows,
-    put,
-    request,
-    sync,
-    tally,
-)
+from dialogue import ServedTest, Talk, again_if_slow, reset
+from http_requests import COLUMNS, books, card, create, export, get, import_rows, put, request, sync
+from http_requests import tally
 from model.http import Session
 from program import PATIENCE, Ended
 
@@ -33,13 +21,6 @@ SLACK = 20  # seconds that a busy machine may need beside what is measured
 BODY_MAX = 8_388_608
 NOTE = 240_000  # octets that a card's note may have, with its folds
 NOTES = ["NOTE:" + "x" * 70] * 3_000  # lines of a big card
-
-
-def reset(connection):
-    """Closes it as a client does that crashes: without waiting for anything."""
-    linger = struct.pack("ii", 1, 0)
-    connection.socket.setsockopt(socket.SOL_SOCKET, socket.SO_LINGER, linger)
-    connection.socket.close()
 
 
 def rows_of(octets):
@@ -203,24 +184,7 @@ class Closing(ServedTest):
         wanted = Session(self.office).feed(octets)
         self.assertGreater(len(wanted), len(NOTES) * len(NOTES[0]))
 
-        def attempt(pace):
-            with self.connection() as connection:
-                connection.socket.setsockopt(socket.SOL_SOCKET, socket.SO_RCVBUF, 4096)
-                sender = threading.Thread(target=connection.send, args=[octets])
-                sender.start()
-                replied = b""
-                while len(replied) < len(wanted):
-                    time.sleep(0.001)
-                    taken = connection.take(4096)
-                    if not taken:
-                        break
-                    replied += taken
-                replied += connection.rest()
-                sender.join()
-            self.compare(octets, wanted, replied)
-
-        # The rest of what it sends is waited for for a second.
-        again_if_slow(attempt, 0.8)
+        self.send_and_read_slowly(octets, wanted)
 
     def close(self):
         """A connection that the server has closed, with all of its replies."""

@@ -5,8 +5,6 @@ The expected cards are in converted_cards.py, worked out by hand. Whatever is co
 """
 
 import base64
-import csv
-import io
 import random
 import re
 import resource
@@ -18,6 +16,7 @@ import uuid
 from card_rows import octets as octets_of
 from conversion_reports import digest
 from converted_cards import ADDED_UID, CARDS, added_uid, card
+from csv_texts import rows_of
 from order_trials import OrderTest
 from program import ROOT, Ended, run
 
@@ -67,15 +66,6 @@ def text(lines, end="\r\n"):
 def unfolded(octets):
     """The lines of a card's text."""
     return octets.decode().replace("\r\n ", "").split("\r\n")[:-1]
-
-
-# A row may have a card of 262,144 octets.
-csv.field_size_limit(1_000_000)
-
-
-def rows_of(octets):
-    """The rows of a CSV text, without the header."""
-    return list(csv.reader(io.StringIO(octets.decode(), newline="")))[1:]
 
 
 def report(lines, written, changed, refused, files=None, returns=False):

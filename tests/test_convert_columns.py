@@ -8,9 +8,9 @@ that write such columns.
 import unittest
 
 from conversion_reports import digest
+from csv_texts import rows_of
 from order_trials import OrderTest
 from program import run
-from test_convert_contacts import rows_of
 
 # A title, a header and one row, all lines of the card but the UID, and the report.
 CELLS = [

@@ -14,6 +14,7 @@ import zipfile
 from contact_rows import EXPORTS, KNOWN_HEADERS
 from conversion_reports import are_changes, digest, numbers
 from converted_cards import added_uid
+from csv_texts import csv_text, rows_of
 from order_trials import OrderTest
 from program import ROOT, Ended, run
 
@@ -98,18 +99,6 @@ OUTLOOK_REPORT = digest([
     "row 4, line 6: an earlier row has the same cells",
     "row 5, line 8: not carried: the row has more or fewer cells than there are columns",
 ], 2, 1, 1)
-
-
-def csv_text(rows, delimiter=","):
-    """The rows as CSV."""
-    file = io.StringIO(newline="")
-    csv.writer(file, delimiter=delimiter).writerows(rows)
-    return file.getvalue()
-
-
-def rows_of(octets):
-    """The rows of a CSV text, without the header."""
-    return list(csv.reader(io.StringIO(octets.decode(), newline="")))[1:]
 
 
 def row_uid(header, cells):

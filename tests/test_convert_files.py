@@ -6,7 +6,6 @@ with what is converted of each of them alone.
 
 import csv
 import io
-import os
 import re
 import resource
 import unittest

@@ -3,13 +3,12 @@
 The expected lines are worked out by hand from RFC 6350.
 """
 
-import csv
-import io
 import re
 import unittest
 
 from conversion_reports import digest
 from converted_cards import added_uid
+from csv_texts import csv_text, rows_of
 from order_trials import OrderTest
 from program import Ended, run
 
@@ -51,18 +50,6 @@ LINES = [
     "TITLE:Dr.",
     "UID:K-17",
 ]
-
-
-def csv_text(rows, delimiter=","):
-    """The rows as CSV."""
-    file = io.StringIO(newline="")
-    csv.writer(file, delimiter=delimiter).writerows(rows)
-    return file.getvalue()
-
-
-def rows_of(octets):
-    """The rows of a CSV text, without the header."""
-    return list(csv.reader(io.StringIO(octets.decode(), newline="")))[1:]
 
 
 def lines_of(card):

@@ -50,6 +50,21 @@ class CopyTest(unittest.TestCase):
     def there(self):
         return sorted(it.name for it in self.folder.iterdir() if not it.name.startswith("look"))
 
+    def copy_at_each_write(self, before, last, look, *options):
+        """Copies with each room on the disk up to `last` octets: a write past it fails, or kills.
+
+        The file holds what it held before. `look` gets how the order ended, and its new file.
+        """
+        for room in [*range(0, last, last // 40), last]:
+            for is_killed in [False, True]:
+                with self.subTest(room=room, is_killed=is_killed):
+                    place = self.folder / f"{room} {is_killed}"
+                    file, new = copy_by_hand(self.file, place), place / "new.db"
+                    ended = run_order("copy", file, new, *options,
+                                      preexec_fn=up_to(room, is_killed))
+                    self.assertEqual(before, self.contents(file))
+                    look(ended, new, is_killed)
+
     def assert_copied(self, count, file=None, new=None):
         """Copies the file; the new one alone holds what the file holds with its log."""
         file, new = file or self.file, new or self.new
@@ -308,22 +323,17 @@ class WithoutBooks(CopyTest):
         before, done = self.contents(self.file), self.folder / "done.db"
         self.assertEqual(copied(2), leave_out(self.file, done, "staff"))
         whole, last = self.contents(done), 4 * done.stat().st_size
-        for room in [*range(0, last, last // 40), last]:
-            for is_killed in [False, True]:
-                with self.subTest(room=room, is_killed=is_killed):
-                    place = self.folder / f"{room} {is_killed}"
-                    file = copy_by_hand(self.file, place)
-                    new = place / "new.db"
-                    ended = run("copy", file, new, "--without", "staff",
-                                preexec_fn=up_to(room, is_killed))
-                    self.assertEqual(before, self.contents(file))
-                    self.assertEqual(ended.status == 0, new.exists())
-                    left = [it.name for it in place.glob("new*")]
-                    if ended.status == 0:
-                        self.assertEqual(whole, self.contents(new))
-                        self.assertEqual(["new.db"], left)
-                    elif not is_killed:
-                        self.assertEqual([], left)
+
+        def look(ended, new, is_killed):
+            self.assertEqual(ended.status == 0, new.exists())
+            left = [it.name for it in new.parent.glob("new*")]
+            if ended.status == 0:
+                self.assertEqual(whole, self.contents(new))
+                self.assertEqual(["new.db"], left)
+            elif not is_killed:
+                self.assertEqual([], left)
+
+        self.copy_at_each_write(before, last, look, "--without", "staff")
 
 
 class Refusals(CopyTest):
@@ -390,22 +400,17 @@ class Stops(CopyTest):
         run_order("verify", self.file)
         before, done = self.contents(self.file), self.folder / "done.db"
         self.assertEqual(copied(3), run_order("copy", self.file, done))
-        last = 2 * done.stat().st_size + 4096
-        for room in [*range(0, last, last // 40), last]:
-            for is_killed in [False, True]:
-                with self.subTest(room=room, is_killed=is_killed):
-                    place = self.folder / f"{room} {is_killed}"
-                    file = copy_by_hand(self.file, place)
-                    new = place / "new.db"
-                    ended = run_order("copy", file, new, preexec_fn=up_to(room, is_killed))
-                    self.assertEqual(before, self.contents(file))
-                    if ended.status == 0:
-                        self.assertEqual(copied(3), ended)
-                        self.assertEqual(["new.db"], [it.name for it in place.glob("new*")])
-                    elif not is_killed:
-                        self.assertEqual(fault(1), ended)
-                    if new.exists():
-                        self.assert_backup_or_nothing(new, before)
+
+        def look(ended, new, is_killed):
+            if ended.status == 0:
+                self.assertEqual(copied(3), ended)
+                self.assertEqual(["new.db"], [it.name for it in new.parent.glob("new*")])
+            elif not is_killed:
+                self.assertEqual(fault(1), ended)
+            if new.exists():
+                self.assert_backup_or_nothing(new, before)
+
+        self.copy_at_each_write(before, 2 * done.stat().st_size + 4096, look)
 
     def assert_backup_or_nothing(self, new, whole):
         """The file opens as the whole copy, or not at all."""

@@ -10,22 +10,8 @@ from damage import Drawing
 from dialogue import ServedTest
 from exchanges import CLIENTS, GROUP, ROWS, STAFF
 from heads import HOST, head, length
-from http_requests import (
-    COLUMNS,
-    books,
-    card,
-    export,
-    forget,
-    get,
-    import_rows,
-    move,
-    people,
-    put,
-    remove,
-    request,
-    sync,
-    tally,
-)
+from http_requests import COLUMNS, books, card, export, forget, get, import_rows, move, people, put
+from http_requests import remove, request, sync, tally
 
 DRAWN = 3  # ways in which each row comes in drawn pieces
 PIECE_MAX = 24  # octets of a drawn piece, if a connection isn't long

@@ -38,20 +38,21 @@ def lacking(*names):
     return next((name for name in names if not shutil.which(name)), None)
 
 
+def run_whole(test, name):
+    """Runs the script of that name, which says at its end that all went well."""
+    done = subprocess.run([str(EXAMPLES / f"{name}.sh"), PROGRAM], stdout=subprocess.PIPE,
+                          stderr=subprocess.STDOUT, timeout=PATIENCE)
+    printed = done.stdout.decode()
+    test.assertEqual(0, done.returncode, printed)
+    test.assertTrue(printed.endswith(f"\n{name}: all steps went as they should\n"), printed)
+
+
 class Office(unittest.TestCase):
     def test_the_first_days(self):
         tool = lacking("curl", "jq", "sqlite3")
         if tool:
             self.skipTest(f"no {tool} on this machine")
-        done = subprocess.run(
-            [str(EXAMPLES / "office.sh"), PROGRAM],
-            stdout=subprocess.PIPE,
-            stderr=subprocess.STDOUT,
-            timeout=PATIENCE,
-        )
-        printed = done.stdout.decode()
-        self.assertEqual(0, done.returncode, printed)
-        self.assertTrue(printed.endswith("\noffice: all steps went as they should\n"), printed)
+        run_whole(self, "office")
 
 
 class Look(unittest.TestCase):
@@ -78,15 +79,7 @@ class Look(unittest.TestCase):
 
 class MoveIn(unittest.TestCase):
     def test_the_whole_way(self):
-        done = subprocess.run(
-            [str(EXAMPLES / "move-in.sh"), PROGRAM],
-            stdout=subprocess.PIPE,
-            stderr=subprocess.STDOUT,
-            timeout=PATIENCE,
-        )
-        printed = done.stdout.decode()
-        self.assertEqual(0, done.returncode, printed)
-        self.assertTrue(printed.endswith("\nmove-in: all steps went as they should\n"), printed)
+        run_whole(self, "move-in")
 
 
 class Listening(unittest.TestCase):

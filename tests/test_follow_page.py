@@ -12,11 +12,11 @@ import re
 import shutil
 import subprocess
 import sys
-import time
 import unittest
+from contextlib import closing
 
 from http_requests import card
-from nginx import configuration
+from nginx import configuration, once_it_listens
 from pages import Page
 from program import PATIENCE, free_port
 from python_client import FOLDER
@@ -82,19 +82,15 @@ class HandedOut(FollowTest):
     def ask(self, path, user="ann", password=PASSWORD):
         """The status, the fields and the octets of a reply."""
         basic = "Basic " + base64.b64encode(f"{user}:{password}".encode()).decode()
-        until = time.monotonic() + PATIENCE
-        while True:
+
+        def ask():
             talk = http.client.HTTPConnection("127.0.0.1", self.port, timeout=PATIENCE)
-            try:
+            with closing(talk):
                 talk.request("GET", path, headers={"Authorization": basic} if user else {})
                 reply = talk.getresponse()
                 return reply.status, reply.headers, reply.read()
-            except ConnectionRefusedError:
-                if time.monotonic() > until:
-                    raise
-                time.sleep(0.05)  # it doesn't listen yet
-            finally:
-                talk.close()
+
+        return once_it_listens(ask)
 
     def test_who_reads_what(self):
         for uid in "a", "A/b":

@@ -11,13 +11,12 @@ import re
 import shutil
 import ssl
 import subprocess
-import time
 import unittest
-from contextlib import ExitStack
+from contextlib import ExitStack, closing
 
 from carddav_client import HASH, Client, Stack
 from carddav_client import PASSWORD as SECRET
-from nginx import configuration
+from nginx import configuration, once_it_listens
 from pages import Page
 from program import PATIENCE, ROOT, Folder, Server, free_port, run
 
@@ -93,21 +92,17 @@ class Front:
     def ask(self, method, target, body=b"", fields=None):
         """The status of the reply to a request with the password."""
         context = ssl._create_unverified_context()
-        until = time.monotonic() + PATIENCE
         password = base64.b64encode(f"admin:{PASSWORD}".encode()).decode()
         given = {"Host": self.address, "Authorization": f"Basic {password}"}
         given.update({name: it.replace("HOST", self.address) for name, it in (fields or {}).items()})
-        while True:
+
+        def ask():
             talk = http.client.HTTPSConnection(self.address, timeout=PATIENCE, context=context)
-            try:
+            with closing(talk):
                 talk.request(method, target, body, given)
                 return talk.getresponse().status
-            except ConnectionRefusedError:
-                if time.monotonic() > until:
-                    raise
-                time.sleep(0.05)  # it doesn't listen yet
-            finally:
-                talk.close()
+
+        return once_it_listens(ask)
 
     def ask_phones(self, target, fields=None):
         """The reply of the port for desk phones, and its body."""

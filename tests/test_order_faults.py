@@ -8,8 +8,6 @@ failure of standard error changes nothing.
 import os
 import resource
 import shutil
-import socket
-import struct
 import subprocess
 import unittest
 from functools import lru_cache
@@ -17,6 +15,7 @@ from pathlib import Path
 
 import order_rows as rows
 from card_rows import ANN
+from dialogue import reset
 from http_requests import books, get, request
 from office_files import log_of, make, serve, up_to
 from order_trials import FIRST_STAFF, FIVE_CHANGES, NEEDS_STRICT, OrderTest, numbered
@@ -225,25 +224,18 @@ class Connections(FaultTest):
         err = b"fault serve %d\n" % number
         self.assertEqual(Ended(3, b"listening 127.0.0.1:%d\n" % port, err), server.end())
 
-    @staticmethod
-    def reset(connection):
-        """Closes it so that the server's next read or write of it fails."""
-        linger = struct.pack("ii", 1, 0)
-        connection.socket.setsockopt(socket.SOL_SOCKET, socket.SO_LINGER, linger)
-        connection.socket.close()
-
     def break_off(self, server):
         """A client that breaks off in the middle of a request."""
         with server.connect() as connection:
             connection.send(b"GET /books HTTP/1.1\r\nHo")
-            self.reset(connection)
+            reset(connection)
 
     def go_early(self, server):
         """A client that goes while its replies are written, which are more than sockets hold."""
         with server.connect() as connection:
             connection.send(100 * get("staff", "long"))
             connection.take(1)
-            self.reset(connection)
+            reset(connection)
 
     def put_long_card(self):
         text = rows.card("long", "Long", "NOTE:" + 200_000 * "x")

@@ -7,25 +7,8 @@ To add a row, copy a line: a title, a request, a status, a body.
 
 import unittest
 
-from http_requests import (
-    COLUMNS,
-    FULL_CARDS,
-    SYNC,
-    books,
-    card,
-    create,
-    export,
-    forget,
-    get,
-    import_rows,
-    move,
-    people,
-    put,
-    remove,
-    request,
-    sync,
-    tally,
-)
+from http_requests import COLUMNS, FULL_CARDS, SYNC, books, card, create, export, forget, get
+from http_requests import import_rows, move, people, put, remove, request, sync, tally
 from replies import WalkTest, fault
 
 OK, CREATED, BAD = "200 OK", "201 Created", "400 Bad Request"

@@ -7,24 +7,8 @@ All expected replies were written by hand from docs/API.md, the formats' descrip
 import unittest
 
 import test_worked_rows
-from http_requests import (
-    COLUMNS,
-    FULL_CARDS,
-    books,
-    card,
-    create,
-    export,
-    forget,
-    get,
-    import_rows,
-    move,
-    people,
-    put,
-    remove,
-    request,
-    sync,
-    tally,
-)
+from http_requests import COLUMNS, FULL_CARDS, books, card, create, export, forget, get, import_rows
+from http_requests import move, people, put, remove, request, sync, tally
 from model.books import Office
 from model.http import Session
 from replies import WalkTest, card_text, fault, page, removed_member, reply, stored_member

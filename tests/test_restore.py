@@ -3,7 +3,6 @@
 What has to be there afterwards is written by hand, or read by sqlite3 from the copy.
 """
 
-import json
 import os
 import signal
 import stat
@@ -11,21 +10,12 @@ import subprocess
 import time
 import unittest
 
-from http_requests import SYNC, books, create, put, remove, sync
-from office_files import QuickFolder, contents, fault, log_of, make, run_order, serve
+from http_requests import SYNC, books, create, put, sync
+from office_files import TOO_OLD, QuickFolder, ask, bodies, contents, fault, log_of, make
+from office_files import run_order, start_again
 from program import PROGRAM, Ended, Server
 from tables import setUpModule  # noqa: F401
 
-TOO_OLD = {"cause": 4, "fault": "valid-sync-token", "number": 10}
-
-
-def bodies(replies):
-    """The JSON values of the replies."""
-    return [json.loads(it.rpartition(b"\r\n\r\n")[2]) for it in replies.split(b"HTTP/1.1 ")[1:]]
-
-
-def ask(file, *requests):
-    return bodies(serve(file, *requests))
 
 
 def mode_of(path):
@@ -87,17 +77,7 @@ class Restores(RestoreTest):
         self.assertEqual(wanted, self.restore())
         self.assertEqual(backup, self.contents(self.backup))
 
-        changes = [put("staff", "e", "Eve"), remove("staff", "b"), put("staff", "a", "Annabel")]
-        self.assertEqual([{"put": "created", "version": 1_000_003}, {"number": 1_000_004},
-                          {"put": "edited", "version": 1_000_005}], ask(self.file, *changes))
-        refused, page = ask(self.file, sync("staff", "1/5/5"), sync("staff"))
-        self.assertEqual(TOO_OLD, refused)
-        self.assertEqual({"e": 1_000_003, "a": 1_000_005},
-                         {it["uid"]: it["version"] for it in page["members"]})
-        for uid, version in lost.items():
-            with self.subTest(uid=uid):
-                refused, = ask(self.file, put("staff", uid, "Zoe", f"?version={version}"))
-                self.assertEqual("version-mismatch", refused["fault"])
+        start_again(self, self.file, lost)
 
     def test_lost_books(self):
         """They get their ids again, are empty, and take no token of before."""

@@ -7,26 +7,17 @@ the first that was aborted. `test_order_faults` has the faults, `test_orders` po
 
 import select
 import signal
-import socket
-import struct
 import threading
 import time
 import unittest
 
-from dialogue import ServedTest, Talk, again_if_slow
+from dialogue import ServedTest, Talk, reset
 from http_requests import books, card, create, export, get, put, request, tally
 from model.http import Session
 from program import PATIENCE, Ended
 
 SLACK = 12  # seconds that a busy machine may need beside what is measured
 NOTES = ["NOTE:" + "x" * 70] * 3_000  # lines of a big card
-
-
-def reset(connection):
-    """Closes it as a client does that crashes: without waiting for anything."""
-    linger = struct.pack("ii", 1, 0)
-    connection.socket.setsockopt(socket.SOL_SOCKET, socket.SO_LINGER, linger)
-    connection.socket.close()
 
 
 def is_quiet(connection, seconds=0.3):
@@ -158,24 +149,7 @@ class Closing(ServedTest):
         octets = self.octets + b"x" * 1_000_000
         wanted = Session(self.office).feed(octets)
 
-        def attempt(pace):
-            with self.connection() as connection:
-                connection.socket.setsockopt(socket.SOL_SOCKET, socket.SO_RCVBUF, 4096)
-                sender = threading.Thread(target=connection.send, args=[octets])
-                sender.start()
-                replied = b""
-                while len(replied) < len(wanted):
-                    time.sleep(0.001)
-                    taken = connection.take(4096)
-                    if not taken:
-                        break
-                    replied += taken
-                replied += connection.rest()
-                sender.join()
-            self.compare(octets, wanted, replied)
-
-        # The rest of what it sends is waited for for a second.
-        again_if_slow(attempt, 0.8)
+        self.send_and_read_slowly(octets, wanted)
 
     def seconds_to_the_next(self, client):
         """The seconds until the next client is served, while the first one does something else."""

@@ -11,8 +11,6 @@ import resource
 import select
 import shutil
 import signal
-import socket
-import struct
 import subprocess
 import time
 import unittest
@@ -20,7 +18,7 @@ from pathlib import Path
 from threading import Thread
 
 import crowd
-from dialogue import ServedTest, Talk, again_if_slow
+from dialogue import ServedTest, Talk, again_if_slow, reset
 from histories import Copy
 from http_requests import books, card, create, export, get, put, request, tally
 from model.http import Session
@@ -31,12 +29,6 @@ HAS_PROC = os.path.isdir("/proc/self/fd")
 NEEDS_PROC = unittest.skipUnless(HAS_PROC, "there is no /proc to look at")
 BIG = request("PUT", "/books/staff/cards/big", card("big", "Big", *["NOTE:" + "x" * 70] * 3_000))
 HEAD = b"PUT /books/staff/cards/b HTTP/1.1\r\nHost: office\r\nContent-Length: %d\r\n\r\n"
-
-
-def reset(connection):
-    """Closes it as a client does that crashes: without waiting for anything."""
-    connection.socket.setsockopt(socket.SOL_SOCKET, socket.SO_LINGER, struct.pack("ii", 1, 0))
-    connection.socket.close()
 
 
 class TogetherTest(ServedTest):

@@ -29,6 +29,21 @@ DEE = """
 card staff d FN:Dee => created 8
 remove staff d => gone 9
 """
+# Three cards of the book `desk`, which keeps one tombstone, are removed one after another.
+REMOVALS = ["""
+report desk - 1 => page 1/1/3 and more | a 1 [a Ann]
+remove desk a => gone 4
+tally desk => cards 2 created 3 deleted 1 edited 0 horizon 0 import_edited 0 imported 0 moved_in 0 moved_out 0 number 4 remembered 1
+""", """
+remove desk b => gone 5
+tally desk => cards 1 created 3 deleted 2 edited 0 horizon 4 import_edited 0 imported 0 moved_in 0 moved_out 0 number 5 remembered 1
+""", """
+report desk .../1/1/3 => refused 10 cause 4
+report desk .../1/3/3 => refused 10 cause 4
+report desk .../1/4/4 => page 1/5/5 | b gone
+remove desk c => gone 6
+tally desk => cards 0 created 3 deleted 3 edited 0 horizon 5 import_edited 0 imported 0 moved_in 0 moved_out 0 number 6 remembered 1
+"""]
 A_MOVE = """
 create clients => book 2
 move staff a clients => moved 10 1
@@ -513,17 +528,7 @@ create desk => book 1
 card desk a FN:Ann => created 1
 card desk b FN:Bob => created 2
 card desk c FN:Cy => created 3
-report desk - 1 => page 1/1/3 and more | a 1 [a Ann]
-remove desk a => gone 4
-tally desk => cards 2 created 3 deleted 1 edited 0 horizon 0 import_edited 0 imported 0 moved_in 0 moved_out 0 number 4 remembered 1
-remove desk b => gone 5
-tally desk => cards 1 created 3 deleted 2 edited 0 horizon 4 import_edited 0 imported 0 moved_in 0 moved_out 0 number 5 remembered 1
-report desk .../1/1/3 => refused 10 cause 4
-report desk .../1/3/3 => refused 10 cause 4
-report desk .../1/4/4 => page 1/5/5 | b gone
-remove desk c => gone 6
-tally desk => cards 0 created 3 deleted 3 edited 0 horizon 5 import_edited 0 imported 0 moved_in 0 moved_out 0 number 6 remembered 1
-"""),
+""" + "".join(REMOVALS)),
     ("A card that is moved out leaves a tombstone too. A card that is stored again has none, so that nothing is dropped for it",
      (100, 10, 300, 2, 1), """
 create staff => book 1
@@ -703,20 +708,7 @@ card desk b FN:Bob => created 2
 card desk c FN:Cy => created 3
 """
 KEEPING_ROWS = [
-    ("A removal drops the oldest tombstone, and the tokens that need it", 1, DESK, """
-report desk - 1 => page 1/1/3 and more | a 1 [a Ann]
-remove desk a => gone 4
-tally desk => cards 2 created 3 deleted 1 edited 0 horizon 0 import_edited 0 imported 0 moved_in 0 moved_out 0 number 4 remembered 1
-""", """
-remove desk b => gone 5
-tally desk => cards 1 created 3 deleted 2 edited 0 horizon 4 import_edited 0 imported 0 moved_in 0 moved_out 0 number 5 remembered 1
-""", """
-report desk .../1/1/3 => refused 10 cause 4
-report desk .../1/3/3 => refused 10 cause 4
-report desk .../1/4/4 => page 1/5/5 | b gone
-remove desk c => gone 6
-tally desk => cards 0 created 3 deleted 3 edited 0 horizon 5 import_edited 0 imported 0 moved_in 0 moved_out 0 number 6 remembered 1
-"""),
+    ("A removal drops the oldest tombstone, and the tokens that need it", 1, DESK, *REMOVALS),
     ("A move drops a tombstone in the book that the card leaves, and none in the other", 1, DESK, """
 move desk a shelf => moved 4 1
 move desk b shelf => moved 5 2

@@ -6,7 +6,6 @@ The text's end ends an open field. This is how the widespread library `csv` of R
 """
 
 import re
-from collections import namedtuple
 
 from .cards import BadCard, card_of_values, components, escape, first, read_card, unescape
 
