@@ -68,7 +68,7 @@ impl<T> Items<T> {
         self.inner.is_empty()
     }
 
-    /// Appends the item. On `Err` the list is unchanged.
+    /// Appends the item. Out of memory: `Err` hands back an item, and the list is unchanged.
     pub fn push(&mut self, item: T) -> Result<(), AllocFailed<T>>
         ensures ok { OnOk result (self.new ≡ self.old ++ item ∷ []) }
         ensures err { OnErr result (self.new ≡ self.old) }
@@ -83,7 +83,8 @@ impl<T> Items<T> {
 }
 
 impl<T: Part> Items<T> {
-    /// A copy with the same items in the same order.
+    /// A copy with the same items in the same order. `NoMemory` if an allocation fails, here or in
+    /// the copy of an item.
     pub fn try_copy(&self) -> Result<Items<T>, NoMemory>
         ensures { IfOk result (λ copy. copy ≡ self.now) }
     {

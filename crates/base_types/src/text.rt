@@ -28,7 +28,7 @@ impl Text {
         Text { inner: text }
     }
 
-    /// A copy of borrowed text.
+    /// A copy of borrowed text. `NoMemory` if its allocation fails.
     pub fn copy_of(alloc: Global, text: &str) -> Result<Text, NoMemory>
         ensures { IfOk result (λ copy. copy ≡ text.now) }
     {
@@ -64,7 +64,7 @@ impl Text {
         self.inner.is_empty()
     }
 
-    /// A copy with the same octets.
+    /// A copy with the same octets. `NoMemory` if its allocation fails.
     pub fn try_copy(&self) -> Result<Text, NoMemory>
         ensures { IfOk result (λ copy. copy ≡ self.now) }
     {

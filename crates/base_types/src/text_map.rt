@@ -28,7 +28,8 @@ impl<V> Model for TextMap<V> {
     ghost view = { λ text_map. octet_map text_map.inner };
 }
 
-/// The value at the key of a `BTreeMap` with text keys.
+/// The value at the key of a `BTreeMap` with text keys, compared octet for octet; `None` if the key
+/// is absent.
 pub fn value_at<'a, V>(map: &'a BTreeMap<String, V>, key: &str) -> Option<&'a V>
     ensures { option_copied result ≡ finite.get (octet_map map.now) key.now }
 {
@@ -88,7 +89,7 @@ impl<V: Drop> TextMap<V> {
         self.inner.clear();
     }
 
-    /// The value at the key.
+    /// The value at the key, compared octet for octet; `None` if the key is absent.
     pub fn get(&self, key: &str) -> Option<&V>
         ensures { option_copied result ≡ finite.get self.now key.now }
     {
@@ -117,7 +118,8 @@ impl<V: Drop> TextMap<V> {
         Some(mem::replace(there, value))
     }
 
-    /// Removes the entry at the key and returns its value.
+    /// Removes the entry at the key and returns its value; `None`, and no change, if the key is
+    /// absent. It allocates nothing.
     pub fn remove(&mut self, key: &str) -> Option<V>
         ensures value { result ≡ finite.get self.old key.now }
         ensures removed { self.new ≡ finite.remove self.old key.now }
@@ -125,7 +127,8 @@ impl<V: Drop> TextMap<V> {
         self.inner.remove(key)
     }
 
-    /// The entries, ordered by the octets of their keys.
+    /// The entries, in the order of the octets of their keys. `NoMemory` if the list can't be
+    /// allocated.
     pub fn entries(&self, alloc: Global) -> Result<Vec<(&str, &V)>, NoMemory>
         ensures { IfOk result (λ entries. map deref_pair entries.items ≡ finite.entries self.now) }
     {

@@ -13,7 +13,7 @@ pub enum Reply {
         /// The book's id; a store numbers its books from 1 in the order of their creation.
         id: u64,
     },
-    /// Name, id, number and horizon of every book, in byte order of name.
+    /// Name, id, number and horizon of every book, in the order of the octets of their names.
     Books(Items<BookLine>),
     /// The live card of the UID and its version.
     Card {
@@ -47,7 +47,7 @@ pub enum Reply {
     },
     /// The book's statistics.
     Tally(Tally),
-    /// The live cards of the book as CSV rows, in byte order of UID.
+    /// The live cards of the book as CSV rows, in the order of the octets of their UIDs.
     Csv(Items<u8>),
     /// The people that the group reaches, and the member values that name no live card.
     People(Expansion),

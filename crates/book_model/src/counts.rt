@@ -40,7 +40,7 @@ impl Counts {
         }
     }
 
-    /// Counts one more change.
+    /// Counts one more change: the count of its reason is one more, and the six others stay.
     pub fn add(&mut self, change: &Change)
         requires { total_changes self.old < 2 ^ 63 }
         ensures { self.new ≡ counts_after_change change.now self.old }
@@ -56,7 +56,8 @@ impl Counts {
         }
     }
 
-    /// How many cards are live after these changes.
+    /// How many cards are live after these changes: those that were created, imported and moved in,
+    /// less those that were deleted and moved out.
     pub fn live(&self) -> u64
         requires { total_changes self.now < 2 ^ 64 }
         ensures { result ≡ live_count self.now }

@@ -19,7 +19,7 @@ pub enum Fault {
 }
 
 impl Fault {
-    /// The number of the fault in replies: 19 or 20.
+    /// The number of the fault in replies: 19 for `Store`, 20 for `Memory`.
     pub fn number(&self) -> u8
         ensures { result ≡ book_fault_number self.now }
     {
@@ -29,7 +29,7 @@ impl Fault {
         }
     }
 
-    /// The text of the fault in replies.
+    /// The text of the fault in replies: `store-fault` or `no-memory`.
     pub fn text(&self) -> &'static str
         ensures { result.now ≡ book_fault_text self.now }
     {

@@ -71,8 +71,8 @@ impl Limits {
         })
     }
 
-    /// The same limits with another `keep`: the most tombstones of a book that is created from now
-    /// on. `None` unless it is from 1 to 10,000. It allocates nothing.
+    /// These limits, but with another `keep`: the most tombstones of a book that is created from
+    /// now on. `None` unless it is from 1 to 10,000. It allocates nothing.
     pub fn with_keep(self, keep: u64) -> Option<Limits>
         ensures some { IfSome result (λ limits. limits ≡ with_keep self keep) }
         ensures range { IsSome result ↔ ((1 ≤ keep) × (keep ≤ 10000)) }

@@ -16,7 +16,7 @@ abbrev pub lines_by_uid : LiveCards → finite.FinMap text_cmp (List Line)
 lines_by_uid live =
     finite.from_sorted (map (λ entry. (entry.0, entry.1.card)) (finite.entries live))
 
--- the CSV rows of the cards, in byte order of UID
+-- the CSV rows of the cards, in the order of the octets of their UIDs
 abbrev pub export_text : Form → LiveCards → List ℕ
 export_text form live = csv_text form (finite.values (lines_by_uid live))
 

@@ -59,7 +59,8 @@ fn header_words(alloc: Global, file: &str, head: &[u8]) -> Result<String, NoMemo
     Ok(format!(in alloc; "{file} has a header whose columns aren't known: {names}")?)
 }
 
-/// The same, with what to say of the columns to begin with.
+/// The words for a file of rows whose header isn't known, and then the value of `--columns` to
+/// begin with, if one can be made of the header.
 fn header_help(alloc: Global, file: &str, head: &[u8]) -> Result<String, NoMemory> {
     let mut words = header_words(alloc, file, head)?;
     let columns = suggested_columns(alloc, head)?;

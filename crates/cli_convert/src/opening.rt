@@ -157,7 +157,8 @@ fn dates_in<R: Read + Drop>(
     }
 }
 
-/// The same of a file that is opened once more.
+/// The order of day and month in the dates of the file, which is opened once more for it. A stop if
+/// it can't be read, or if its dates don't show the order.
 fn file_dates<F: Files>(
     alloc: Global,
     files: &F,

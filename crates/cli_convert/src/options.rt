@@ -30,7 +30,7 @@ pub struct ConvertOptions<'a> {
 }
 
 impl<'a> ConvertOptions<'a> {
-    /// The same of another file.
+    /// These options for another file: all but the path are as they were.
     pub(crate) fn of_file(self, file: &'a str) -> ConvertOptions<'a> {
         ConvertOptions {
             file,

@@ -118,7 +118,7 @@ fn convert_to_row_files<F: Files, R: Read + Drop, E: Write>(
     Ok(summary)
 }
 
-/// The same to a file for each card.
+/// Converts the first file, whose text this is, and those after it to a file for each card.
 fn convert_to_card_files<F: Files, R: Read + Drop, E: Write>(
     alloc: Global,
     files: &F,
@@ -134,7 +134,7 @@ fn convert_to_card_files<F: Files, R: Read + Drop, E: Write>(
     Ok(summary)
 }
 
-/// The same to rows on a writer.
+/// Converts the first file, whose text this is, and those after it to rows on a writer.
 fn convert_to_writer<F: Files, R: Read + Drop, W: Write, E: Write>(
     alloc: Global,
     files: &F,

@@ -120,7 +120,8 @@ fn row_at(alloc: Global, row: &ByteRecord, line: u64) -> Result<ExportRow, NoMem
 }
 
 impl<R: Read + Drop> ExportRows<R> {
-    /// Reads the rows of the source, whose first line is the header.
+    /// Reads the rows of the source, whose first line is the header. Nothing is read before the
+    /// first `next_row`.
     pub fn new(alloc: Global, source: R) -> ExportRows<R> {
         ExportRows {
             rows: ReaderBuilder::new()
@@ -166,7 +167,8 @@ impl<R: Read + Drop> ExportRows<R> {
         self.line.max(last.saturating_sub(count_feeds(&self.row)))
     }
 
-    /// The next row; `None` at the end of the source.
+    /// The next row; `None` at the end of the source. The error is `OutOfMemory` if an allocation
+    /// fails, and `Other` if the source fails. No clause says which rows it gives.
     pub fn next_row(&mut self, alloc: Global) -> io::Result<Option<ExportRow>> {
         self.read_header()?;
         if !self.has_next()? {

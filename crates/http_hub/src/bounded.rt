@@ -122,7 +122,7 @@ fn receive_beside<H: Handler>(
 }
 
 impl BoundedHub {
-    /// A hub with `limit` places and no connections.
+    /// A hub with `limit` places and no connections. `NoMemory` if its places can't be allocated.
     pub fn new(alloc: Global, limit: usize) -> Result<BoundedHub, NoMemory>
         ensures { IfOk result (λ hub. hub ≡ new_hub limit) }
     {
@@ -184,7 +184,7 @@ impl BoundedHub {
         self.hub.is_open(place)
     }
 
-    /// The serial number of the connection at the place.
+    /// The serial number of the connection at the place: how many were opened at the hub before it.
     pub fn serial(&self, place: usize) -> u64
         requires { IsOpenAt self.now place }
         ensures { (slot : Slot) → IsAt self.now place slot → result ≡ slot.serial }
@@ -264,7 +264,8 @@ impl BoundedHub {
         self.large_sum = sum_with(self.large_sum, part, next);
     }
 
-    /// Ends the connection at the place, which is then free.
+    /// Ends the connection at the place, which is then free. What it held or had pending is
+    /// dropped.
     pub fn end(&mut self, place: usize)
         requires { IsOpenAt self.old place }
         ensures { EndsAt place self.old self.new }
@@ -274,7 +275,8 @@ impl BoundedHub {
         self.large_sum = self.large_sum.saturating_sub(part);
     }
 
-    /// Whether the connection at the place has expired (`Hub::has_expired`).
+    /// Whether the connection at the place has expired (`Hub::has_expired`). Both times are in
+    /// milliseconds.
     pub fn has_expired(&self, place: usize, now: u64, patience: u64) -> bool
         requires { IsOpenAt self.now place }
         ensures { (slot : Slot) → IsAt self.now place slot

@@ -51,7 +51,7 @@ impl Model for Hub {
 }
 
 impl Hub {
-    /// A hub with `limit` places and no connections.
+    /// A hub with `limit` places and no connections. `NoMemory` if its places can't be allocated.
     pub fn new(alloc: Global, limit: usize) -> Result<Hub, NoMemory>
         ensures { IfOk result (λ hub. hub ≡ new_hub limit) }
     {
@@ -102,7 +102,7 @@ impl Hub {
         }
     }
 
-    /// The serial number of the connection at the place.
+    /// The serial number of the connection at the place: how many were opened at the hub before it.
     pub fn serial(&self, place: usize) -> u64
         requires { IsOpenAt self.now place }
         ensures { (slot : Slot) → IsAt self.now place slot → result ≡ slot.serial }
@@ -199,7 +199,8 @@ impl Hub {
         self.put_slot(place, slot);
     }
 
-    /// Ends the connection at the place, which is then free.
+    /// Ends the connection at the place, which is then free. What it held or had pending is
+    /// dropped.
     pub fn end(&mut self, place: usize)
         requires { IsOpenAt self.old place }
         ensures { EndsAt place self.old self.new }

@@ -136,7 +136,8 @@ fn drop_if_sent(out: &mut Vec<u8>, sent_count: usize) -> usize
 }
 
 impl Link {
-    /// The link of a new connection. It allocates nothing.
+    /// The link of a new connection, which was last active at the time `now`, in milliseconds. It
+    /// allocates nothing.
     pub fn new(alloc: Global, now: u64) -> Link
         ensures { result ≡ new_link now }
     {

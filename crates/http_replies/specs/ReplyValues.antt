@@ -1,4 +1,4 @@
--- Replies as JSON. The member names are this project's own; each object has them in byte order.
+-- Replies as JSON. The member names are this project's own, in the order of their octets.
 use Rattle.std.specs.Prelude.{ℕ, List, [], ◌∷◌, codes, map}
 use Rattle.serde_json.specs.Data.{Data, string, array}
 use Rattle.serde_json.specs.View.{items_of}

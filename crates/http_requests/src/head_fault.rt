@@ -66,7 +66,7 @@ impl HeadFault {
         }
     }
 
-    /// The text of the fault.
+    /// The text of the fault in replies, as `bad-head`.
     pub fn text(self) -> &'static str
         ensures { result.now ≡ head_fault_text self }
     {

@@ -20,14 +20,15 @@ pub enum HeadState {
 }
 
 impl HeadState {
-    /// Whether the head has ended.
+    /// Whether the head has ended, with the empty line after its fields (RFC 9112, section 2.1).
     pub fn has_ended(self) -> bool
         ensures { IsTrue result ↔ (self ≡ Ended) }
     {
         matches!(self, HeadState::Ended)
     }
 
-    /// The state after one more octet.
+    /// The state after one more octet. A line ends with a line feed, perhaps after a carriage
+    /// return (RFC 9112, section 2.2).
     pub fn next(self, octet: u8) -> HeadState
         ensures { result ≡ next self octet }
     {

@@ -45,14 +45,15 @@ impl Session {
         }
     }
 
-    /// Whether the session is closed.
+    /// Whether the session is closed: after a request that ends its connection, a fault of a head,
+    /// lack of memory, or `close`. It then ignores all octets, for good.
     pub fn closed(&self) -> bool
         ensures { IsTrue result ↔ (self.now ≡ None) }
     {
         self.progress.is_closed()
     }
 
-    /// Closes the session, and drops what it holds.
+    /// Closes the session, and drops what it holds of an incomplete request.
     pub fn close(&mut self, alloc: Global)
         ensures { self.new ≡ None }
     {

@@ -44,7 +44,7 @@ impl RouteFault {
         }
     }
 
-    /// The text of the fault.
+    /// The text of the fault in replies, as `no-route`.
     pub fn text(self) -> &'static str
         ensures { result.now ≡ route_fault_text self }
     {

@@ -92,7 +92,9 @@ impl Server {
         }
     }
 
-    /// Accepts every connection that waits, while places are free.
+    /// Accepts every connection that waits, while places are free and fewer than the limit were
+    /// accepted. If the endpoint has too few descriptors or too little memory, accepting is put off
+    /// for 100 milliseconds. `EndpointFault::Accept` if the listener fails, which ends the server.
     pub fn accept_all<E: Endpoint>(
         &mut self,
         alloc: Global,

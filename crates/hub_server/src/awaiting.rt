@@ -75,7 +75,10 @@ impl Server {
         }
     }
 
-    /// Waits until a connection or the listener is ready, or something is to be done.
+    /// Waits until a connection or the listener is ready, or something is to be done: until the
+    /// first connection expires, or accepting is tried again. It returns at once if a connection
+    /// was cut off at the end of its turn. `EndpointFault::Wait` if the endpoint can't wait, which
+    /// ends the server.
     pub fn wait<E: Endpoint>(
         &mut self,
         endpoint: &mut E,

@@ -58,7 +58,8 @@ fn piece_len(octets: &[u8]) -> usize
 }
 
 impl Seat {
-    /// A seat without a connection.
+    /// A seat without a connection, with room for the 16,384 octets of a read. `NoMemory` if it
+    /// can't be allocated.
     pub fn new(alloc: Global) -> Result<Seat, NoMemory>
         ensures { IfOk result (λ seat. seat ≡ new_seat) }
     {
@@ -72,7 +73,7 @@ impl Seat {
         })
     }
 
-    /// Whether the connection may be ready and had fewer steps than a turn has.
+    /// Whether the connection may be ready, and had fewer than the 32 steps of a turn.
     pub fn has_turn(&self) -> bool
         ensures { IsTrue result ↔ HasTurn self.now }
     {

@@ -46,7 +46,8 @@ impl Model for Server {
 }
 
 impl Server {
-    /// A server with `limit` places and no connections.
+    /// A server with `limit` places and no connections. `NoMemory` if the places, or the 16,384
+    /// octets of each seat, can't be allocated.
     pub fn new(alloc: Global, limit: usize) -> Result<Server, NoMemory>
         ensures { IfOk result (λ server. server ≡ new_server limit) }
     {
@@ -78,7 +79,8 @@ impl Server {
         place < self.seats.len() && self.hub.is_open(place) && self.seats[place].has_turn()
     }
 
-    /// What the connection at the place needs next.
+    /// What the connection at the place needs next: to send what is pending; to be closed, if its
+    /// session is; to be fed what was read; or to be read from, in this order.
     pub fn need(&self, place: usize) -> Need
         requires { HasTurnAt self.now place }
         ensures { IsNeed self.now place result }
@@ -94,7 +96,7 @@ impl Server {
         }
     }
 
-    /// Closes the connection at the place.
+    /// Closes the connection at the place. What was read and not fed, or is pending, is dropped.
     pub fn close<E: Endpoint>(&mut self, endpoint: &mut E, place: usize)
         requires is_open { IsOpenAt self.old.hub place }
         requires has_seat { place < length self.old.seats }

@@ -85,7 +85,7 @@ pub fn is_card(piece: &[u8]) -> bool
     begins_card(line)
 }
 
-/// The number of line feeds.
+/// The number of line feeds: how many lines end in the octets.
 pub fn count_lines(octets: &[u8]) -> usize
     ensures { result ≡ count_by (λ octet. octet == line_feed) octets.now }
 {

@@ -41,7 +41,8 @@ fn page_parts(value: &Value) -> Option<(&Value, &Value, &Value)>
     }
 }
 
-/// The same, where they are an array, a string and a boolean.
+/// The members, the token and the truncation flag of an object that has exactly these, if they are
+/// an array, a string and a boolean.
 fn typed_parts(value: &Value) -> Option<(&Vec<Value>, &str, bool)>
     ensures some { IfSome result (λ parts. view value.now
         ≡ page_object (array (items_view parts.0.now.items)) (string parts.1.now)

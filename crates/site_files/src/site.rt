@@ -74,7 +74,7 @@ impl Site {
         }
     }
 
-    /// The number of octets that the files may still have.
+    /// The number of octets that the files may still have, of 16,777,216 for all.
     pub fn room(&self) -> usize
         ensures { octets_of self.now + result ≡ most_octets }
     {

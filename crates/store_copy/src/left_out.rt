@@ -80,7 +80,8 @@ fn named_ids(alloc: Global, books: &[Row], names: &[Text]) -> Result<Vec<i64>, A
     Ok(ids)
 }
 
-/// The ids of the books with these names. A name that no book has is ignored.
+/// The ids of the books with these names. A name that no book has is ignored. `AllocError` if the
+/// list can't be allocated.
 pub fn ids_named(alloc: Global, rows: &StoredRows, names: &[Text]) -> Result<Vec<i64>, AllocError>
     ensures { IfOk result (λ ids. ids.items ≡ ids_named names.now rows.now) }
 {

@@ -62,7 +62,8 @@ fn list_members<S: Alter>(conn: &mut Connection<S>) -> Result<Vec<Row>, Error>
     )
 }
 
-/// Reads every row of the tables of a store, whatever their columns hold.
+/// Reads every row of the tables of a store, whatever their columns hold, and keeps them in memory.
+/// The error is that of the database, which may be lack of memory.
 pub fn list_tables<S: Alter>(conn: &mut Connection<S>) -> Result<StoredRows, Error>
     ensures lists { GivenTables S.Store conn.old conn.new
         (IfOk result (HasRows S.Store conn.old)) }

@@ -18,7 +18,8 @@ pub enum MemberState {
 }
 
 impl MemberState {
-    /// Returns the version of the live card, and the card.
+    /// Returns the version of the live card, and the card; `None` for a tombstone, and if the book
+    /// has neither.
     pub fn live(&self) -> Option<(u64, &Card)>
         ensures { as_stored result ≡ live_card self.now }
     {

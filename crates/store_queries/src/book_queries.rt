@@ -53,7 +53,9 @@ fn line_with(alloc: Global, name: &str, header: BookHeader) -> Result<BookLine, 
     })
 }
 
-/// Returns the line of the book with this name. Refused with `NoSuchBook`.
+/// Returns the line of the book with this name: its id, its number and its horizon. Refused with
+/// `NoSuchBook`. Over sound rows any other failure is a fault: `Memory`, or `Store` from an outside
+/// cause.
 pub fn line_of_book<S: Alter>(
     alloc: Global,
     conn: &mut Connection<S>,

@@ -28,7 +28,8 @@ use store_lookups::{BookHeader, column_of, fault_of, find_header};
 use store_tables::books::all_books;
 use store_tables::members::members_of;
 
-/// Returns the lines of all books, sorted by name in byte order.
+/// Returns the lines of all books, in the order of the octets of their names. Over sound rows it is
+/// never refused; a failure is a fault: `Memory`, or `Store` from an outside cause.
 pub fn lines_of_books<S: Alter>(
     alloc: Global,
     conn: &mut Connection<S>,

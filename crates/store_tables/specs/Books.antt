@@ -116,7 +116,7 @@ book_shown b = Int b.id ∷ Text b.name ∷ number_cells b.numbers
 abbrev pub book_listed : Row → Row
 book_listed r = column r 0 ∷ column r 2 ∷ number_cells_from 3 r
 
--- by name, in byte order
+-- in the order of the octets of the names
 abbrev pub by_name : BookRow → BookRow → Ordering
 by_name a b = text_cmp a.name b.name
 

@@ -101,7 +101,7 @@ pub fn find_book<S: Alter>(conn: &mut Connection<S>, name: &str) -> Result<Row, 
     )
 }
 
-/// Counts the books.
+/// Returns the number of books, as a row of one integer. The error is that of the database.
 pub fn count_books<S: Alter>(conn: &mut Connection<S>) -> Result<Row, Error>
     // The row is the number of books, or 2^63 - 1 if there are more.
     ensures counts { GivenBooks S.Store conn.old conn.new
@@ -223,8 +223,8 @@ pub fn renumber_book<S: Alter>(
     )
 }
 
-/// Returns the id, the name and the nine numbers of every book, sorted by name in byte order. No
-/// row is left out, whatever its columns hold.
+/// Returns the id, the name and the nine numbers of every book, in the order of the octets of the
+/// names. No row is left out, whatever its columns hold.
 pub fn all_books<S: Alter>(conn: &mut Connection<S>) -> Result<Vec<Row>, Error>
     ensures ordered { GivenBooks S.Store conn.old conn.new
         (λ bs. IfOk result (λ rows. AreRowsInOrder by_name book_shown bs rows.items)) }

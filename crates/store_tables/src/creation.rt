@@ -34,7 +34,8 @@ ghost use Rattle.std.specs.Prelude.{◌≡◌, OnOk};
 use crate::meta::{SCHEMA_NUMBER, insert_schema};
 use sqlite::{Alter, Error, Transaction, params};
 
-/// Creates the table `meta` in a database without tables.
+/// Creates the table `meta` in a database without tables, within the transaction. A failure has no
+/// effect, or undoes the whole transaction.
 pub fn create_meta<S: Alter>(tx: &mut Transaction<'_, S>) -> Result<usize, Error>
     ensures same_reference { tx.new.conn.ghost_name ≡ tx.old.conn.ghost_name }
     ensures creates { CreatesTable S.Store tx.old.conn.now tx.new.conn.now empty_schema with_meta 0
@@ -50,7 +51,8 @@ pub fn create_meta<S: Alter>(tx: &mut Transaction<'_, S>) -> Result<usize, Error
     )
 }
 
-/// Creates the table `book`; only `meta` exists.
+/// Creates the table `book` where `meta` is the only table, within the transaction. A failure has
+/// no effect, or undoes the whole transaction.
 pub fn create_books<S: Alter>(tx: &mut Transaction<'_, S>) -> Result<usize, Error>
     ensures same_reference { tx.new.conn.ghost_name ≡ tx.old.conn.ghost_name }
     ensures creates { CreatesTable S.Store tx.old.conn.now tx.new.conn.now with_meta with_books 2
@@ -69,7 +71,8 @@ pub fn create_books<S: Alter>(tx: &mut Transaction<'_, S>) -> Result<usize, Erro
     )
 }
 
-/// Creates the table `member`; `meta` and `book` exist.
+/// Creates the table `member` where `meta` and `book` are the only tables, within the transaction.
+/// A failure has no effect, or undoes the whole transaction.
 pub fn create_members<S: Alter>(tx: &mut Transaction<'_, S>) -> Result<usize, Error>
     ensures same_reference { tx.new.conn.ghost_name ≡ tx.old.conn.ghost_name }
     ensures creates { CreatesTable S.Store tx.old.conn.now tx.new.conn.now with_books with_members 4
@@ -87,7 +90,8 @@ pub fn create_members<S: Alter>(tx: &mut Transaction<'_, S>) -> Result<usize, Er
     )
 }
 
-/// Creates the table `import_key`; `meta`, `book` and `member` exist.
+/// Creates the table `import_key` where `meta`, `book` and `member` are the only tables, within the
+/// transaction. A failure has no effect, or undoes the whole transaction.
 pub fn create_imports<S: Alter>(tx: &mut Transaction<'_, S>) -> Result<usize, Error>
     ensures same_reference { tx.new.conn.ghost_name ≡ tx.old.conn.ghost_name }
     ensures creates { CreatesTable S.Store tx.old.conn.now tx.new.conn.now with_members first_schema

@@ -83,7 +83,9 @@ pub fn write_member<S: Alter>(
     Ok(())
 }
 
-/// Writes the member and the numbers in one transaction.
+/// Writes the row of the member and the numbers of the book in one transaction. `changed` is the
+/// book's next number, and `card` the canonical text; `None` makes a tombstone. On an error, and
+/// after a crash, both are written or neither.
 pub fn commit_member<S: Alter>(
     conn: &mut Connection<S>,
     id: i64,
@@ -124,7 +126,9 @@ pub fn commit_member<S: Alter>(
     Ok(())
 }
 
-/// The column values of the book's numbers after the change.
+/// The column values of the book's numbers after the change: the number is one more, and so is the
+/// count of the change's reason. Fails with `Store` if one of them is 2^63 or more, which no stored
+/// number is.
 pub fn columns_after(header: BookHeader, change: &Change) -> Result<BookNumbers, Denied>
     requires { header.number < 2 ^ 63 }
     ensures numbers { IfOk result (λ columns. numbers_of columns

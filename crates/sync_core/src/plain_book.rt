@@ -192,7 +192,7 @@ impl PlainBook {
         self.horizon
     }
 
-    /// The member rows, tombstones included.
+    /// The member rows by UID, tombstones included.
     pub fn members(&self) -> &TextMap<Row>
         ensures { result.now ≡ self.now.members }
     {
@@ -256,7 +256,7 @@ impl PlainBook {
         Tally::of(self.number, self.horizon, self.counts, remembered)
     }
 
-    /// Copies of all live cards, by UID. Reads all rows.
+    /// Copies of all live cards, by UID. Reads all rows. `NoMemory` if an allocation fails.
     pub fn live_cards(&self, alloc: Global) -> Result<TextMap<Stored>, NoMemory>
         ensures { IfOk result (λ cards. cards ≡ live_cards self.now) }
     {

@@ -35,7 +35,8 @@ fn entries(alloc: Global, members: &[(&str, &Row)]) -> Result<Items<Entry>, NoMe
     Ok(Items::from_vec(entries))
 }
 
-/// The due members in byte order of UID. Reads all rows of the book, however few are due.
+/// The due members in the order of the octets of their UIDs. Reads all rows of the book, however
+/// few are due.
 fn due_members<'a>(
     alloc: Global,
     members: &'a TextMap<Row>,

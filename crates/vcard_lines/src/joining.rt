@@ -5,7 +5,8 @@ ghost use Rattle.vcard_lines.specs.Unfolding.{line_so_far};
 
 use base_types::NoMemory;
 
-/// Whether a physical line continues the one before it.
+/// Whether a physical line continues the one before it: it begins with a space or a tab (RFC 6350,
+/// section 3.2).
 pub fn continues(piece: &str) -> bool
     ensures { result ≡ continues piece.now }
 {
@@ -31,7 +32,8 @@ pub fn line_so_far<'a>(first: &'a str, joined: &'a String) -> &'a str
     }
 }
 
-/// Appends a continuation line to the logical line so far.
+/// Appends a continuation line, without its first space or tab, to the logical line so far (RFC
+/// 6350, section 3.2). `NoMemory` if an allocation fails; `joined` may then hold a part.
 pub fn join(first: &str, joined: &mut String, piece: &str) -> Result<(), NoMemory>
     requires { IsTrue (continues piece.now) }
     ensures { OnOk result (line_so_far first.now (string_bytes joined.new)

@@ -64,7 +64,8 @@ fn push_group(out: &mut String, group: &Option<Text>) -> Result<(), NoMemory>
     Ok(())
 }
 
-/// Replaces the contents of `out` by the text of the line.
+/// Replaces the contents of `out` by the text of the line, without folds and without a line end
+/// (RFC 6350, section 3.3). `NoMemory` if an allocation fails; `out` may then hold a part.
 pub fn write_line(out: &mut String, line: &Line) -> Result<(), NoMemory>
     ensures { OnOk result (string_bytes out.new ≡ line_text line.now) }
 {

@@ -79,7 +79,8 @@ pub fn truncated_page(id: u64, mark: Mark, entries: Items<Entry>, last: u64) -> 
     }
 }
 
-/// The page of all due rows of a book with this number.
+/// The page of all due rows of a book with this number. It isn't truncated, and both numbers of its
+/// token are the book's.
 pub fn whole_page(id: u64, number: u64, entries: Items<Entry>) -> Page
     ensures report { (asked : ReportRequest) (rows : List MemberWithRow) → AreAllDueRows asked rows
         → asked.book.id ≡ id → asked.book.number ≡ number → entries ≡ map entry_of_row rows

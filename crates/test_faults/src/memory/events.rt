@@ -277,7 +277,8 @@ fn run_offices<K: Stores>(
     Ok(())
 }
 
-/// The same for the events of the lines, if the case is selected.
+/// Drives the events of the lines over a store with this filling, and over its twin, if the case is
+/// selected.
 fn run_drive_case<K: Stores>(
     harness: &mut Harness,
     kind: &K,

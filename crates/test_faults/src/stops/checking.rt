@@ -116,7 +116,8 @@ fn check_store<B: BookStore>(
     Ok(left)
 }
 
-/// The same for the tables.
+/// Checks the state that the stopped call left in the tables, as `check_store` does in a store over
+/// them.
 fn check_tables<S: Alter + Drop>(
     stop: Stop<'_>,
     tables: Connection<S>,

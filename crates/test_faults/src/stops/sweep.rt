@@ -197,7 +197,7 @@ fn stop_run<D: FusedDisk>(
     }
 }
 
-/// The same for a new run.
+/// Performs a new run with this fuse, and checks the disks. Returns whether it was stopped.
 fn stop_at<D: FusedDisk>(
     expected_run: &ExpectedRun,
     fuse: FuseAt,

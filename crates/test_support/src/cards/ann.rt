@@ -26,7 +26,8 @@ fn format_card(alloc: Global, card: &Card) -> Result<String, NoMemory> {
     Ok(format!(in alloc; "{uid} {kind:?} {count}{members}")?)
 }
 
-/// The same for Ann's card with the lines.
+/// The UID, the kind, the number of lines and the members of Ann's card with the lines, or its
+/// fault.
 pub(crate) fn run_card(alloc: Global, lines: &str) -> Result<String, NoMemory> {
     match ann_with(alloc, lines) {
         Ok(card) => format_card(alloc, &card),
@@ -42,8 +43,8 @@ fn format_first(alloc: Global, card: &Card, name: &str) -> Result<String, NoMemo
     }
 }
 
-/// The same for the first line of a name in Ann's card with the lines. The input is these, a bar,
-/// and the name.
+/// The parts of the first line of a name in Ann's card with the lines, or its fault. The input is
+/// these, a bar, and the name.
 pub(crate) fn run_first(alloc: Global, input: &str) -> Result<String, NoMemory> {
     let (lines, name) = input.split_once('|').unwrap_or((input, ""));
     match ann_with(alloc, lines) {

@@ -37,7 +37,7 @@ pub(crate) fn format_line(alloc: Global, line: &Line) -> Result<String, NoMemory
     Ok(format!(in alloc; "{name}|{value}|{octets}|{is_legal}|{is_same}|{text}")?)
 }
 
-/// The same for a line that is read.
+/// What `format_line` says of the line that the text is read as, or its fault.
 pub(crate) fn run_line(alloc: Global, text: &str) -> Result<String, NoMemory> {
     match read_line(alloc, text) {
         Ok(line) => format_line(alloc, &line),
@@ -45,7 +45,7 @@ pub(crate) fn run_line(alloc: Global, text: &str) -> Result<String, NoMemory> {
     }
 }
 
-/// The same for a line that is made of parts.
+/// What `format_line` says of the line that is made of the parts.
 pub(crate) fn run_part(alloc: Global, input: &str) -> Result<String, NoMemory> {
     let line = make_line(alloc, input)?;
     format_line(alloc, &line)

@@ -97,7 +97,8 @@ fn text_read_back(alloc: Global, card: &Card) -> Result<String, NoMemory> {
     Ok(String::from_str(alloc, "another card")?)
 }
 
-/// The same for a card that is made of the lines.
+/// The canonical text of the card that is made of the lines, if it is read as the same card; or the
+/// fault of the lines.
 fn format_made(alloc: Global, lines: Vec<Line>) -> Result<String, NoMemory> {
     match card_of_lines(alloc, lines) {
         Ok(card) => text_read_back(alloc, &card),
@@ -112,7 +113,7 @@ fn push_lines(alloc: Global, lines: &mut Vec<Line>, input: &str) -> Result<(), N
     Ok(())
 }
 
-/// The same for lines that bars separate.
+/// The canonical text of the card that is made of the lines, which bars separate, or their fault.
 pub(crate) fn run_make(alloc: Global, input: &str) -> Result<String, NoMemory> {
     let mut lines = Vec::new(alloc);
     push_lines(alloc, &mut lines, input)?;
