@@ -1,4 +1,7 @@
--- A consistent copy stays consistent through events and pages.
+-- A consistent copy stays consistent through events and pages. Given here: inductions over the log
+-- (`never_live`) and over the entries of a page (`get-applied`); whether the page is truncated; and
+-- that of numbers which rise, the first ones up to a place are all those that are at most the one
+-- there (`has-take`).
 use Rattle.std.proofs.Common.{◌≡◌, ℕ, zero, suc, ◌-◌, ◌<◌, ◌≤◌, max, min, Bool, true, false, cond}
 use Rattle.std.proofs.Common.{◌&&◌, ◌||◌, ◌==◌, List, [], ◌∷◌, length, take, map, get_or, Option}
 use Rattle.std.proofs.Common.{Some, None, Result, Ok, Err, nat_lt, nat_le, is_some, IsSome, inl}

@@ -1,5 +1,7 @@
 -- Each call extends the histories: it adds events, raises a horizon, keeps an import, and does
--- nothing else.
+-- nothing else. Given here: inductions over the calls and over the cards of an import; a case for
+-- each call, by the tests of its step in their order (`by_named`, `by_given`); and where one
+-- history was written, whether a name is its name.
 use Rattle.std.proofs.Common.{◌≡◌, ℕ, ◌≤◌, ◌⊎◌, inl, inr, Bool, true, false, cond, not, List, []}
 use Rattle.std.proofs.Common.{◌∷◌, ◌++◌, length, fold, Option, Some, None, Result, Ok, Err, is_some}
 use Rattle.std.proofs.Common.{filter, refl, sym, ap, ◌∙◌, subst, ⊎_elim, append_assoc, arith}

@@ -1,5 +1,7 @@
 -- A book stays well formed by a change that fits what is live, and by forgetting; and books do when
--- one is written over.
+-- one is written over. Given here: that a value in a map after a write is the one that was written,
+-- or was there before (`written_or_there`); a case for each reason of a change; of a removal,
+-- whether the oldest tombstone is dropped.
 use Rattle.std.proofs.Common.{◌≡◌, ℕ, ◌+◌, ◌<◌, ◌≤◌, Bool, true, false, cond, ◌⊎◌, ◌||◌, nat_lt}
 use Rattle.std.proofs.Common.{nat_le, not, inl, inr, List, [], length, filter, Option, Some, None}
 use Rattle.std.proofs.Common.{is_some, refl, sym, ap, ◌∙◌, subst, ⊎_elim, arith}

@@ -1,4 +1,7 @@
--- Each step keeps the books well formed, by what its tests leave.
+-- Each step keeps the books well formed, by what its tests leave. Given here: for each step what
+-- its tests leave, one after the other (`after_test`, `after_known`), so that a lemma of
+-- `WellFormedBooks` applies; of an import an induction over its cards, with the invariant
+-- `IsImporting`.
 use Rattle.std.proofs.Common.{◌≡◌, ℕ, ◌+◌, ◌<◌, ◌≤◌, true, false, cond, not, ◌⊎◌, inl, inr, ◌||◌}
 use Rattle.std.proofs.Common.{◌==◌, List, [], ◌∷◌, fold, Option, Some, None, is_some, nat_lt}
 use Rattle.std.proofs.Common.{nat_le, Result, Ok, refl, sym, ap, ◌∙◌, subst, ⊎_elim, arith}

@@ -1,4 +1,6 @@
--- The commands of a resync of all books, one book after the other.
+-- The commands of a resync of all books, one book after the other. Given here: inductions over the
+-- sorted list of the books, with the invariant `Ready`: those not reached yet are as they were.
+-- Maps are compared name by name. The spare card has a UID that is longer than each one there.
 use Rattle.std.proofs.Common.{◌≡◌, ℕ, zero, suc, ◌+◌, ◌<◌, ◌≤◌, Bool, true, false, cond, T, List}
 use Rattle.std.proofs.Common.{[], ◌∷◌, ◌++◌, map, flat_map, length, fold, max, Option, Some, None}
 use Rattle.std.proofs.Common.{codes, Result, Ok, Err, refl, sym, ap, ◌∙◌, subst, ⊎_elim, arith}

@@ -1,4 +1,7 @@
--- The commands of a resync are accepted, and leave the book in closed form.
+-- The commands of a resync are accepted, and leave the book in closed form. Given here: inductions
+-- over the pairs (`with_room`, `renewed_again`), by the closed form of the book with one pair less
+-- (`closed`); that a tombstone which is dropped on the way makes no difference, since the last
+-- forget drops it too; and whether the book has room, and which card is its first live one.
 use Rattle.std.proofs.Common.{◌≡◌, ℕ, zero, suc, ◌+◌, ◌<◌, ◌≤◌, Bool, true, false, cond, ◌||◌, List}
 use Rattle.std.proofs.Common.{[], ◌∷◌, ◌++◌, slice_get, length, Option, Some, None, is_some, nat_lt}
 use Rattle.std.proofs.Common.{nat_le, Result, Ok, Err, refl, sym, ap, ◌∙◌, subst, ⊎_elim, arith}

@@ -1,4 +1,6 @@
--- What a resync leaves: the rows, the live cards, and what devices are answered.
+-- What a resync leaves: the rows, the live cards, and what devices are answered. Given here: an
+-- induction over the later events (`later_or_live`); whether a row is that of the card that was
+-- renewed; and the histories of the rows before and after the resync (`has_grown`).
 use Rattle.std.proofs.Common.{◌≡◌, ℕ, ◌+◌, ◌<◌, ◌≤◌, ◌⊎◌, inl, inr, ◌==◌, ◌&&◌, ◌||◌, Bool, true}
 use Rattle.std.proofs.Common.{false, cond, List, [], ◌∷◌, ◌++◌, length, Option, Some, None, is_some}
 use Rattle.std.proofs.Common.{nat_lt, nat_le, Result, Ok, Err, refl, sym, ap, ◌∙◌, subst, ⊎_elim}

@@ -1,4 +1,7 @@
--- Live cards are ones that a text can spell, whatever commands are made.
+-- Live cards are ones that a text can spell, whatever commands are made. Given here: inductions
+-- over the cards of an import and over the steps of a run; a case for each call, of which a put and
+-- an import store a card that is legal, and a move one that was live; and whether a UID is the one
+-- of the event.
 use Rattle.std.proofs.Common.{◌≡◌, ◌+◌, ℕ, true, false, cond, not, List, [], ◌∷◌, fold, length}
 use Rattle.std.proofs.Common.{Option, Some, None, is_some, Result, Ok, Err, refl, sym, ap, ◌∙◌}
 use Rattle.std.proofs.Common.{subst, ⊎_elim}

@@ -1,4 +1,6 @@
--- A new device that requests page after page while no book changes.
+-- A new device that requests page after page while no book changes. Given here: the invariant of
+-- the pages so far (`IsMirroring`): each took as many of the due members as its size, and some are
+-- left; and how many pages are needed then.
 use Rattle.std.proofs.Common.{◌/◌, ◌%◌, zero, suc, ◌*◌, min, max, cond, nat_lt, ◌≤◌, ◌≡◌, ℕ, ◌+◌}
 use Rattle.std.proofs.Common.{◌<◌, ◌==◌, Bool, true, false, not, ◌&&◌, nat_le, List, [], ◌∷◌, ◌++◌}
 use Rattle.std.proofs.Common.{length, Option, Some, None, Result, Ok, Err, refl, sym, ap, ◌∙◌}

@@ -1,4 +1,6 @@
--- How long the book of a page accepts the page's token.
+-- How long the book of a page accepts the page's token. Given here: inductions over the steps of a
+-- run: for its calls (`run_calls`), and for the step at which a forget among them was made
+-- (`forgot_at`), by where two joined lists are cut (`split`).
 use Rattle.std.proofs.Common.{refl, ◌≡◌, ℕ, ◌<◌, List, [], ◌∷◌, ◌++◌, Option, Some, None, Result}
 use Rattle.std.proofs.Common.{Ok, Err, sym, ap, ◌∙◌, subst, ⊎_elim, inl, inr, ◌⊎◌}
 use Rattle.std.proofs.lemmas.Option.{same_Some}

@@ -1,4 +1,6 @@
--- What holds of a walk after a step, and at its end.
+-- What holds of a walk after a step, and at its end. Given here: a case for each step (its value
+-- names no card, a person, or a group that was found before or is found first), and an induction
+-- over the chain of groups that reaches a card (`group_met`).
 use Rattle.std.proofs.Common.{◌≡◌, ◌≢◌, ◌⊎◌, ℕ, List, [], ◌∷◌, ◌++◌, Some, refl, sym, ap, subst}
 use Rattle.std.proofs.Common.{◌∙◌, ⊎_elim, inl, inr, arith}
 use Rattle.std.specs.FinMap as finite

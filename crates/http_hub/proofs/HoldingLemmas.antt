@@ -1,4 +1,7 @@
--- What the connections of a hub hold, after each change of a place.
+-- What the connections of a hub hold, after each change of a place. Given here: an induction over
+-- the places (`total_set`), by which a write takes one part of the sum away and adds another;
+-- whether a load is small or large, before and after; and for each change of a link, that it holds
+-- no more or that it fits.
 use Rattle.std.proofs.Common.{◌≡◌, ◌∙◌, ◌==◌, ◌+◌, ◌-◌, ◌≤◌, ◌<◌, ◌≢◌, ◌⊎◌, ℕ, zero, suc, Bool}
 use Rattle.std.proofs.Common.{true, false, List, [], ◌∷◌, Option, Some, None, inl, inr, refl, sym}
 use Rattle.std.proofs.Common.{ap, subst, arith, drop, eq-eqb, length, replicate, slice_get}

@@ -1,4 +1,7 @@
 -- Operations on the links of all connections, by their serial numbers, are interleaved pieces.
+-- Given here: inductions over the steps of the hub, with a case for each (`links_fed`, `balance`).
+-- Sessions and pending octets are compared connection by connection: at the one of the step, and at
+-- any other one.
 use Rattle.std.proofs.Common.{◌≡◌, ◌∙◌, ◌==◌, ◌≤◌, ℕ, zero, suc, Bool, true, false, List, [], ◌∷◌}
 use Rattle.std.proofs.Common.{◌++◌, Option, Some, None, cond, refl, sym, ap, subst, length, drop}
 use Rattle.std.proofs.Common.{take, slice_get, slice_set, append_assoc}

@@ -1,4 +1,6 @@
--- The steps of the connection at one place.
+-- The steps of the connection at one place. Given here: what each act of the server is in each
+-- case, with all that it asks for; and that it leaves the turn fewer steps, since the seat made one
+-- more or is asleep.
 use Rattle.std.proofs.Common.{◌≡◌, ◌∙◌, ◌⊎◌, ◌<◌, ◌≤◌, ℕ, true, List, Option, Some, None, refl, sym}
 use Rattle.std.proofs.Common.{ap, subst, inl, inr, arith, drop, length, slice_get}
 use Rattle.std.proofs.lemmas.List.{set-set}

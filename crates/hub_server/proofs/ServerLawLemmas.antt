@@ -1,4 +1,7 @@
--- Every run of a server is a run of its hub.
+-- Every run of a server is a run of its hub. Given here: an induction over the steps of the server
+-- (`law_from`), with a case for each act. Its invariant `AreUnfed` says which octets of each
+-- connection were read and not fed yet; after a change of a place it is shown for that place and
+-- for any other one.
 use Rattle.std.proofs.Common.{◌≡◌, ◌∙◌, ◌==◌, ◌<◌, ◌≤◌, ℕ, zero, suc, Bool, true, false, List, []}
 use Rattle.std.proofs.Common.{◌∷◌, ◌++◌, Option, Some, None, refl, sym, ap, subst, inl, inr}
 use Rattle.std.proofs.Common.{append_assoc, arith, cond, drop, length, slice_get, slice_set, take}

@@ -1,4 +1,7 @@
--- The cause of an error of an INSERT of one row.
+-- The cause of an error of an INSERT of one row. Given here: for each of the three tables, that the
+-- new row passes what the table asks of it (`keep_admitted` and its like), also in the size of each
+-- index entry; and for each place at which the statement may stop, that only a limit on its steps
+-- is left.
 use Rattle.std.proofs.Common.{◌≡◌, ◌≢◌, inl, inr, ℕ, ℤ, pos, ◌≤◌, ◌^◌, true, false, not, ◌&&◌, ◌||◌}
 use Rattle.std.proofs.Common.{List, [], ◌∷◌, length, Option, None, Ok, Err, Result, IfErr, IsSome}
 use Rattle.std.proofs.Common.{refl, sym, ap, subst, ◌∙◌, arith}

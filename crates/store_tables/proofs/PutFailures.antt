@@ -1,4 +1,7 @@
--- The cause of an error of the upsert of a member.
+-- The cause of an error of the upsert of a member. Given here: that the new row passes what the
+-- table asks of it, also in the size of each index entry, in the case that a member has the UID and
+-- in the other one; and for each place at which the statement may stop, that only a limit on its
+-- steps is left.
 use Rattle.std.proofs.Common.{◌≡◌, ◌≢◌, inl, inr, ℕ, ℤ, ◌≤◌, ◌^◌, Bool, true, false, not, ◌&&◌}
 use Rattle.std.proofs.Common.{◌||◌, int_eq, List, [], ◌∷◌, ◌++◌, length, map, filter, Option, Some}
 use Rattle.std.proofs.Common.{None, Ok, Err, Result, IfErr, IsSome, refl, sym, ap, ap₂, subst}

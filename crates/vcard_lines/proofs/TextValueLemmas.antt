@@ -1,5 +1,7 @@
 -- Text values: a value has exactly one list of characters, and reading from left to right decodes
--- them.
+-- them. Given here: inductions over the octets and over the characters of a value, each with a case
+-- for a backslash before; of components, an induction that keeps the finished ones and the text
+-- since (`splits_after`).
 use Rattle.std.proofs.Common.{◌≡◌, ℕ, ◌<◌, ◌+◌, ◌↔◌, Bool, true, false, cond, ◌||◌, ◌==◌, List, []}
 use Rattle.std.proofs.Common.{◌∷◌, ◌++◌, map, flat_map, length, fold, chars, encode_utf8, IsUtf8}
 use Rattle.std.proofs.Common.{count_by, ◌&&◌, ◌⊎◌, inl, inr, append_assoc, refl, sym, ap, subst}

@@ -1,4 +1,7 @@
--- The fault of a logical line, as the scan finds it, is the least-numbered that the line has.
+-- The fault of a logical line, as the scan finds it, is the least-numbered that the line has. Given
+-- here: the tests of a line in the order of their faults (`by_tests`), and at each place of the
+-- scan which of them fail by themselves, since a line has one name and BEGIN and VERSION are no
+-- UID, KIND or END.
 use Rattle.std.proofs.Common.{◌≡◌, ℕ, ◌≤◌, Bool, true, false, cond, ◌||◌, ◌&&◌, List, [], ◌∷◌, ◌++◌}
 use Rattle.std.proofs.Common.{bytes_eq, Option, Some, None, Result, Ok, Err, ⊎_elim, refl, sym, ap}
 use Rattle.std.proofs.Common.{subst, ◌∙◌, lit≤}

@@ -1,4 +1,6 @@
--- The first fault that the scan finds is the first fault of the text, and there is no other.
+-- The first fault that the scan finds is the first fault of the text, and there is no other. Given
+-- here: inductions over the logical lines, from any place of the scan on (`finds`, `pass`). Their
+-- invariant `IsScanPlace` ties the place, and the lines of the card so far, to the lines before.
 use Rattle.std.proofs.Common.{◌≡◌, ◌⊎◌, ◌↔◌, ℕ, ◌<◌, ◌≤◌, Bool, true, false, cond, ◌||◌, ◌&&◌}
 use Rattle.std.proofs.Common.{nat_le, List, [], ◌∷◌, ◌++◌, length, find, bytes_eq, Option, Some}
 use Rattle.std.proofs.Common.{None, Result, Ok, Err, inl, inr, ⊎_elim, refl, sym, ap, subst, ◌∙◌}
