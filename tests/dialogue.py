@@ -12,13 +12,14 @@ import time
 import unittest
 from contextlib import contextmanager
 
-from http_requests import books
+from http_requests import books, card, create, get, request
 from model.books import Office
 from model.http import Session
 from program import Folder, Server, run
 
 # How often at most a test looks whether the server sleeps: then it has read what was sent.
 LOOKS_MAX = 100
+NOTES = ["NOTE:" + "x" * 70] * 3_000  # lines of a big card
 
 
 class Pace:
@@ -121,28 +122,6 @@ class ServedTest(unittest.TestCase):
                 connection.finish()
             self.compare(octets, further, connection.rest())
 
-    def send_and_read_slowly(self, octets, wanted):
-        """Sends more than is replied to, on a connection that closes, and reads 4,096 at a time."""
-
-        def attempt(pace):
-            with self.connection() as connection:
-                connection.socket.setsockopt(socket.SOL_SOCKET, socket.SO_RCVBUF, 4096)
-                sender = threading.Thread(target=connection.send, args=[octets])
-                sender.start()
-                replied = b""
-                while len(replied) < len(wanted):
-                    time.sleep(0.001)
-                    taken = connection.take(4096)
-                    if not taken:
-                        break
-                    replied += taken
-                replied += connection.rest()
-                sender.join()
-            self.compare(octets, wanted, replied)
-
-        # The rest of what it sends is waited for for a second.
-        again_if_slow(attempt, 0.8)
-
     @contextmanager
     def connection(self):
         """A connection to the server, which is killed if it keeps its client waiting too long.
@@ -193,6 +172,38 @@ class ServedTest(unittest.TestCase):
             shown = octets if len(octets) < 2_000 else octets[:1_000] + b" .. " + octets[-1_000:]
             self.assertEqual(wanted[-4_000:], replied[-4_000:], f"after {shown!r}")
             self.fail(f"{len(replied)} octets in place of {len(wanted)} after {shown!r}")
+
+
+class BigReplyTest(ServedTest):
+    """Over a book with one big card. `octets` ask for it, and for the end of their connection."""
+
+    def setUp(self):
+        super().setUp()
+        big = request("PUT", "/books/staff/cards/a", card("a", "Ann", *NOTES))
+        self.serve(create("staff"), big)
+        self.octets = get("staff", "a", fields=["Connection: close"])
+
+    def send_and_read_slowly(self, octets, wanted):
+        """Sends more than is replied to, on a connection that closes, and reads 4,096 at a time."""
+
+        def attempt(pace):
+            with self.connection() as connection:
+                connection.socket.setsockopt(socket.SOL_SOCKET, socket.SO_RCVBUF, 4096)
+                sender = threading.Thread(target=connection.send, args=[octets])
+                sender.start()
+                replied = b""
+                while len(replied) < len(wanted):
+                    time.sleep(0.001)
+                    taken = connection.take(4096)
+                    if not taken:
+                        break
+                    replied += taken
+                replied += connection.rest()
+                sender.join()
+            self.compare(octets, wanted, replied)
+
+        # The rest of what it sends is waited for for a second.
+        again_if_slow(attempt, 0.8)
 
 
 class Talk:

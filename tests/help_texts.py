@@ -9,6 +9,12 @@ HELP = {}
 
 FILE = ("<FILE>", "Path of the store file")
 BOOK = ("<BOOK>", "Name of the book, 1 to 40 characters of a-z, 0-9 and -")
+SKIP_OPTIONS = """\
+Options:
+      --skip <N>  Even number of changes to skip in each book, 2 to 1000000000; it must be greater \
+than the number of changes that were lost [default: 1000000]
+  -h, --help      Print help
+"""
 
 
 def plain(order, about, arguments, example, more=""):
@@ -293,11 +299,7 @@ Arguments:
   <BACKUP>  Path of a copy of the store file
   <FILE>    Path of the store file
 
-Options:
-      --skip <N>  Even number of changes to skip in each book, 2 to 1000000000; it must be greater \
-than the number of changes that were lost [default: 1000000]
-  -h, --help      Print help
-
+""" + SKIP_OPTIONS + """
 Example:
   contacts restore backup.db office.db
 
@@ -314,11 +316,7 @@ Usage: contacts resync [OPTIONS] <FILE>
 Arguments:
   <FILE>  Path of the store file
 
-Options:
-      --skip <N>  Even number of changes to skip in each book, 2 to 1000000000; it must be greater \
-than the number of changes that were lost [default: 1000000]
-  -h, --help      Print help
-
+""" + SKIP_OPTIONS + """
 Example:
   contacts resync office.db
 

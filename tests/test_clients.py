@@ -11,7 +11,7 @@ import threading
 import time
 import unittest
 
-from dialogue import ServedTest, Talk, again_if_slow, reset
+from dialogue import NOTES, BigReplyTest, ServedTest, Talk, again_if_slow, reset
 from http_requests import COLUMNS, books, card, create, export, get, import_rows, put, request, sync
 from http_requests import tally
 from model.http import Session
@@ -20,7 +20,6 @@ from program import PATIENCE, Ended
 SLACK = 20  # seconds that a busy machine may need beside what is measured
 BODY_MAX = 8_388_608
 NOTE = 240_000  # octets that a card's note may have, with its folds
-NOTES = ["NOTE:" + "x" * 70] * 3_000  # lines of a big card
 
 
 def rows_of(octets):
@@ -167,16 +166,10 @@ class BreakingOff(ServedTest):
         self.serve(tally("staff"))
 
 
-class Closing(ServedTest):
+class Closing(BigReplyTest):
     """Connections that the server closes while the client still sends, or stays silent."""
 
     order = "run"
-
-    def setUp(self):
-        super().setUp()
-        big = request("PUT", "/books/staff/cards/a", card("a", "Ann", *NOTES))
-        self.serve(create("staff"), big)
-        self.octets = get("staff", "a", fields=["Connection: close"])
 
     def test_slow_client_that_sends_on(self):
         """A megabyte follows the request that closes. A client that reads slowly gets the reply."""

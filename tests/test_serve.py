@@ -11,13 +11,12 @@ import threading
 import time
 import unittest
 
-from dialogue import ServedTest, Talk, reset
+from dialogue import NOTES, BigReplyTest, ServedTest, Talk, reset
 from http_requests import books, card, create, export, get, put, request, tally
 from model.http import Session
 from program import PATIENCE, Ended
 
 SLACK = 12  # seconds that a busy machine may need beside what is measured
-NOTES = ["NOTE:" + "x" * 70] * 3_000  # lines of a big card
 
 
 def is_quiet(connection, seconds=0.3):
@@ -135,14 +134,8 @@ class Ending(ServedTest):
         self.assertEqual(-signal.SIGTERM, self.server.stop().status)
 
 
-class Closing(ServedTest):
+class Closing(BigReplyTest):
     """Connections that the server closes. It waits for their clients for a moment."""
-
-    def setUp(self):
-        super().setUp()
-        big = request("PUT", "/books/staff/cards/a", card("a", "Ann", *NOTES))
-        self.serve(create("staff"), big)
-        self.octets = get("staff", "a", fields=["Connection: close"])
 
     def test_slow_client_that_sends_on(self):
         """A megabyte follows the request that closes. A client that reads slowly gets the reply."""
