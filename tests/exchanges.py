@@ -6,8 +6,8 @@ the last often asks what the books hold. To add a row, copy one; to add a reques
 
 from collections import namedtuple
 
-from http_requests import COLUMNS, FULL_CARDS, books, card, create, export, forget, get, import_rows
-from http_requests import move, people, put, remove, request, sync, tally
+from http_requests import COLUMNS, EACH_OF_A_BOOK, FULL_CARDS, books, card, create, export, forget
+from http_requests import get, import_rows, move, people, put, remove, request, sync, tally
 
 Row = namedtuple("Row", "title connections")
 Sent = namedtuple("Sent", "title octets")
@@ -300,16 +300,7 @@ EACH_COMMAND = row(
         books(),
         tally("staff"),
         STAFF,
-        tally("staff"),
-        sync("staff"),
-        import_k(COLUMNS),
-        export("staff"),
-        forget("staff", 0),
-        get("staff", "a"),
-        put("staff", "a", "Ann"),
-        remove("staff", "a"),
-        move("a", "staff", "clients"),
-        people("staff", "a"),
+        *EACH_OF_A_BOOK,
     ),
     connection(
         "what doesn't reach the store",

@@ -71,3 +71,18 @@ def export(book, form=None):
 
 def forget(book, upto):
     return request("POST", f"/books/{book}/forget?upto={upto}")
+
+
+# A request for each route of the book `staff` and its card a; the book `clients` isn't there.
+EACH_OF_A_BOOK = [
+    tally("staff"),
+    sync("staff"),
+    import_rows("staff", "k", COLUMNS),
+    export("staff"),
+    forget("staff", 0),
+    get("staff", "a"),
+    put("staff", "a", "Ann"),
+    remove("staff", "a"),
+    move("a", "staff", "clients"),
+    people("staff", "a"),
+]

@@ -12,24 +12,10 @@ HERE = Path(__file__).resolve().parent
 sys.dont_write_bytecode = True
 sys.path += [str(HERE.parent / "test_all"), str(HERE.parent.parent / "tests")]
 import parts
-from http_requests import COLUMNS, books, card, create, export, forget, get, import_rows, move, people
-from http_requests import put, remove, request, sync, tally
+from http_requests import EACH_OF_A_BOOK, books, card, create, put, request, sync, tally
 
 STAFF = create("staff")
-EACH_COMMAND = [
-    books(),
-    STAFF,
-    tally("staff"),
-    sync("staff"),
-    import_rows("staff", "k", COLUMNS),
-    export("staff"),
-    forget("staff", 0),
-    get("staff", "a"),
-    put("staff", "a", "Ann"),
-    remove("staff", "a"),
-    move("a", "staff", "clients"),
-    people("staff", "a"),
-]
+EACH_COMMAND = [books(), STAFF, *EACH_OF_A_BOOK]
 # These fail before any store is called.
 NO_COMMAND = [
     request("GET", "/"),
