@@ -1,4 +1,6 @@
--- The books of rows of which some books are left out.
+-- The books of rows of which some books are left out. Given here: inductions over lists of items
+-- and of names (`any_has`, `has_kept`, `mapped_has`), and whether the book that is looked at is one
+-- of those that are left out.
 use Rattle.std.proofs.Common.{◌≡◌, inl, inr, ◌⊎◌, ◌-◌, ℕ, suc, ℤ, Bool, true, false, not, ◌&&◌}
 use Rattle.std.proofs.Common.{◌||◌, List, [], ◌∷◌, map, filter, find, length, Option, Some, None}
 use Rattle.std.proofs.Common.{nat_lt, int_eq, IsPermutation, refl, sym, ap, ap₂, subst, ◌∙◌}

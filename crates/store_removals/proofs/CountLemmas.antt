@@ -1,5 +1,7 @@
 -- How many tombstones a book has after a removal, where the members of a book have different
--- numbers.
+-- numbers. Given here: inductions over the members, with a case split on whether there is a least
+-- number among the others: for the least number, and for how many are above it (`least_among`,
+-- `one_least`).
 use Rattle.std.proofs.Common.{◌≡◌, ℕ, ℤ, pos, negsuc, ◌+◌, ◌<◌, ◌≤◌, min, inl, inr, Bool, true}
 use Rattle.std.proofs.Common.{false, not, ◌&&◌, ◌||◌, cond, List, [], ◌∷◌, map, filter, length}
 use Rattle.std.proofs.Common.{Option, Some, None, is_some, int_eq, int_lt, nat_lt, nat_le, refl}

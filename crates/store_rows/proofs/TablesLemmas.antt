@@ -1,4 +1,6 @@
--- The tables of well-formed books are computed from the books.
+-- The tables of well-formed books are computed from the books. Given here: inductions over lists of
+-- items, by which some pass (`all_passing`, `flat_map_each`); and for each table, which columns of
+-- an item are those of its book's entry.
 use Rattle.std.proofs.Common.{◌≡◌, inl, inr, ℕ, ℤ, pos, Bool, true, false, ◌||◌, ◌≤◌, List, [], ◌∷◌}
 use Rattle.std.proofs.Common.{◌++◌, drop, map, filter, find, flat_map, Option, Some, None, int_eq}
 use Rattle.std.proofs.Common.{IfSome, IsPermutation, refl, sym, ap, ap₂, subst, ◌∙◌, arith}

@@ -1,4 +1,6 @@
 -- The first fault that making a card finds is the first fault of the lines, and there is no other.
+-- Given here: inductions over the lines, from any line on (`finds`, `pass`, `takes`), with what the
+-- check finds in the first of them.
 use Rattle.std.proofs.Common.{◌≡◌, ◌⊎◌, ◌↔◌, Bool, true, false, cond, ◌||◌, nat_le, List, [], ◌∷◌}
 use Rattle.std.proofs.Common.{◌++◌, length, IsUtf8, Option, Some, None, Result, Ok, Err, inl, inr}
 use Rattle.std.proofs.Common.{⊎_elim, refl, sym, ap, subst, ◌∙◌, append_assoc}
