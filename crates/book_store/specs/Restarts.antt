@@ -77,9 +77,9 @@ module _ {D : Type 0} {g : Ghosts D} where
     pub failed : MoreFaults (faults_of g files) (faults_left left)
 
   -- Why a file whose bytes hold a store doesn't open. If it wasn't opened, memory ran out, or it
-  -- can't be used, as if it isn't there or another process has it open. Otherwise memory ran out; or
-  -- the disk failed as the file was opened or its rows were read; or it is as long as its format can
-  -- number.
+  -- can't be used, as if it isn't there or another process has it open. Otherwise memory ran out;
+  -- or the disk failed as the file was opened or its rows were read; or it is as long as its format
+  -- can number.
   abbrev pub HasPathCause : Image → Database → OpenFault → Option (Leftover D g) → Type 0
   HasPathCause image db fault None = IsErrorFault fault
   HasPathCause image db fault (Some left) = IsCleanLeft left → (fault ≡ Memory)

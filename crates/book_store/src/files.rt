@@ -79,8 +79,8 @@ fn creation_fault_after<S: Start>(
     }
 }
 
-/// The same for files in which a store was to be opened. Nothing is done to what is left of them,
-/// unless they hold no database.
+/// Returns why no store is opened in files over which opening a connection failed with the error.
+/// Nothing is done to what is left of them, unless they hold no database.
 fn open_fault_after<S: Start>(
     alloc: Global,
     error: Error,
@@ -118,7 +118,8 @@ pub(crate) fn creation_refusal<S: Start>(
     }
 }
 
-/// The same for files in which a store was to be opened.
+/// Returns why no store is opened in files if opening a connection failed with the error, and what
+/// is left of the files.
 pub(crate) fn open_refusal<S: Start>(
     alloc: Global,
     error: Error,

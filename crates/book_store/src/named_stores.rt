@@ -41,7 +41,8 @@ impl<S: Start> SqlStore<FileStore<FileFrom<S>>> {
         limits: Limits,
         start: S,
     ) -> Result<FileBooksFrom<S>, FileRefusal<S>>
-        // One connection is opened, to the file at this path, and nothing else is asked of the files.
+        // One connection is opened, to the file at this path, and nothing else is asked of the
+        // files.
         ensures calls { OpensOrCreates path.now result true (F.log files.old) (F.log files.new) }
         ensures found { IfOk result (λ store. IsOpenOnHonestDisk (file_state store.conn)
             → StartsWithoutTables file_state has_page_sums

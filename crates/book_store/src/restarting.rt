@@ -25,8 +25,8 @@ use store_schema::{OpenFault, open_fault_of};
 impl<D: Disk + Drop> SqlStore<FileStore<D>> {
     /// Ends the use of the store without writing, and returns its files. Whatever a crash leaves of
     /// them holds a store, which opens again (`left_stores_open`), as long as the disk has returned
-    /// what was written. That is so also if the connection was closed. If it was open, the books are
-    /// those of the store.
+    /// what was written. That is so also if the connection was closed. If it was open, the books
+    /// are those of the store.
     pub fn into_files(self) -> Files<D>
         ensures leaves { LeaveOneOf D.Disk result (LeftTrees (file_state self.conn)) }
         ensures books { IsOpenOnHonestDisk (file_state self.conn) → LeaveOneOf D.Disk result
@@ -40,7 +40,8 @@ impl<D: Disk + Drop> SqlStore<FileStore<D>> {
     /// Opens the store that an earlier run left in its files.
     ///
     /// If they hold a store, it has their books. Then an opening fails only with `Memory` if memory
-    /// runs out, and with `Store` if the disk fails or the files are as long as their format allows.
+    /// runs out, and with `Store` if the disk fails or the files are as long as their format
+    /// allows.
     pub fn open_again(
         alloc: Global,
         files: Files<D>,

@@ -11,7 +11,8 @@ use Rattle.store_schema.specs.OpenFaults.{open_fault_of_error}
 use Rattle.store_schema.specs.declared.open_fault.OpenFault.{OpenFault}
 use Rattle.store_schema.specs.declared.open_fault.OpenFault.TheVariants.{Memory, NotOurs}
 
--- A refusal: if no file was opened, the fault is that of the error; otherwise the files come with it.
+-- A refusal: if no file was opened, the fault is that of the error; otherwise the files come with
+-- it.
 abbrev pub IsRefusalOf : {L : Type 0} → Option Error → OpenFault × Option L → Type 0
 IsRefusalOf (Some error) refused = refused ≡ (open_fault_of_error error, None)
 IsRefusalOf None refused = ¬ (refused.1 ≡ None)
