@@ -15,7 +15,7 @@ use Rattle.sqlite_disk.specs.declared.Files.{Files}
 use Rattle.sqlite_store.specs.declared.store.FileStore.{FileStore}
 use Rattle.book_model.specs.Books.{Books}
 use Rattle.book_store.specs.StoreViews.{MayLeaveBooks}
-use Rattle.database_files.specs.Restarts.{HoldsListed, ShowsOpened}
+use Rattle.named_files.specs.Restarts.{HoldsListed, ShowsOpened}
 use Rattle.store_check.specs.OpenResults.{max_limits}
 use Rattle.store_schema.specs.OpenFaults.{IsErrorFault}
 use Rattle.store_schema.specs.declared.open_fault.OpenFault.{OpenFault}
