@@ -18,9 +18,9 @@ pub trait AdminStore: BookStore {
         ensures crash { LeavesNoMore Self.model self.old self.new result };
 
     /// Makes every device start again: each book takes the numbers of this many pairs of a creation
-    /// and a removal, and forgets every removal. No pairs count as one. Returns the number of books.
-    /// Refused with `ChangesSpent` if a book would pass the limit of changes, and with `BookFull` if
-    /// it has more cards than the limit.
+    /// and a removal, and forgets every removal. No pairs count as one. Returns the number of
+    /// books. Refused with `ChangesSpent` if a book would pass the limit of changes, and with
+    /// `BookFull` if it has more cards than the limit.
     fn resync_books(&mut self, pairs: u64) -> Result<u64, Denied>
         ensures fault { IfFault result Self.model.may_fault }
         ensures resyncs { Resyncs Self.model self.old pairs result self.new };

@@ -21,13 +21,13 @@ use Rattle.sqlite_trees.specs.declared.error.StoreError.{StoreError}
 use Rattle.sqlite_trees.specs.declared.error.StoreError.TheVariants as stored
 use Rattle.book_model.specs.Books.{Books}
 use Rattle.named_files.specs.Connections.{FailsToConnect, IsUnopenedError}
-use Rattle.database_files.specs.Restarts.{ShowsOpened}
+use Rattle.named_files.specs.Restarts.{ShowsOpened}
 use Rattle.store_schema.proofs.LeftoverLemmas.{no_database}
 use Rattle.store_schema.specs.OpenFaults.{open_fault_of_error}
 use Rattle.store_schema.specs.declared.open_fault.OpenFault.{OpenFault}
 use Rattle.store_schema.specs.declared.open_fault.OpenFault.TheVariants.{Memory, Store}
 use Rattle.book_store.specs.FileRefusals.{ForgetsNoFault, IsFileOpenRefusal, IsUnlessNoDatabase}
-use Rattle.book_store.specs.FileRefusals.{IsUnlessVacant}
+use Rattle.book_store.specs.FileRefusals.{IsUnlessEmpty}
 use Rattle.book_store.specs.Restarts.{FailsAtOpening, FailsOnceOpened, HasPathCause, HoldsStore}
 use Rattle.book_store.specs.Restarts.{declared_over}
 
@@ -138,8 +138,8 @@ module _ {D : Type 0} {g : Ghosts D} where
       subst (HasPathCause image db fault) (sym it.1) (λ again. cause) clean
 
 -- the file wasn't refused as empty
-pub unless_vacant : {A L : Type 0} (result : Result A (OpenFault × Option L))
+pub unless_empty : {A L : Type 0} (result : Result A (OpenFault × Option L))
     (Fact : OpenFault × Option L → Type 0) → IfErr result Fact
-    → IfErr result (λ refused. IsUnlessVacant refused (Fact refused))
-unless_vacant (Ok value) Fact h = tt
-unless_vacant (Err refused) Fact h = inr h
+    → IfErr result (λ refused. IsUnlessEmpty refused (Fact refused))
+unless_empty (Ok value) Fact h = tt
+unless_empty (Err refused) Fact h = inr h

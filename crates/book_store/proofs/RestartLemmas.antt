@@ -18,7 +18,7 @@ use Rattle.sqlite.specs.declared.file.Leftover.TheVariants as leftover
 use Rattle.book_model.specs.WellFormed.{IsWellFormed}
 use Rattle.book_model.specs.Bounds.{Bounds}
 use Rattle.book_model.specs.Books.{Books}
-use Rattle.database_files.specs.Restarts.{HasOpenCause, LeaveOneOf, ShowsOpened}
+use Rattle.named_files.specs.Restarts.{HasOpenCause, LeaveOneOf, ShowsOpened}
 use Rattle.store_check.specs.OpenResults.{max_limits}
 use Rattle.store_lookups.specs.StoredBooks.{IsOpenOnHonestDisk, stored_books}
 use Rattle.store_rows.specs.TableBooks.{books_in}

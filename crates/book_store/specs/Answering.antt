@@ -14,7 +14,8 @@ pub record IsTestFault {A : Type 0} (old new : State) (result : Result A Denied)
   pub from_outside : FaultsFromOutside old new result
 
 -- the answer stands, or a fault took its place
-abbrev pub StandsOrFaults : {A : Type 0} → State → State → Result A Denied → Result A Denied → Type 0
+abbrev pub StandsOrFaults : {A : Type 0} → State → State → Result A Denied → Result A Denied
+    → Type 0
 StandsOrFaults old new answer result = (result ≡ answer) ⊎ IsTestFault old new result
 
 -- if the disk has returned what was written, the connection is open, or the result is a fault

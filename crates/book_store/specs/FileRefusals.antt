@@ -105,5 +105,5 @@ module _ {D : Type 0} {g : Ghosts D} where
 
 -- The file was refused since it is empty and has no log, which a call of the system told; or this
 -- holds.
-abbrev pub IsUnlessVacant : {L : Type 0} → OpenFault × Option L → Type 0 → Type 0
-IsUnlessVacant refused Otherwise = (refused ≡ (NotOurs, None)) ⊎ Otherwise
+abbrev pub IsUnlessEmpty : {L : Type 0} → OpenFault × Option L → Type 0 → Type 0
+IsUnlessEmpty refused Otherwise = (refused ≡ (NotOurs, None)) ⊎ Otherwise

@@ -15,7 +15,7 @@ use Rattle.sqlite_disk.specs.declared.Files.{Files}
 use Rattle.sqlite_store.specs.declared.store.FileStore.{FileStore}
 use Rattle.book_model.specs.Books.{Books}
 use Rattle.book_store.specs.StoreViews.{MayLeaveBooks}
-use Rattle.database_files.specs.Restarts.{HoldsListed, ShowsOpened}
+use Rattle.named_files.specs.Restarts.{HoldsListed, ShowsOpened}
 use Rattle.store_check.specs.OpenResults.{max_limits}
 use Rattle.store_schema.specs.OpenFaults.{IsErrorFault}
 use Rattle.store_schema.specs.declared.open_fault.OpenFault.{OpenFault}
@@ -77,9 +77,9 @@ module _ {D : Type 0} {g : Ghosts D} where
     pub failed : MoreFaults (faults_of g files) (faults_left left)
 
   -- Why a file whose bytes hold a store doesn't open. If it wasn't opened, memory ran out, or it
-  -- can't be used, as if it isn't there or another process has it open. Otherwise memory ran out; or
-  -- the disk failed as the file was opened or its rows were read; or it is as long as its format can
-  -- number.
+  -- can't be used, as if it isn't there or another process has it open. Otherwise memory ran out;
+  -- or the disk failed as the file was opened or its rows were read; or it is as long as its format
+  -- can number.
   abbrev pub HasPathCause : Image → Database → OpenFault → Option (Leftover D g) → Type 0
   HasPathCause image db fault None = IsErrorFault fault
   HasPathCause image db fault (Some left) = IsCleanLeft left → (fault ≡ Memory)

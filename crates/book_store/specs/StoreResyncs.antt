@@ -11,9 +11,9 @@ use Rattle.book_store.specs.StoreViews.{StoreView, table_model}
 use Rattle.store_writes.specs.TableChanges.{CommitsStep}
 
 -- The contract of every store, against the step of a resync, and what a crash can leave. That is
--- what it could leave before the call, or the one commit, with the books after the whole call, which
--- is made only over a connection that was open on an honest disk. The causes of a fault of the store
--- are left open.
+-- what it could leave before the call, or the one commit, with the books after the whole call,
+-- which is made only over a connection that was open on an honest disk. The causes of a fault of
+-- the store are left open.
 pub record ResyncsStore {S : Type 0} (g : Ghosts S) (old new : StoreView S) (pairs : ℕ)
     (r : Result ℕ Denied) : Type 0 where
   pub keeps_terms : KeepsTerms (table_model g) old new

@@ -36,8 +36,9 @@ pub record StoredTrees (trees : Trees) : Type 0 where
   pub well_formed : IsWellFormed max_limits books
 
 -- The invariant of a store: no transaction is open; and as long as the connection is open on an
--- honest disk, the tables are committed and sound, and hold well-formed books, by the limits that an
--- opening tests. Whatever a crash may leave is a store too, also after the connection was closed.
+-- honest disk, the tables are committed and sound, and hold well-formed books, by the limits that
+-- an opening tests. Whatever a crash may leave is a store too, also after the connection was
+-- closed.
 pub record IsStore (s : State) (limits : Bounds) : Type 0 where
   pub settled : s.in_transaction ≡ false
   pub stays_sound : IsOpenOnHonestDisk s → IsCommittedAndSound s
@@ -87,9 +88,9 @@ pub record ReadsStore {S : Type 0} {T A : Type 0} (g : Ghosts S) (allows : T →
       → HasOutsideCauseOfFault (state g old.conn) (state g new.conn) r
 
 -- A call that changes the books: the contract of every store, and what a crash can leave. That is
--- what it could leave before the call, or the one commit, with the books after the whole call, which
--- is made only over a connection that was open on an honest disk. While SQLite has ids for new rows,
--- a fault of the store comes only from an outside cause.
+-- what it could leave before the call, or the one commit, with the books after the whole call,
+-- which is made only over a connection that was open on an honest disk. While SQLite has ids for
+-- new rows, a fault of the store comes only from an outside cause.
 pub record ChangesStore {S : Type 0} {A : Type 0} (g : Ghosts S) (old new : StoreView S)
     (r : Result A Denied) (step : Bounds → Books → Result (A × Books) Refusal) : Type 0 where
   pub keeps_terms : KeepsTerms (table_model g) old new

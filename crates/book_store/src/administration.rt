@@ -3,8 +3,8 @@ use crate::files::FileBooks;
 use admin_store::AdminStore;
 use book_model::Denied;
 
-// Of the store over files alone. While it was of a store over any `Alter`, the prover stopped at its
-// limit where the program calls a function over any `AdminStore`.
+// Of the store over files alone. While it was of a store over any `Alter`, the prover stopped at
+// its limit where the program calls a function over any `AdminStore`.
 impl AdminStore for FileBooks {
     fn keep(&mut self, book: &str) -> Result<u64, Denied> {
         self.keep_of(book)

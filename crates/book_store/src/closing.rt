@@ -116,7 +116,7 @@ fn fill_new<S: Alter, D: Disk + Drop>(
     }
 }
 
-/// The same, unless the file has tables.
+/// Copies the books into the new file of the connection, unless it has tables.
 fn fill_if_empty<S: Alter, D: Disk + Drop>(
     rt: &HostRuntime,
     books: &mut SqlStore<S>,

@@ -160,8 +160,8 @@ impl<S: Alter> SqlStore<S> {
     /// connection must be outside a transaction.
     ///
     /// The rows are written in one transaction. Then the copy is opened as any store, which tests
-    /// all its rows, and these are compared with those of this store, the members one at a time. The
-    /// rows of this store are held in memory.
+    /// all its rows, and these are compared with those of this store, the members one at a time.
+    /// The rows of this store are held in memory.
     ///
     /// Fails with `NotEmpty` if there is a table, an index or a view; with `Memory` if memory runs
     /// out; and with `Store` for any other error of either database, or if the copy isn't equal. An

@@ -1,7 +1,6 @@
 //! Finds the row at fault in a file that isn't opened since it is damaged.
 ghost use Rattle.book_store.specs.FileSearches.{IsFileSearch, with_fault};
 ghost use Rattle.named_files.specs.FileOpenings.{OpensFound};
-ghost use Rattle.sqlite.specs.WalFiles.{image_at};
 
 use crate::files::open_refusal;
 use crate::sql_store::SqlStore;
@@ -52,22 +51,14 @@ impl<S: Start> SqlStore<FileStore<FileFrom<S>>> {
             }
         }
     }
-
-    /// `find_fault_in` over the files of the system. What the file at the path held is what `start`
-    /// represents.
-    pub fn find_fault_from(rt: &HostRuntime, path: &str, start: S) -> FileSearch<S>
-        ensures { IsFileSearch (image_at S.Start) result.0 result.1 }
-    {
-        let mut files = SystemFiles::new(rt);
-        SqlStore::find_fault_in(&mut files, rt.alloc(), path, start)
-    }
 }
 
 impl SqlStore<FileStore<FileFrom<Unknown>>> {
-    /// `find_fault_from`, for a program that proves nothing about the contents of the file. So no
-    /// clause says what is found.
+    /// `find_fault_in` over the files of the system, for a program that proves nothing about what
+    /// the file holds. So no clause says what is found.
     pub fn find_fault(rt: &HostRuntime, path: &str) -> Result<Option<FaultyRow>, OpenFault> {
-        let (found, _left) = SqlStore::find_fault_from(rt, path, Unknown);
+        let mut files = SystemFiles::new(rt);
+        let (found, _left) = SqlStore::find_fault_in(&mut files, rt.alloc(), path, Unknown);
         found
     }
 }

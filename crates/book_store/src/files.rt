@@ -4,25 +4,17 @@ ghost use Rattle.book_store.specs.FileRefusals.{
   IsCreationFaultAfter,
   IsCreationFaultOfLeftover,
   IsCreationRefusalAfter,
-  IsFileCreationRefusal,
-  IsFileOpenRefusal,
   IsOpenFaultAfter,
   IsOpenRefusalAfter,
   IsUnlessNoDatabase,
 };
-ghost use Rattle.book_model.specs.Books.{Books};
 ghost use Rattle.named_files.specs.FileCalls.{unless_left};
 ghost use Rattle.named_files.specs.FileOpenings.{IsRefusalOf};
-ghost use Rattle.book_store.specs.OpenOutcomes.{StartsWithoutTables};
-ghost use Rattle.book_store.specs.PageSums.{has_page_sums};
-ghost use Rattle.book_store.specs.Restarts.{HasPathCause, HoldsStore, declared_over};
 ghost use Rattle.store_check.specs.OpenResults.{max_limits};
 ghost use Rattle.store_rows.specs.SoundTables.{HoldsWellFormed};
 ghost use Rattle.store_lookups.specs.StoredBooks.{IsOpenOnHonestDisk, stored_books};
 ghost use Rattle.store_schema.specs.OpenFaults.{IsCreationFault, open_fault_of_error};
 ghost use Rattle.sqlite.specs.Files.{IsCleanLeft, file_state};
-ghost use Rattle.sqlite.specs.Start.{FindsIn};
-ghost use Rattle.sqlite.specs.WalFiles.{image_at};
 ghost use Rattle.std.specs.FinMap as finite;
 ghost use Rattle.std.specs.Prelude.{◌≡◌, IfErr, IfOk};
 
@@ -79,8 +71,8 @@ fn creation_fault_after<S: Start>(
     }
 }
 
-/// The same for files in which a store was to be opened. Nothing is done to what is left of them,
-/// unless they hold no database.
+/// Returns why no store is opened in files over which opening a connection failed with the error.
+/// Nothing is done to what is left of them, unless they hold no database.
 fn open_fault_after<S: Start>(
     alloc: Global,
     error: Error,
@@ -118,7 +110,8 @@ pub(crate) fn creation_refusal<S: Start>(
     }
 }
 
-/// The same for files in which a store was to be opened.
+/// Returns why no store is opened in files if opening a connection failed with the error, and what
+/// is left of the files.
 pub(crate) fn open_refusal<S: Start>(
     alloc: Global,
     error: Error,
@@ -140,70 +133,17 @@ pub(crate) fn open_refusal<S: Start>(
     }
 }
 
-impl<S: Start> SqlStore<FileStore<FileFrom<S>>> {
-    /// `create_in` over the files of the system. What the file at the path held is what `start`
-    /// represents.
-    pub fn create_from(
-        rt: &HostRuntime,
-        path: &str,
-        limits: Limits,
-        start: S,
-    ) -> Result<FileBooksFrom<S>, FileRefusal<S>>
-        ensures found { IfOk result (λ store. IsOpenOnHonestDisk (file_state store.conn)
-            → StartsWithoutTables file_state has_page_sums (image_at S.Start) store.conn) }
-        ensures books { IfOk result (λ store. IsOpenOnHonestDisk (file_state store.conn)
-            → stored_books (file_state store.conn) ≡ finite.empty) }
-        ensures limits { IfOk result (λ store. store.limits ≡ limits) }
-        ensures fault { IfErr result (λ refused. IsCreationFault refused.0) }
-
-        // The fault is right for what the file and its log held.
-        ensures refused { IfErr result (λ refused.
-            IsFileCreationRefusal (image_at S.Start) refused.0 refused.1) }
-    {
-        let mut files = SystemFiles::new(rt);
-        SqlStore::create_in(&mut files, rt.alloc(), path, limits, start)
-    }
-
-    /// `open_in` over the files of the system. What the file at the path held is what `start`
-    /// represents.
-    pub fn open_from(
-        rt: &HostRuntime,
-        path: &str,
-        limits: Limits,
-        start: S,
-    ) -> Result<FileBooksFrom<S>, FileRefusal<S>>
-        ensures found { IfOk result (λ store. IsOpenOnHonestDisk (file_state store.conn)
-            → FindsIn (image_at S.Start) (file_state store.conn)) }
-        ensures opens { (books : Books) → HoldsStore (image_at S.Start) books
-            → IfOk result (λ store. IsOpenOnHonestDisk (file_state store.conn)
-            → stored_books (file_state store.conn) ≡ books) }
-        ensures well_formed { IfOk result (λ store. IsOpenOnHonestDisk (file_state store.conn)
-            → HoldsWellFormed max_limits (file_state store.conn).now) }
-        ensures limits { IfOk result (λ store. store.limits ≡ limits) }
-
-        // The fault is right for what the file and its log held.
-        ensures refused { IfErr result (λ refused.
-            IsFileOpenRefusal (image_at S.Start) refused.0 refused.1) }
-
-        // If they held a store, it has a cause from outside.
-        ensures cause { (books : Books) → (holds : HoldsStore (image_at S.Start) books)
-            → IfErr result (λ refused. HasPathCause (image_at S.Start)
-            (declared_over holds.trees) refused.0 refused.1) }
-    {
-        let mut files = SystemFiles::new(rt);
-        SqlStore::open_in(&mut files, rt.alloc(), path, limits, start)
-    }
-}
-
 impl SqlStore<FileStore<FileFrom<Unknown>>> {
-    /// `create_from`, for a program that proves nothing about the previous contents of the file.
+    /// `create_in` over the files of the system, for a program that proves nothing about what the
+    /// file held before.
     pub fn create(rt: &HostRuntime, path: &str, limits: Limits) -> Result<FileBooks, OpenFault>
         ensures books { IfOk result (λ store. IsOpenOnHonestDisk (file_state store.conn)
             → stored_books (file_state store.conn) ≡ finite.empty) }
         ensures limits { IfOk result (λ store. store.limits ≡ limits) }
         ensures fault { IfErr result IsCreationFault }
     {
-        match SqlStore::create_from(rt, path, limits, Unknown) {
+        let mut files = SystemFiles::new(rt);
+        match SqlStore::create_in(&mut files, rt.alloc(), path, limits, Unknown) {
             Ok(store) => Ok(store),
             Err((fault, _left)) => Err(fault),
         }

@@ -1,7 +1,7 @@
 //! Creates and opens stores over any system of files by name.
 ghost use Rattle.book_model.specs.Books.{Books};
 ghost use Rattle.book_store.specs.FileRefusals.{IsFileCreationRefusal, IsFileOpenRefusal};
-ghost use Rattle.book_store.specs.FileRefusals.{IsUnlessVacant};
+ghost use Rattle.book_store.specs.FileRefusals.{IsUnlessEmpty};
 ghost use Rattle.book_store.specs.OpenOutcomes.{StartsWithoutTables};
 ghost use Rattle.book_store.specs.PageSums.{has_page_sums};
 ghost use Rattle.book_store.specs.Restarts.{HasPathCause, HoldsStore, declared_over};
@@ -18,7 +18,7 @@ ghost use Rattle.std.specs.Prelude.{◌≡◌, IfErr, IfOk, true};
 use crate::files::{FileBooksFrom, creation_refusal, open_refusal};
 use crate::sql_store::SqlStore;
 use book_model::Limits;
-use named_files::{NamedFiles, connect_found, is_vacant};
+use named_files::{NamedFiles, connect_found, is_empty_without_log};
 use sqlite::{FileStore, Leftover};
 use sqlite_std_file::{FileFrom, Start};
 use std::alloc::Global;
@@ -41,7 +41,8 @@ impl<S: Start> SqlStore<FileStore<FileFrom<S>>> {
         limits: Limits,
         start: S,
     ) -> Result<FileBooksFrom<S>, FileRefusal<S>>
-        // One connection is opened, to the file at this path, and nothing else is asked of the files.
+        // One connection is opened, to the file at this path, and nothing else is asked of the
+        // files.
         ensures calls { OpensOrCreates path.now result true (F.log files.old) (F.log files.new) }
         ensures found { IfOk result (λ store. IsOpenOnHonestDisk (file_state store.conn)
             → StartsWithoutTables file_state has_page_sums
@@ -126,14 +127,14 @@ impl<S: Start> SqlStore<FileStore<FileFrom<S>>> {
         ensures limits { IfOk result (λ store. store.limits ≡ limits) }
 
         // Unless the file is refused as empty, the fault is right for what it and its log held.
-        ensures refused { IfErr result (λ refused. IsUnlessVacant refused
+        ensures refused { IfErr result (λ refused. IsUnlessEmpty refused
             (IsFileOpenRefusal (F.image files.old path.now) refused.0 refused.1)) }
         ensures cause { (books : Books) → (holds : HoldsStore (F.image files.old path.now) books)
-            → IfErr result (λ refused. IsUnlessVacant refused
+            → IfErr result (λ refused. IsUnlessEmpty refused
             (HasPathCause (F.image files.old path.now) (declared_over holds.trees)
             refused.0 refused.1)) }
     {
-        match is_vacant(files, alloc, path) {
+        match is_empty_without_log(files, alloc, path) {
             Ok(false) => SqlStore::open_in(files, alloc, path, limits, start),
             Ok(true) => Err((OpenFault::NotOurs, None)),
             Err(_) => Err((OpenFault::Memory, None)),

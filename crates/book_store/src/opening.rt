@@ -35,8 +35,8 @@ fn counts_of(alloc: Global, found: &[TombstoneCount]) -> TombstoneCounts
     counts
 }
 
-/// Checks that the connection is still open, since only an open one prepares a statement. Fails with
-/// `Memory` if memory runs out, and with `Store` if the connection is closed.
+/// Checks that the connection is still open, since only an open one prepares a statement. Fails
+/// with `Memory` if memory runs out, and with `Store` if the connection is closed.
 fn check_still_open<S: Alter>(conn: &mut Connection<S>) -> Result<(), OpenFault>
     ensures opened { HasCleanDisk S.Store conn.new
         → OnOk result (IsConnectionOpen S.Store conn.new) }

@@ -31,7 +31,8 @@ fn take_mode(rt: &HostRuntime, path: &str, target: &str, log: &str) -> io::Resul
     fs::set_permissions(rt, log, Permissions::from_mode(mode))
 }
 
-/// Opens a new file, with the mode of the file at the path. If that fails, an empty file is removed.
+/// Opens a new file, with the mode of the file at the path. If that fails, an empty file is
+/// removed.
 fn open_new(
     rt: &HostRuntime,
     path: &str,

@@ -3,7 +3,7 @@ ghost use Rattle.book_model.specs.Books.{Books};
 ghost use Rattle.book_store.specs.Restarts.{HasCrashCause, HasRestartCause, HoldsStore, LeftStore};
 ghost use Rattle.book_store.specs.Restarts.{declared_over};
 ghost use Rattle.book_store.specs.StoreViews.{LeftTrees, table_model};
-ghost use Rattle.database_files.specs.Restarts.{LeaveOneOf};
+ghost use Rattle.named_files.specs.Restarts.{LeaveOneOf};
 ghost use Rattle.sqlite.specs.Files.{IsCleanLeft, LeavesFiles, file_state, image_of, over_files};
 ghost use Rattle.sqlite.specs.State.{HasCleanDisk};
 ghost use Rattle.sqlite.specs.WalReads.{AreClean};
@@ -16,7 +16,7 @@ ghost use Rattle.std.specs.Prelude.{◌≡◌, IfErr, IfOk, IsTrue};
 use crate::laws::{left_stores_open, stores_survive_crashes};
 use crate::sql_store::SqlStore;
 use book_model::Limits;
-use database_files as runs;
+use named_files as runs;
 use sqlite::{Alter, FileStore, Files, Leftover, Options};
 use sqlite_disk::{Crash, Disk};
 use std::alloc::Global;
@@ -25,8 +25,8 @@ use store_schema::{OpenFault, open_fault_of};
 impl<D: Disk + Drop> SqlStore<FileStore<D>> {
     /// Ends the use of the store without writing, and returns its files. Whatever a crash leaves of
     /// them holds a store, which opens again (`left_stores_open`), as long as the disk has returned
-    /// what was written. That is so also if the connection was closed. If it was open, the books are
-    /// those of the store.
+    /// what was written. That is so also if the connection was closed. If it was open, the books
+    /// are those of the store.
     pub fn into_files(self) -> Files<D>
         ensures leaves { LeaveOneOf D.Disk result (LeftTrees (file_state self.conn)) }
         ensures books { IsOpenOnHonestDisk (file_state self.conn) → LeaveOneOf D.Disk result
@@ -40,7 +40,8 @@ impl<D: Disk + Drop> SqlStore<FileStore<D>> {
     /// Opens the store that an earlier run left in its files.
     ///
     /// If they hold a store, it has their books. Then an opening fails only with `Memory` if memory
-    /// runs out, and with `Store` if the disk fails or the files are as long as their format allows.
+    /// runs out, and with `Store` if the disk fails or the files are as long as their format
+    /// allows.
     pub fn open_again(
         alloc: Global,
         files: Files<D>,

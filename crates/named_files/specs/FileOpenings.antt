@@ -11,7 +11,8 @@ use Rattle.store_schema.specs.OpenFaults.{open_fault_of_error}
 use Rattle.store_schema.specs.declared.open_fault.OpenFault.{OpenFault}
 use Rattle.store_schema.specs.declared.open_fault.OpenFault.TheVariants.{Memory, NotOurs}
 
--- A refusal: if no file was opened, the fault is that of the error; otherwise the files come with it.
+-- A refusal: if no file was opened, the fault is that of the error; otherwise the files come with
+-- it.
 abbrev pub IsRefusalOf : {L : Type 0} → Option Error → OpenFault × Option L → Type 0
 IsRefusalOf (Some error) refused = refused ≡ (open_fault_of_error error, None)
 IsRefusalOf None refused = ¬ (refused.1 ≡ None)
@@ -37,8 +38,8 @@ module _ (path : List ℕ) where
       ⊎ (after ≡ logged (Connects path false error) (logged (LooksFor path (Ok true)) before))
 
   -- the file at the path is empty, and nothing is at the path of its log
-  abbrev pub FindsVacant : FileLog → FileLog → Type 0
-  FindsVacant before after =
+  abbrev pub FindsEmpty : FileLog → FileLog → Type 0
+  FindsEmpty before after =
       after ≡ logged (LooksFor (log_path path) (Ok false)) (logged (LooksInto path true) before)
 
   -- the file at the path isn't found to be empty, or something may be at the path of its log
@@ -47,11 +48,11 @@ module _ (path : List ℕ) where
       ⊎ ((found : Result Bool io.Error) × (¬ (found ≡ Ok false))
       × (after ≡ logged (LooksFor (log_path path) found) (logged (LooksInto path true) before)))
 
-  -- whether the file at the path is vacant; nothing is called if there is no memory
-  abbrev pub TellsVacant : {E : Type 0} → Result Bool E → FileLog → FileLog → Type 0
-  TellsVacant (Ok true) = FindsVacant
-  TellsVacant (Ok false) = FindsFilled
-  TellsVacant (Err error) = λ before after. after ≡ before
+  -- whether the file is empty and has no log; nothing is called if there is no memory
+  abbrev pub TellsEmpty : {E : Type 0} → Result Bool E → FileLog → FileLog → Type 0
+  TellsEmpty (Ok true) = FindsEmpty
+  TellsEmpty (Ok false) = FindsFilled
+  TellsEmpty (Err error) = λ before after. after ≡ before
 
   -- ---- what comes of them
 
@@ -71,5 +72,5 @@ module _ (path : List ℕ) where
     -- there is no memory for the path of the log.
     abbrev pub OpensFilled : FileLog → FileLog → Type 0
     OpensFilled before after = ((after ≡ before) × (result ≡ Err (Memory, None)))
-        ⊎ ((FindsVacant before after × (result ≡ Err (NotOurs, None)))
+        ⊎ ((FindsEmpty before after × (result ≡ Err (NotOurs, None)))
         ⊎ ((middle : FileLog) × FindsFilled before middle × OpensFound middle after))

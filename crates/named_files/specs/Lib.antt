@@ -1,3 +1,4 @@
 pub mod FileCalls
 pub mod Connections
 pub mod FileOpenings
+pub mod Restarts

@@ -1,7 +1,7 @@
 //! Opens a connection to a file that is there.
 ghost use Rattle.named_files.specs.Connections.{FailsToConnect, IsUnopenedError};
 ghost use Rattle.named_files.specs.FileCalls.{unopened};
-ghost use Rattle.named_files.specs.FileOpenings.{ConnectsFound, TellsVacant};
+ghost use Rattle.named_files.specs.FileOpenings.{ConnectsFound, TellsEmpty};
 ghost use Rattle.sqlite.specs.Files.{IsOpened, file_state};
 ghost use Rattle.sqlite.specs.Held.{IsNew};
 ghost use Rattle.sqlite.specs.Start.{FindsIn};
@@ -41,12 +41,12 @@ pub fn connect_found<S: Start, F: NamedFiles<S>>(
 
 /// Whether the file at the path is empty, and nothing is at the path of its log. Opening a
 /// connection would write to both. Fails if there is no memory for the path of the log.
-pub fn is_vacant<S: Start, F: NamedFiles<S>>(
+pub fn is_empty_without_log<S: Start, F: NamedFiles<S>>(
     files: &mut F,
     alloc: Global,
     path: &str,
 ) -> Result<bool, AllocError>
-    ensures calls { TellsVacant path.now result (F.log files.old) (F.log files.new) }
+    ensures calls { TellsEmpty path.now result (F.log files.old) (F.log files.new) }
     ensures same { F.image files.new ≡ F.image files.old }
 {
     let log = log_name(alloc, path)?;

@@ -80,7 +80,7 @@ module _ {L C : Type 0} where
   drain_before a b leave (Reads stream buffer answer) it = lingering_before a b leave stream it
   drain_before a b leave (WatchesInput stream token answer) it = (it.0, it.1, it.2, was_there (lingering_at a it.0) (lingering_at b it.0) (stream, it.1) (leave it.0) it.3)
   drain_before a b leave (ReadsClock answer) it = absurd it
-  drain_before a b leave (Polls time answer events) it = absurd it
+  drain_before a b leave (Polls most time answer events) it = absurd it
   drain_before a b leave (WatchesListener listener token answer) it = absurd it
   drain_before a b leave (Accepts listener answer) it = absurd it
   drain_before a b leave (SendsAtOnce stream) it = absurd it

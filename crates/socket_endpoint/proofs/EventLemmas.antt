@@ -5,10 +5,10 @@ use Rattle.std.specs.Prelude.{OnErr}
 use Rattle.std.specs.Result.{result_unwrap_or}
 use Rattle.std.specs.declared.io.Error.{Error}
 use Rattle.mio.specs.declared.event.event.Event.{Event}
-use Rattle.socket_endpoint.specs.Lingering.{EndsAndLingers}
+use Rattle.socket_endpoint.specs.Lingering.{EndsAndLingers, room_octets}
 use Rattle.socket_endpoint.specs.LingerSlots.{first_deadline}
 use Rattle.socket_endpoint.specs.PollTimes.{earlier, nanos_of, time_left}
-use Rattle.socket_endpoint.specs.SocketCalls.{SocketLog, logged}
+use Rattle.socket_endpoint.specs.SocketCalls.{SocketLog, logged, most_events}
 use Rattle.socket_endpoint.specs.SocketCalls.SocketCall.{Polls, ReadsClock}
 use Rattle.socket_endpoint.specs.SocketEvents.{ClosesStream, polled, timeout_from}
 use Rattle.socket_endpoint.specs.declared.polling.Polling.{Polling}
@@ -27,17 +27,17 @@ nothing_past xs i past = get_or_past xs i None past
 
 module _ {S L C : Type 0} (log : S → SocketLog L C) where
   -- the clock was read, and the system polled
-  pub polled_by : (until : Option ℕ) (old : Polling S C) (start : ℕ) (first left nanos : Option ℕ) (answer : Result (Unit {0}) Error) (events : List Event) (x y : SocketLog L C) → first ≡ first_deadline old.lingerers.slots.items → left ≡ time_left (earlier until first) start → nanos ≡ nanos_of left
-      → x ≡ logged (ReadsClock (Ok start)) (log old.system) → y ≡ logged (Polls nanos answer events) x → y ≡ polled log until old start answer events
-  polled_by until old start first left nanos answer events x y first_is left_is nanos_is clock made =
+  pub polled_by : (until : Option ℕ) (old : Polling S C) (start count : ℕ) (first left nanos : Option ℕ) (answer : Result (Unit {0}) Error) (events : List Event) (x y : SocketLog L C) → first ≡ first_deadline old.lingerers.slots.items → left ≡ time_left (earlier until first) start → nanos ≡ nanos_of left → count ≡ most_events
+      → x ≡ logged (ReadsClock (Ok start)) (log old.system) → y ≡ logged (Polls count nanos answer events) x → y ≡ polled log until old start answer events
+  polled_by until old start count first left nanos answer events x y first_is left_is nanos_is count_is clock made =
       let time : nanos ≡ timeout_from until old start = nanos_is ∙ ap nanos_of (left_is ∙ ap (λ d. time_left (earlier until d) start) first_is) in
-      made ∙ ap (λ t. logged (Polls t answer events) x) time ∙ ap (λ t. logged (Polls (timeout_from until old start) answer events) t) clock
+      made ∙ ap (λ n. logged (Polls n nanos answer events) x) count_is ∙ ap (λ t. logged (Polls most_events t answer events) x) time ∙ ap (λ t. logged (Polls most_events (timeout_from until old start) answer events) t) clock
 
   -- the clock was read, and the sending side of the socket ended
   pub closes_by : (stream : C) (old new : Polling S C) (clock : Result ℕ Error) (time : ℕ) (x : SocketLog L C) → time ≡ result_unwrap_or clock old.waited_at → x ≡ logged (ReadsClock clock) (log old.system)
-      → EndsAndLingers stream (length old.lingerers.room.items) time old.lingerers.slots.items new.lingerers.slots.items x (log new.system) → ClosesStream log stream old new
+      → EndsAndLingers stream room_octets time old.lingerers.slots.items new.lingerers.slots.items x (log new.system) → ClosesStream log stream old new
   closes_by stream old new clock time x time_is made ends = record {
     clock = clock;
-    ends = subst (λ n. EndsAndLingers stream (length old.lingerers.room.items) n old.lingerers.slots.items new.lingerers.slots.items (logged (ReadsClock clock) (log old.system)) (log new.system)) time_is
-        (subst (λ t. EndsAndLingers stream (length old.lingerers.room.items) time old.lingerers.slots.items new.lingerers.slots.items t (log new.system)) made ends);
+    ends = subst (λ n. EndsAndLingers stream room_octets n old.lingerers.slots.items new.lingerers.slots.items (logged (ReadsClock clock) (log old.system)) (log new.system)) time_is
+        (subst (λ t. EndsAndLingers stream room_octets time old.lingerers.slots.items new.lingerers.slots.items t (log new.system)) made ends);
   }

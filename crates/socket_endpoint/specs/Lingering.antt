@@ -1,7 +1,7 @@
 -- What is done with the sockets that linger.
 use Rattle.std.specs.Prelude.{◌≡◌, ◌≢◌, ◌⊎◌, ◌≤◌, ◌<◌, ◌^◌, ◌-◌, ℕ, Bool, true, false, List, length}
-use Rattle.std.specs.Prelude.{[], ◌∷◌, map, set, slice_index_or, if◌then◌else◌, Option, Some, None}
-use Rattle.std.specs.Prelude.{Result, Ok, Err}
+use Rattle.std.specs.Prelude.{[], ◌∷◌, map, min, set, slice_index_or, if◌then◌else◌}
+use Rattle.std.specs.Prelude.{Option, Some, None, Result, Ok, Err}
 use Rattle.std.specs.IoError.{error_kind}
 use Rattle.std.specs.declared.io.Error.{Error}
 use Rattle.std.specs.declared.io.ErrorKind.{ErrorKind}
@@ -17,6 +17,10 @@ use Rattle.socket_endpoint.specs.declared.dropping.Dropped.TheVariants as droppe
 use Rattle.socket_endpoint.specs.declared.lingerers.Lingerer.{Lingerer}
 use Rattle.socket_endpoint.specs.declared.subject.Subject.{Subject}
 use Rattle.socket_endpoint.specs.declared.subject.Subject.TheVariants as subject
+
+-- the most octets of one read whose octets are dropped
+abbrev pub room_octets : ℕ
+room_octets = 16384
 
 -- ---- which sockets linger
 
@@ -89,10 +93,13 @@ module _ {L C : Type 0} where
     pub goes_on : expected ≡ dropped.More
     pub no_room : (most ≡ 0) ⊎ (room ≡ 0)
 
-  -- one read from the socket
-  pub record ReadsOnce (stream : C) (count : ℕ) (expected : Dropped) (before after : SocketLog L C)
-      : Type 0 where
+  -- One read from the socket, into the whole room, as far as octets may be dropped. It is room for
+  -- an octet: a read into none would give 0, as at the end.
+  pub record ReadsOnce (stream : C) (room most count : ℕ) (expected : Dropped)
+      (before after : SocketLog L C) : Type 0 where
     pub buffer : List ℕ
+    pub whole : length buffer ≡ min most room
+    pub some : 0 < length buffer
     pub answer : Result ℕ Error
     pub made : after ≡ logged (Reads stream buffer answer) before
     pub meant : IsDropped answer count expected
@@ -101,7 +108,7 @@ module _ {L C : Type 0} where
   abbrev pub DropsInput : C → ℕ → ℕ → ℕ → Dropped → SocketLog L C → SocketLog L C → Type 0
   DropsInput stream room most count expected before after =
       ReadsNothing room most count expected before after
-      ⊎ ReadsOnce stream count expected before after
+      ⊎ ReadsOnce stream room most count expected before after
 
   -- What has come to the socket is dropped, and it is over if the client has ended its side, or the
   -- socket is to be given up.

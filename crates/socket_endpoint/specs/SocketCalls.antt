@@ -7,8 +7,8 @@ use Rattle.mio.specs.declared.event.event.Event.{Event}
 pub data SocketCall (Listener Stream : Type 0) : Type 0 where
   -- the milliseconds since the system was made
   ReadsClock : Result ℕ Error → SocketCall Listener Stream
-  -- a wait for at most this number of nanoseconds, and the events that it gave
-  Polls : Option ℕ → Result (Unit {0}) Error → List Event → SocketCall Listener Stream
+  -- a wait for at most this number of events and of nanoseconds, and the events that it gave
+  Polls : ℕ → Option ℕ → Result (Unit {0}) Error → List Event → SocketCall Listener Stream
   -- having connections that wait at the listener reported under the token
   WatchesListener : Listener → ℕ → Result (Unit {0}) Error → SocketCall Listener Stream
   -- accepting a connection at the listener
@@ -25,6 +25,10 @@ pub data SocketCall (Listener Stream : Type 0) : Type 0 where
   Writes : Stream → List ℕ → Result ℕ Error → SocketCall Listener Stream
   -- ending the sending side of the socket
   EndsSending : Stream → Result (Unit {0}) Error → SocketCall Listener Stream
+
+-- the most events of one poll
+abbrev pub most_events : ℕ
+most_events = 1024
 
 -- all calls that were made of a system so far, the newest first, if they are known
 abbrev pub SocketLog : Type 0 → Type 0 → Type 0

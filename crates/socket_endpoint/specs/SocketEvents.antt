@@ -20,9 +20,10 @@ use Rattle.hub_server.specs.declared.outcome.Sent.TheVariants as sent
 use Rattle.socket_endpoint.specs.AcceptCauses.{accept_cause}
 use Rattle.socket_endpoint.specs.LingerSlots.{first_deadline}
 use Rattle.socket_endpoint.specs.Lingering.{DrainsSlots, EndsAndLingers, NoneIsOver, ServesSlots}
+use Rattle.socket_endpoint.specs.Lingering.{room_octets}
 use Rattle.socket_endpoint.specs.PollTimes.{earlier, nanos_of, time_left}
 use Rattle.socket_endpoint.specs.Reports.{event_subject, not_ready, ready_after, reports_listener}
-use Rattle.socket_endpoint.specs.SocketCalls.{Repeats, SocketCall, SocketLog, logged}
+use Rattle.socket_endpoint.specs.SocketCalls.{Repeats, SocketCall, SocketLog, logged, most_events}
 use Rattle.socket_endpoint.specs.SocketCalls.SocketCall.{Accepts, Polls, ReadsClock, SendsAtOnce}
 use Rattle.socket_endpoint.specs.SocketCalls.SocketCall.{Watches, WatchesListener}
 use Rattle.socket_endpoint.specs.Subjects.{subject_of}
@@ -30,6 +31,7 @@ use Rattle.socket_endpoint.specs.Transfers.{ReadsFrom, WritesTo}
 use Rattle.socket_endpoint.specs.declared.accept_causes.AcceptCause.{AcceptCause}
 use Rattle.socket_endpoint.specs.declared.accept_causes.AcceptCause.TheVariants as cause
 use Rattle.socket_endpoint.specs.declared.endpoint.EndpointOver.{EndpointOver}
+use Rattle.socket_endpoint.specs.declared.lingerers.Lingerer.{Lingerer}
 use Rattle.socket_endpoint.specs.declared.polling.Polling.{Polling}
 use Rattle.socket_endpoint.specs.declared.subject.Subject.TheVariants as subject
 
@@ -53,16 +55,27 @@ IsFree places place = (place < length places) × IsNone (socket_at places place)
 abbrev pub IsTaken : {C : Type 0} → List (Option C) → ℕ → Type 0
 IsTaken places place = IsSome (socket_at places place) ⊎ (length places ≤ place)
 
--- the listener and each socket stay where they are, and no other comes
-pub record KeepsSockets {S L C : Type 0} (old new : EndpointOver S L C) : Type 0 where
-  pub listener : new.listener ≡ old.listener
-  pub places : new.places.items ≡ old.places.items
-  pub slots : new.polling.lingerers.slots.items ≡ old.polling.lingerers.slots.items
+-- ---- which sockets an endpoint has
 
--- this number of places, all free, and no socket lingers
-pub record IsNewWith {S L C : Type 0} (limit : ℕ) (endpoint : EndpointOver S L C) : Type 0 where
-  pub places : endpoint.places.items ≡ replicate limit None
-  pub slots : endpoint.polling.lingerers.slots.items ≡ replicate limit None
+module _ {S L C : Type 0} where
+  -- the socket at each place, if there is one
+  abbrev pub places_of : EndpointOver S L C → List (Option C)
+  places_of endpoint = endpoint.places.items
+
+  -- the socket that lingers in each slot, if there is one
+  abbrev pub slots_of : EndpointOver S L C → List (Option (Lingerer C))
+  slots_of endpoint = endpoint.polling.lingerers.slots.items
+
+  -- the listener and each socket stay where they are, and no other comes
+  pub record KeepsSockets (old new : EndpointOver S L C) : Type 0 where
+    pub listener : new.listener ≡ old.listener
+    pub places : places_of new ≡ places_of old
+    pub slots : slots_of new ≡ slots_of old
+
+  -- this number of places, all free, and no socket lingers
+  pub record IsNewWith (limit : ℕ) (endpoint : EndpointOver S L C) : Type 0 where
+    pub places : places_of endpoint ≡ replicate limit None
+    pub slots : slots_of endpoint ≡ replicate limit None
 
 -- a try of accepting that means this
 abbrev pub FailsToAccept : {L C : Type 0} → AcceptCause → L → SocketCall L C → Type 0
@@ -88,8 +101,8 @@ module _ {S L C : Type 0} (log : S → SocketLog L C) where
       (endpoint : EndpointOver S L C) : Type 0 where
     pub watched : log_of endpoint ≡ logged (WatchesListener listener 0 (Ok tt)) (log polling.system)
     pub listener_is : endpoint.listener ≡ listener
-    pub places_are : endpoint.places.items ≡ places
-    pub slots_are : endpoint.polling.lingerers.slots.items ≡ polling.lingerers.slots.items
+    pub places_are : places_of endpoint ≡ places
+    pub slots_are : slots_of endpoint ≡ polling.lingerers.slots.items
 
   -- ---- reading and writing
 
@@ -109,12 +122,12 @@ module _ {S L C : Type 0} (log : S → SocketLog L C) where
   -- what was read at the place is in a buffer, and every socket stays where it is
   pub record ReadsPlace (place : ℕ) (buffer : List ℕ) (outcome : Received)
       (old new : EndpointOver S L C) : Type 0 where
-    pub reads : ReadsAt (socket_at old.places.items place) buffer outcome old new
+    pub reads : ReadsAt (socket_at (places_of old) place) buffer outcome old new
     pub kept : KeepsSockets old new
 
   pub record WritesPlace (place : ℕ) (offered : List ℕ) (outcome : Sent)
       (old new : EndpointOver S L C) : Type 0 where
-    pub writes : WritesAt (socket_at old.places.items place) offered outcome old new
+    pub writes : WritesAt (socket_at (places_of old) place) offered outcome old new
     pub kept : KeepsSockets old new
 
   -- ---- accepting
@@ -126,8 +139,8 @@ module _ {S L C : Type 0} (log : S → SocketLog L C) where
     pub of_place : subject_of token ≡ subject.Place place
     pub watched : log_of new ≡ logged (Watches stream token (Ok tt)) before
     pub listener : new.listener ≡ old.listener
-    pub places : new.places.items ≡ set old.places.items place (Some stream)
-    pub slots : new.polling.lingerers.slots.items ≡ old.polling.lingerers.slots.items
+    pub places : places_of new ≡ set (places_of old) place (Some stream)
+    pub slots : slots_of new ≡ slots_of old
 
   -- the system can't watch the socket, which is given up
   pub record CannotWatch (place : ℕ) (stream : C) (old new : EndpointOver S L C)
@@ -193,7 +206,7 @@ module _ {S L C : Type 0} (log : S → SocketLog L C) where
   -- the place is free, and a connection was accepted there, or there was a cause not to
   pub record AcceptsAt (place : ℕ) (outcome : Accepted) (old new : EndpointOver S L C)
       : Type 0 where
-    pub free : IsFree old.places.items place
+    pub free : IsFree (places_of old) place
     pub tries : ℕ
     pub middle : SocketLog L C
     pub failed : Repeats (FailsToAccept cause.TriesAgain old.listener) tries (log_of old) middle
@@ -202,7 +215,7 @@ module _ {S L C : Type 0} (log : S → SocketLog L C) where
   -- the place has a socket, or isn't a place, and nothing is done
   pub record CannotAccept (place : ℕ) (outcome : Accepted) (old new : EndpointOver S L C)
       : Type 0 where
-    pub taken : IsTaken old.places.items place
+    pub taken : IsTaken (places_of old) place
     pub outcome_is : outcome ≡ accepted.Failed
     pub same : log_of new ≡ log_of old
     pub kept : KeepsSockets old new
@@ -218,7 +231,7 @@ module _ {S L C : Type 0} (log : S → SocketLog L C) where
   -- as closed at the last wait.
   pub record ClosesStream (stream : C) (old new : Polling S C) : Type 0 where
     pub clock : Result ℕ Error
-    pub ends : EndsAndLingers stream (length old.lingerers.room.items)
+    pub ends : EndsAndLingers stream room_octets
         (result_unwrap_or clock old.waited_at)
         old.lingerers.slots.items new.lingerers.slots.items
         (logged (ReadsClock clock) (log old.system)) (log new.system)
@@ -229,9 +242,9 @@ module _ {S L C : Type 0} (log : S → SocketLog L C) where
 
   -- the socket at the place is closed, if there is one, and every other stays
   pub record ClosesPlace (place : ℕ) (old new : EndpointOver S L C) : Type 0 where
-    pub closes : ClosesSocket (socket_at old.places.items place) old.polling new.polling
+    pub closes : ClosesSocket (socket_at (places_of old) place) old.polling new.polling
     pub listener : new.listener ≡ old.listener
-    pub places : new.places.items ≡ set old.places.items place None
+    pub places : places_of new ≡ set (places_of old) place None
 
   -- ---- waiting
 
@@ -239,7 +252,7 @@ module _ {S L C : Type 0} (log : S → SocketLog L C) where
   abbrev pub polled : Option ℕ → Polling S C → ℕ → Result (Unit {0}) Error → List Event
       → SocketLog L C
   polled until polling start answer events =
-      logged (Polls (timeout_from until polling start) answer events)
+      logged (Polls most_events (timeout_from until polling start) answer events)
       (logged (ReadsClock (Ok start)) (log polling.system))
 
   -- The system polled, gave these events, and read the clock. Then the sockets that linger were
@@ -250,7 +263,7 @@ module _ {S L C : Type 0} (log : S → SocketLog L C) where
     pub drains : DrainsSlots old.lingerers.slots.items new.lingerers.slots.items
         (logged (ReadsClock (Ok now)) (polled until old start (Ok tt) events)) (log new.system)
     pub given_up : NoneIsOver now new.lingerers.slots.items
-    pub serves : ServesSlots (length old.lingerers.room.items) now (map event_subject events)
+    pub serves : ServesSlots room_octets now (map event_subject events)
         old.lingerers.slots.items new.lingerers.slots.items
         (logged (ReadsClock (Ok now)) (polled until old start (Ok tt) events)) (log new.system)
 
@@ -276,7 +289,7 @@ module _ {S L C : Type 0} (log : S → SocketLog L C) where
     pub ready_is : ready ≡ ready_after events (map not_ready ready)
     pub listener_is : listener ≡ reports_listener events
     pub listener_kept : new.listener ≡ old.listener
-    pub places_kept : new.places.items ≡ old.places.items
+    pub places_kept : places_of new ≡ places_of old
 
   -- no socket came, went or moved
   pub record FailsToWait (until : Option ℕ) (old new : EndpointOver S L C) : Type 0 where
@@ -316,7 +329,7 @@ module _ {S L C : Type 0} (log : S → SocketLog L C) where
   pub record Finishes (endpoint : EndpointOver S L C) (system : S) : Type 0 where
     pub closed : Polling S C
     pub waited : Polling S C
-    pub closes : ClosesAll endpoint.places.items endpoint.polling closed
+    pub closes : ClosesAll (places_of endpoint) endpoint.polling closed
     pub waits : WaitsOut closed waited
     pub system_is : system ≡ waited.system
 

@@ -1,5 +1,5 @@
 -- What is read from a socket and written to it.
-use Rattle.std.specs.Prelude.{◌≡◌, ◌≢◌, ◌⊎◌, ℕ, List, Ok, Err}
+use Rattle.std.specs.Prelude.{◌≡◌, ◌≢◌, ◌⊎◌, ◌<◌, ℕ, List, Ok, Err, length}
 use Rattle.std.specs.IoError.{error_kind}
 use Rattle.std.specs.declared.io.Error.{Error}
 use Rattle.hub_server.specs.declared.outcome.Received.{Received}
@@ -50,9 +50,11 @@ module _ {L C : Type 0} where
       FailsWith (λ error. Reads stream buffer (Err error)) before after
       ⊎ ((tries ≡ most_tries) × (after ≡ before))
 
-  -- interrupted reads from the socket, and then one whose answer is the outcome
+  -- Interrupted reads from the socket, and then one whose answer is the outcome. There is room for
+  -- an octet: a read into none would give 0, as at the end.
   pub record ReadsFrom (stream : C) (buffer : List ℕ) (outcome : Received)
       (before after : SocketLog L C) : Type 0 where
+    pub room : 0 < length buffer
     pub tries : ℕ
     pub middle : SocketLog L C
     pub interrupted : Repeats (IsInterruptedRead stream) tries before middle

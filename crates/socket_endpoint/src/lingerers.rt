@@ -10,6 +10,7 @@ ghost use Rattle.socket_endpoint.specs.LingerSlots.{slot_rank};
 ghost use Rattle.socket_endpoint.specs.Lingering.{DrainsSlots, EndsAndLingers, IsWatched};
 ghost use Rattle.socket_endpoint.specs.Lingering.{Lingers, LooksAt, LooksAtEach, LooksAtSubject};
 ghost use Rattle.socket_endpoint.specs.Lingering.{NoneIsOver, ServesSlots, StaysOrGoes};
+ghost use Rattle.socket_endpoint.specs.Lingering.{room_octets};
 ghost use Rattle.socket_endpoint.specs.Reports.{event_subject};
 ghost use Rattle.mio.specs.Events.{items};
 
@@ -37,6 +38,7 @@ pub(crate) struct Lingerer<C> {
 pub(crate) struct Lingerers<C> {
     slots: Vec<Option<Lingerer<C>>>,
     room: Vec<u8>,
+    ghost whole: { length room.items ≡ room_octets },
 }
 
 /// When the socket in the slot is given up if no octets come. `None` if the slot is free.
@@ -263,7 +265,7 @@ impl<C: Drop> Lingerers<C> {
     /// Ends the side of the server. The socket lingers unless its client has ended its side or the
     /// connection has failed. If every slot is taken, the socket that was closed first is given up.
     pub(crate) fn add<L, S: Sockets<L, C>>(&mut self, system: &mut S, stream: C, now: u64)
-        ensures { EndsAndLingers stream (length self.old.room.items) now self.old.slots.items
+        ensures { EndsAndLingers stream room_octets now self.old.slots.items
             self.new.slots.items (S.log system.old) (S.log system.new) }
     {
         if system.end_sending(&stream).is_err() {
@@ -282,7 +284,7 @@ impl<C: Drop> Lingerers<C> {
         ensures drains { DrainsSlots self.old.slots.items self.new.slots.items (S.log system.old)
             (S.log system.new) }
         ensures given_up { NoneIsOver now self.new.slots.items }
-        ensures serves { ServesSlots (length self.old.room.items) now
+        ensures serves { ServesSlots room_octets now
             (map event_subject (items events.now)) self.old.slots.items self.new.slots.items
             (S.log system.old) (S.log system.new) }
     {

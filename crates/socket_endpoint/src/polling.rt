@@ -1,8 +1,7 @@
 //! Waits for events, and serves the sockets that linger meanwhile.
 ghost use Rattle.std.specs.Prelude.{◌≡◌, IfOk, None, OnErr, replicate, set};
-ghost use Rattle.mio.specs.Events.{items};
-ghost use Rattle.socket_endpoint.specs.SocketEvents.{ClosesAll, ClosesSocket, ClosesStream};
-ghost use Rattle.socket_endpoint.specs.SocketEvents.{FailsToPoll, PollsUntil, WaitsOut, socket_at};
+ghost use Rattle.mio.specs.Events.{capacity as events_capacity, items};
+ghost use Rattle.socket_endpoint.specs.SocketCalls.{most_events};
 
 use crate::bind_fault::BindFault;
 use crate::lingerers::Lingerers;
@@ -22,9 +21,14 @@ pub(crate) struct Polling<S, C> {
     events: Events<Global>,
     lingerers: Lingerers<C>,
     waited_at: u64,
+    ghost most: { events_capacity events ≡ most_events },
 }
 
 impl<S, C: Drop> Polling<S, C> {
+    ghost use Rattle.socket_endpoint.specs.SocketEvents.{ClosesAll, ClosesSocket, ClosesStream};
+    ghost use Rattle.socket_endpoint.specs.SocketEvents.{FailsToPoll, PollsUntil, WaitsOut};
+    ghost use Rattle.socket_endpoint.specs.SocketEvents.{socket_at};
+
     /// At most `limit` sockets linger.
     pub(crate) fn new(alloc: Global, system: S, limit: usize) -> Result<Polling<S, C>, BindFault>
     where

@@ -1,7 +1,7 @@
 //! The trait of systems of sockets.
 ghost use Rattle.std.specs.Prelude.{◌≡◌};
 ghost use Rattle.std.specs.Io.{ReadsAtMost, WritesAtMost};
-ghost use Rattle.mio.specs.Events.{items};
+ghost use Rattle.mio.specs.Events.{capacity as events_capacity, items};
 ghost use Rattle.socket_endpoint.specs.PollTimes.{nanos_in};
 ghost use Rattle.socket_endpoint.specs.SocketCalls.{SocketCall, SocketLog, logged};
 ghost use Rattle.socket_endpoint.specs.SocketCalls.SocketCall.{Accepts, EndsSending, Polls};
@@ -27,10 +27,12 @@ pub trait Sockets<L, C> {
     fn millis(&mut self) -> io::Result<u64>
         ensures { log self.new ≡ logged (ReadsClock result) (log self.old) };
 
-    /// Waits until a socket is ready or the time is up, and puts what is ready into `events`. A
-    /// socket is reported once when it becomes ready (edge-triggered).
+    /// Waits until a socket is ready or the time is up, and puts what is ready into `events`, as
+    /// far as there is room. A socket is reported once when it becomes ready (edge-triggered).
     fn poll(&mut self, events: &mut Events<Global>, timeout: Option<Duration>) -> io::Result<()>
-        ensures { log self.new ≡ logged (Polls (nanos_in timeout) result (items events.new))
+        ensures capacity { events_capacity events.new ≡ events_capacity events.old }
+        ensures logged { log self.new ≡ logged
+            (Polls (events_capacity events.old) (nanos_in timeout) result (items events.new))
             (log self.old) };
 
     /// Has connections that wait at the listener reported under the token.

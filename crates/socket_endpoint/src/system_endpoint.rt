@@ -1,7 +1,7 @@
 //! The endpoint of a server over the sockets of the system.
 ghost use Rattle.std.specs.Prelude.{IfOk};
 ghost use Rattle.socket_endpoint.specs.SocketEvents.{IsNewWith};
-ghost use Rattle.socket_endpoint.specs.SystemEvents.{FinishesAtSystem};
+ghost use Rattle.socket_endpoint.specs.SystemEvents.{FinishesAtSystem, endpoint_over};
 
 use crate::bind_fault::BindFault;
 use crate::endpoint::{EndpointOver, free_places};
@@ -35,7 +35,7 @@ impl SocketEndpoint {
         address: SocketAddr,
         together: usize,
     ) -> Result<SocketEndpoint, BindFault>
-        ensures { IfOk result (λ endpoint. IsNewWith together endpoint.over) }
+        ensures { IfOk result (λ endpoint. IsNewWith together (endpoint_over endpoint)) }
     {
         let places = free_places(alloc, together)?;
         let polling = Polling::new(alloc, SystemSockets::new(rt)?, together)?;
@@ -44,9 +44,9 @@ impl SocketEndpoint {
         Ok(SocketEndpoint { over })
     }
 
-    /// The same at a new Unix socket at the path. Its file has the mode 0660: its owner and its
-    /// group may connect. A socket file at which nobody listens is replaced. Nothing removes the
-    /// file at the end.
+    /// Listens at a new Unix socket at the path, with the places 0 to `together` - 1. All memory is
+    /// allocated here. The socket's file has the mode 0660: its owner and its group may connect. A
+    /// socket file at which nobody listens is replaced. Nothing removes the file at the end.
     ///
     /// `Device` also if anything else is at the path, or if the path is empty or has more than 107
     /// octets.
@@ -56,7 +56,7 @@ impl SocketEndpoint {
         path: &str,
         together: usize,
     ) -> Result<SocketEndpoint, BindFault>
-        ensures { IfOk result (λ endpoint. IsNewWith together endpoint.over) }
+        ensures { IfOk result (λ endpoint. IsNewWith together (endpoint_over endpoint)) }
     {
         let places = free_places(alloc, together)?;
         let polling = Polling::new(alloc, SystemSockets::new(rt)?, together)?;
@@ -73,6 +73,9 @@ impl SocketEndpoint {
 
     /// Stops listening, closes the connections that are open, and waits until no socket lingers:
     /// at most 1 second for silent clients, and 10 seconds in all.
+    ///
+    /// Nothing is known of the system, so the clause is true whatever is done: that of `finish` of
+    /// `EndpointOver` says it.
     pub fn finish(self)
         ensures { FinishesAtSystem self }
     {

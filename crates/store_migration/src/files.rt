@@ -2,7 +2,6 @@
 ghost use Rattle.named_files.specs.FileOpenings.{OpensFound};
 ghost use Rattle.sqlite.specs.Files.{file_state};
 ghost use Rattle.sqlite.specs.State.{HasCleanDisk};
-ghost use Rattle.sqlite.specs.WalFiles.{image_at};
 ghost use Rattle.std.specs.Prelude.{IfErr, IfOk};
 ghost use Rattle.store_migration.specs.Migration.{
   IsFaultAfter,
@@ -69,28 +68,11 @@ pub fn migrate_in<S: Start, F: NamedFiles<S>>(
     }
 }
 
-/// `migrate_in` over the files of the system. What the file at the path held is what `start`
-/// represents.
-pub fn migrate_from<S: Start>(
-    rt: &HostRuntime,
-    path: &str,
-    start: S,
-) -> Result<(u64, Connection<FileStore<FileFrom<S>>>), FileRefusal<S>>
-    ensures migrates { IfOk result (λ done. HasCleanDisk (file_state done.1)
-        → MigratesFrom file_state (image_at S.Start) done.0 done.1) }
-
-    // The fault is right for what the file and its log held.
-    ensures refused { IfErr result (λ refused.
-        IsFileMigrationRefusal (image_at S.Start) refused.0 refused.1) }
-{
-    let mut files = SystemFiles::new(rt);
-    migrate_in(&mut files, rt.alloc(), path, start)
-}
-
-/// `migrate_from`, for a program that proves nothing about the contents of the file. Returns the
-/// number of books.
+/// `migrate_in` over the files of the system, for a program that proves nothing about what the file
+/// holds. Returns the number of books.
 pub fn migrate(rt: &HostRuntime, path: &str) -> Result<u64, OpenFault> {
-    match migrate_from(rt, path, Unknown) {
+    let mut files = SystemFiles::new(rt);
+    match migrate_in(&mut files, rt.alloc(), path, Unknown) {
         Ok((books, _conn)) => Ok(books),
         Err((fault, _left)) => Err(fault),
     }

@@ -8,6 +8,6 @@ mod migrating;
 mod planning;
 mod writing;
 
-pub use files::{migrate, migrate_from, migrate_in};
+pub use files::{migrate, migrate_in};
 pub use initial_keeps::keeps_of;
 pub use migrating::migrate_connection;

@@ -4,7 +4,7 @@
 //! `Alter`: a function that names a database over such disks takes 15 to 40 seconds to check, and
 //! only one does, `over_disks`.
 
-use database_files::{into_files, open_again};
+use named_files::{into_files, open_again};
 use sqlite::{Alter, Connection, FileStore, Files, Options};
 use sqlite_disk::{Crash, Disk, Fuse, Memory};
 use std::alloc::Global;

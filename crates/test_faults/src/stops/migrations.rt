@@ -7,7 +7,7 @@ use crate::stops::disks::{
 };
 use crate::stops::sweep::{CALLS_MAX, Sweep};
 use book_store::OpenFault;
-use database_files::crash_files;
+use named_files::crash_files;
 use sqlite::{Alter, Connection, Files};
 use std::alloc::Global;
 use sync_core::{BookStore, Limits};

@@ -3,7 +3,7 @@
 use crate::stops::checking::{Stop, check_left};
 use crate::stops::disks::{CrashKind, FuseAt, FusedDisk, NO_FUSE, Place, copy_disks, is_burnt};
 use crate::stops::run::{Ending, Run, run_list};
-use database_files::crash_files;
+use named_files::crash_files;
 use sqlite::Files;
 use std::alloc::Global;
 use test_support::crash_plans::commands::Kind;

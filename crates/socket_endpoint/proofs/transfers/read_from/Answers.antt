@@ -16,6 +16,7 @@ loop-try-preserved g c =
 
 pub returns-then-not-is_interrupted-clause-read : goal.returns-then-not-is_interrupted-clause-read
 returns-then-not-is_interrupted-clause-read g c = record {
+  room = omega (arith, c.read.auto.buffer, c.loop-try.invariant.1, c.requires);
   tries = c.loop-try._try;
   middle = g.S.Sockets.log c.loop-try.system;
   interrupted = c.loop-try.invariant.0;
@@ -26,6 +27,7 @@ pub returns-clause-read : goal.returns-clause-read
 returns-clause-read g c =
     let often : c.loop-try._try ≡ most_tries = omega arith in
     record {
+      room = omega (arith, c.loop-try.invariant.1, c.requires);
       tries = c.loop-try._try;
       middle = g.S.Sockets.log c.loop-try.system;
       interrupted = c.loop-try.invariant.0;

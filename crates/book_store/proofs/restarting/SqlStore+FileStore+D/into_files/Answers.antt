@@ -1,6 +1,6 @@
 use Rattle.std.proofs.Common.{subst}
 use Rattle.sqlite.specs.Files.{file_state}
-use Rattle.database_files.specs.Restarts.{LeaveOneOf}
+use Rattle.named_files.specs.Restarts.{LeaveOneOf}
 use Rattle.store_lookups.specs.StoredBooks.{IsOpenOnHonestDisk, stored_books}
 use Rattle.book_store.specs.StoreViews.{LeftTrees}
 use Rattle.store_writes.specs.TableChanges.{TreesHold}

@@ -2,8 +2,7 @@ use Rattle.std.proofs.Common.{◌≡◌, ◌∙◌, Err, ap, arith, inl, inr, re
 use Rattle.socket_endpoint.specs.AcceptCauses.{accept_cause}
 use Rattle.socket_endpoint.specs.SocketCalls.Repeats.{no_call, one_more}
 use Rattle.socket_endpoint.specs.SocketCalls.SocketCall.{Accepts}
-use Rattle.socket_endpoint.specs.SocketEvents.{KeepsSockets, most_accepts}
-use Rattle.socket_endpoint.specs.declared.endpoint.EndpointOver.{EndpointOver}
+use Rattle.socket_endpoint.specs.SocketEvents.{most_accepts}
 use Rattle.socket_endpoint.specs.declared.accept_causes.AcceptCause.TheVariants as cause
 use Rattle.socket_endpoint.proofs.AcceptLemmas.{accepts_by, stops_by}
 use Rattle.socket_endpoint.proofs.endpoint.EndpointOver.accept_at.Goals as goal
@@ -30,19 +29,12 @@ returns-in-Ok g c =
     let log = g.S.Sockets.log in
     let keeps = c.loop-try.invariant.1 in
     let loop = c.loop-try.self in
-    let mid : EndpointOver g.row.S.Denot g.row.L.Denot g.row.C.Denot =
-    record {
-      polling = record { system = c.accept.new.self; events = loop.polling.events; lingerers = loop.polling.lingerers; waited_at = loop.polling.waited_at };
-      listener = loop.listener;
-      places = loop.places;
-    } in
-    let kept : KeepsSockets c.args.self.now mid = record { listener = keeps.listener; places = keeps.places; slots = keeps.slots } in
     inl (record {
       free = c.is_free.ensures.free c.if-not-is_free.false;
       tries = c.loop-try._try;
       middle = log loop.polling.system;
       failed = c.loop-try.invariant.0;
-      ends = accepts_by log c.args.place c.loop-try._try c.in-Ok.stream loop.listener c.seat.result c.args.self.now mid c.seat.new.self (log loop.polling.system) (log c.accept.new.self) kept keeps.listener c.in-Ok.ensures c.seat.ensures;
+      ends = accepts_by log c.args.place c.loop-try._try c.in-Ok.stream loop.listener c.seat.result c.args.self.now _ c.seat.new.self (log loop.polling.system) (log c.accept.new.self) (record { listener = keeps.listener; places = keeps.places; slots = keeps.slots }) keeps.listener c.in-Ok.ensures c.seat.ensures;
     })
 
 pub returns-in-NoneWaits : goal.returns-in-NoneWaits
@@ -50,20 +42,13 @@ returns-in-NoneWaits g c =
     let log = g.S.Sockets.log in
     let keeps = c.loop-try.invariant.1 in
     let loop = c.loop-try.self in
-    let mid : EndpointOver g.row.S.Denot g.row.L.Denot g.row.C.Denot =
-    record {
-      polling = record { system = c.accept.new.self; events = loop.polling.events; lingerers = loop.polling.lingerers; waited_at = loop.polling.waited_at };
-      listener = loop.listener;
-      places = loop.places;
-    } in
-    let kept : KeepsSockets c.args.self.now mid = record { listener = keeps.listener; places = keeps.places; slots = keeps.slots } in
     let means = ap (λ code. accept_cause code) (sym c.raw_os_error.ensures) ∙ sym c.accept_cause.ensures ∙ c.in-NoneWaits.is in
     inl (record {
       free = c.is_free.ensures.free c.if-not-is_free.false;
       tries = c.loop-try._try;
       middle = log loop.polling.system;
       failed = c.loop-try.invariant.0;
-      ends = stops_by log cause.NoneWaits loop.listener c.in-Err.error c.args.self.now mid (log loop.polling.system) kept keeps.listener means c.in-Err.ensures;
+      ends = stops_by log cause.NoneWaits loop.listener c.in-Err.error c.args.self.now _ (log loop.polling.system) (record { listener = keeps.listener; places = keeps.places; slots = keeps.slots }) keeps.listener means c.in-Err.ensures;
     })
 
 pub returns-in-Shortage : goal.returns-in-Shortage
@@ -71,20 +56,13 @@ returns-in-Shortage g c =
     let log = g.S.Sockets.log in
     let keeps = c.loop-try.invariant.1 in
     let loop = c.loop-try.self in
-    let mid : EndpointOver g.row.S.Denot g.row.L.Denot g.row.C.Denot =
-    record {
-      polling = record { system = c.accept.new.self; events = loop.polling.events; lingerers = loop.polling.lingerers; waited_at = loop.polling.waited_at };
-      listener = loop.listener;
-      places = loop.places;
-    } in
-    let kept : KeepsSockets c.args.self.now mid = record { listener = keeps.listener; places = keeps.places; slots = keeps.slots } in
     let means = ap (λ code. accept_cause code) (sym c.raw_os_error.ensures) ∙ sym c.accept_cause.ensures ∙ c.in-Shortage.is in
     inl (record {
       free = c.is_free.ensures.free c.if-not-is_free.false;
       tries = c.loop-try._try;
       middle = log loop.polling.system;
       failed = c.loop-try.invariant.0;
-      ends = inr (inl (stops_by log cause.Shortage loop.listener c.in-Err.error c.args.self.now mid (log loop.polling.system) kept keeps.listener means c.in-Err.ensures));
+      ends = inr (inl (stops_by log cause.Shortage loop.listener c.in-Err.error c.args.self.now _ (log loop.polling.system) (record { listener = keeps.listener; places = keeps.places; slots = keeps.slots }) keeps.listener means c.in-Err.ensures));
     })
 
 pub returns-in-Broken : goal.returns-in-Broken
@@ -92,20 +70,13 @@ returns-in-Broken g c =
     let log = g.S.Sockets.log in
     let keeps = c.loop-try.invariant.1 in
     let loop = c.loop-try.self in
-    let mid : EndpointOver g.row.S.Denot g.row.L.Denot g.row.C.Denot =
-    record {
-      polling = record { system = c.accept.new.self; events = loop.polling.events; lingerers = loop.polling.lingerers; waited_at = loop.polling.waited_at };
-      listener = loop.listener;
-      places = loop.places;
-    } in
-    let kept : KeepsSockets c.args.self.now mid = record { listener = keeps.listener; places = keeps.places; slots = keeps.slots } in
     let means = ap (λ code. accept_cause code) (sym c.raw_os_error.ensures) ∙ sym c.accept_cause.ensures ∙ c.in-Broken.is in
     inl (record {
       free = c.is_free.ensures.free c.if-not-is_free.false;
       tries = c.loop-try._try;
       middle = log loop.polling.system;
       failed = c.loop-try.invariant.0;
-      ends = inr (stops_by log cause.Broken loop.listener c.in-Err.error c.args.self.now mid (log loop.polling.system) kept keeps.listener means c.in-Err.ensures);
+      ends = inr (stops_by log cause.Broken loop.listener c.in-Err.error c.args.self.now _ (log loop.polling.system) (record { listener = keeps.listener; places = keeps.places; slots = keeps.slots }) keeps.listener means c.in-Err.ensures);
     })
 
 pub returns : goal.returns

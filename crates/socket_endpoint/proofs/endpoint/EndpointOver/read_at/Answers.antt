@@ -1,7 +1,6 @@
 use Rattle.std.proofs.Common.{◌<◌, ◌∙◌, None, Some, arith, length, refl, sym}
 use Rattle.std.proofs.lemmas.List.{get_or_read}
 use Rattle.hub_server.specs.declared.outcome.Received.TheVariants as received
-use Rattle.socket_endpoint.specs.declared.endpoint.EndpointOver.{EndpointOver}
 use Rattle.socket_endpoint.proofs.EventLemmas.{none_is, nothing_past}
 use Rattle.socket_endpoint.proofs.PlaceLemmas.{reads_by}
 use Rattle.socket_endpoint.proofs.endpoint.EndpointOver.read_at.Goals as goal
@@ -22,12 +21,6 @@ returns-in_default-clause-reads g c =
 pub returns-clause-reads : goal.returns-clause-reads
 returns-clause-reads g c =
     let old = c.args.self.now in
-    let new : EndpointOver g.row.S.Denot g.row.L.Denot g.row.C.Denot =
-    record {
-      polling = record { system = c.read_from.new.system; events = old.polling.events; lingerers = old.polling.lingerers; waited_at = old.polling.waited_at };
-      listener = old.listener;
-      places = old.places;
-    } in
     let there : c.args.place < length old.places.items = omega arith in
     let found = sym (get_or_read old.places.items c.args.place c.index.result.now there c.index.ensures None) in
-    reads_by g.S.Sockets.log c.args.place (Some c.in-Some.stream) c.read_from.new.buffer c.read_from.result old new (found ∙ c.in-Some.is) c.read_from.ensures.read (record { listener = refl; places = refl; slots = refl })
+    reads_by g.S.Sockets.log c.args.place (Some c.in-Some.stream) c.read_from.new.buffer c.read_from.result old _ (found ∙ c.in-Some.is) c.read_from.ensures.read (record { listener = refl; places = refl; slots = refl })

@@ -1,7 +1,6 @@
 use Rattle.std.proofs.Common.{◌<◌, ◌∙◌, None, Some, arith, length, refl, sym}
 use Rattle.std.proofs.lemmas.List.{get_or_read}
 use Rattle.hub_server.specs.declared.outcome.Sent.TheVariants as sent
-use Rattle.socket_endpoint.specs.declared.endpoint.EndpointOver.{EndpointOver}
 use Rattle.socket_endpoint.proofs.EventLemmas.{none_is, nothing_past}
 use Rattle.socket_endpoint.proofs.PlaceLemmas.{writes_by}
 use Rattle.socket_endpoint.proofs.endpoint.EndpointOver.write_at.Goals as goal
@@ -22,12 +21,6 @@ returns-in_default-clause-writes g c =
 pub returns-clause-writes : goal.returns-clause-writes
 returns-clause-writes g c =
     let old = c.args.self.now in
-    let new : EndpointOver g.row.S.Denot g.row.L.Denot g.row.C.Denot =
-    record {
-      polling = record { system = c.write_to.new.system; events = old.polling.events; lingerers = old.polling.lingerers; waited_at = old.polling.waited_at };
-      listener = old.listener;
-      places = old.places;
-    } in
     let there : c.args.place < length old.places.items = omega arith in
     let found = sym (get_or_read old.places.items c.args.place c.index.result.now there c.index.ensures None) in
-    writes_by g.S.Sockets.log c.args.place (Some c.in-Some.stream) c.args.octets.now c.write_to.result old new (found ∙ c.in-Some.is) c.write_to.ensures.written (record { listener = refl; places = refl; slots = refl })
+    writes_by g.S.Sockets.log c.args.place (Some c.in-Some.stream) c.args.octets.now c.write_to.result old _ (found ∙ c.in-Some.is) c.write_to.ensures.written (record { listener = refl; places = refl; slots = refl })

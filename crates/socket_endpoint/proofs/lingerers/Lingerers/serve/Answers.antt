@@ -1,6 +1,6 @@
 use Rattle.std.proofs.Common.{◌≡◌, ◌∙◌, ◌++◌, ap, arith, drop, length, map, subst, sym, take}
 use Rattle.mio.specs.Events.{items}
-use Rattle.socket_endpoint.specs.Lingering.{DrainsSlots, LooksAtEach, NoneIsOver}
+use Rattle.socket_endpoint.specs.Lingering.{DrainsSlots, LooksAtEach, NoneIsOver, room_octets}
 use Rattle.socket_endpoint.specs.LingerSlots.{slot_after}
 use Rattle.socket_endpoint.specs.Reports.{event_subject}
 use Rattle.socket_endpoint.proofs.DrainLemmas.{given_up_leave, given_up_none}
@@ -58,7 +58,6 @@ returns-clause-serves g c =
     let again : length given ≡ length middle = omega (arith, c.give_up.auto.slots, ap length c.deref_mut-3.ensures.value) in
     let whole : len ≡ length middle = omega (arith, c.args.self.now.slots.ok.0, long, ap length first) in
     let written = written_back middle given len whole again in
-    let room = length c.args.self.now.room.items in
-    let by_room = subst (λ n. LooksAtEach n c.args.now subjects c.deref_mut.result.now looked before after) (ap length c.deref_mut-2.ensures.value) c.look_at_reported.ensures.looks in
-    let looks = subst (λ s. LooksAtEach room c.args.now subjects s looked before after) c.deref_mut.ensures.value by_room in
+    let by_room = subst (λ n. LooksAtEach n c.args.now subjects c.deref_mut.result.now looked before after) (ap length c.deref_mut-2.ensures.value ∙ c.args.self.now.whole) c.look_at_reported.ensures.looks in
+    let looks = subst (λ s. LooksAtEach room_octets c.args.now subjects s looked before after) c.deref_mut.ensures.value by_room in
     record { looked = looked; looks = looks; gives_up = written ∙ given_is }

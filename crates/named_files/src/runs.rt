@@ -1,5 +1,5 @@
 //! The end of a run, a crash, and the opening of the next run.
-ghost use Rattle.database_files.specs.Restarts.{HasOpenCause, HoldsListed, LeaveOneOf, ShowsOpened};
+ghost use Rattle.named_files.specs.Restarts.{HasOpenCause, HoldsListed, LeaveOneOf, ShowsOpened};
 ghost use Rattle.sqlite.specs.Effect.{Database};
 ghost use Rattle.sqlite.specs.Files.{Finds, HoldsDatabase, IsCleanLeft, IsOpened, LeavesFiles};
 ghost use Rattle.sqlite.specs.Files.{file_state, image_of};

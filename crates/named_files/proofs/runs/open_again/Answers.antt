@@ -1,5 +1,5 @@
-use Rattle.database_files.proofs.RestartLemmas.{fails_with_cause, found_honest, opens_as}
-use Rattle.database_files.proofs.runs.open_again.Goals as goal
+use Rattle.named_files.proofs.RestartLemmas.{fails_with_cause, found_honest, opens_as}
+use Rattle.named_files.proofs.runs.open_again.Goals as goal
 
 pub returns-clause-opens : goal.returns-clause-opens
 returns-clause-opens g c = opens_as c.args.files c.open_files.result c.open_files.ensures.opened

@@ -1,5 +1,5 @@
-use Rattle.database_files.proofs.RestartLemmas.{clean_in_files, left_in_files}
-use Rattle.database_files.proofs.runs.into_files.Goals as goal
+use Rattle.named_files.proofs.RestartLemmas.{clean_in_files, left_in_files}
+use Rattle.named_files.proofs.runs.into_files.Goals as goal
 
 pub returns-clause-leaves : goal.returns-clause-leaves
 returns-clause-leaves g c = left_in_files c.into_store.result _ c.close.result c.close.ensures

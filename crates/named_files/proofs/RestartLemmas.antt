@@ -22,7 +22,7 @@ use Rattle.sqlite_store.specs.declared.store.FileStore.{FileStore}
 use Rattle.sqlite_trees.specs.Objects.{catalog_tree}
 use Rattle.sqlite_trees.specs.View.{IsClean, IsQuiet}
 use Rattle.sqlite_trees.proofs.Doubt.{no_doubt}
-use Rattle.database_files.specs.Restarts.{HasOpenCause, HoldsListed, LeaveOneOf, ShowsOpened}
+use Rattle.named_files.specs.Restarts.{HasOpenCause, HoldsListed, LeaveOneOf, ShowsOpened}
 
 -- the files of a store that is sound and numbered, as `into_store` leaves it
 pub left_in_files : {D : Type 0} {g : Ghosts D} (it : FileStore D g) (Allowed : Trees
