@@ -288,6 +288,11 @@ class Columns(ConvertTest):
         self.assertIn("NOTE:tea", part["rows"][0]["vcard"])
         self.assertNotIn("TEL", part["rows"][0]["vcard"])
 
+    def test_a_column_that_nobody_can_ask_for_is_missing(self):
+        part = self.part(b"First Name,Mobile Phone,Spouse,Children\nAnn,1,Bo,Cy\n")
+        self.assertIn("RELATED;TYPE=spouse;VALUE=text:Bo", part["rows"][0]["vcard"])
+        self.assertEqual("First Name=n.given,Mobile Phone=tel;type=cell", part["columns"])
+
     def test_guesses_are_told(self):
         """Each card and row of which something isn't UTF-8 and is read as Windows-1252."""
         rows = "Name,E-Mail,Note\nJörg,a@x.test,Grüße\nAnn,b@x.test,\nAndré,c@x.test,\n"

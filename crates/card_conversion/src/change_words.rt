@@ -36,8 +36,8 @@ fn is_name(line: &Line) -> bool {
 }
 
 impl<'a> Reported<'a> {
-    /// The same before its first change. `added` are the lines that were added at the end of
-    /// `lines`.
+    /// A card whose changes are reported, before the first of them. `added` are the lines that
+    /// were added at the end of `lines`.
     pub(crate) fn new(
         piece: &'a [u8],
         lines: &'a [Line],

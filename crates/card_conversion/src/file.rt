@@ -37,7 +37,8 @@ pub fn convert_file<R: Read + Drop, O: CardSink, E: Write>(
     }
 }
 
-/// The same of one more file, after others (see `convert_more_cards`).
+/// Converts the cards of one more file, in UTF-8 or UTF-16, after others (see
+/// `convert_more_cards`).
 pub fn convert_more_file<R: Read + Drop, O: CardSink, P: MediaSink, E: Write, T: Write>(
     alloc: Global,
     course: &mut Course,

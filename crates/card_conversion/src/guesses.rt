@@ -29,9 +29,9 @@ fn names_charset(line: &[u8]) -> bool {
         && !is_encoded_as(line, b"CHARSET=US-ASCII")
 }
 
-/// The line without the ends of the physical lines that it is folded to, and without the first white
-/// space of those after the first, or the equals signs by which lines of quoted-printable go on. A
-/// program may have folded it within a character.
+/// The line without the ends of the physical lines that it is folded to, and without the first
+/// white space of those after the first, or the equals signs by which lines of quoted-printable go
+/// on. A program may have folded it within a character.
 fn unfolded(alloc: Global, line: &[u8]) -> Result<Vec<u8>, NoMemory> {
     let is_quoted = is_quoted(line);
     let mut octets = Vec::new(alloc);
@@ -68,8 +68,8 @@ fn is_guessed_value(alloc: Global, line: &[u8]) -> Result<bool, NoMemory> {
     is_guessed(alloc, octets.as_slice())
 }
 
-/// Whether a line of a card is read as Windows-1252, whose head names no other character set. It may
-/// be folded.
+/// Whether a line of a card is read as Windows-1252, whose head names no other character set. It
+/// may be folded.
 fn is_guessed_line(alloc: Global, line: &[u8]) -> Result<bool, NoMemory> {
     if names_charset(line) || (line.is_ascii() && !is_quoted(line)) {
         return Ok(false);

@@ -80,8 +80,8 @@ impl<'a> JoinedLines<'a> {
         }
     }
 
-    /// The first such line in the line that was changed, unless it was looked at before. A line that
-    /// was added has no octets.
+    /// The first such line in the line that was changed, unless it was looked at before. A line
+    /// that was added has no octets.
     pub(crate) fn find(&mut self, change: &Change) -> Option<JoinedLine<'a>> {
         if change.kind == ChangeKind::Added || change.place < self.passed {
             return None;

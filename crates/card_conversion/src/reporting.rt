@@ -262,9 +262,10 @@ impl<E: Write, T: Write> Report<E, T> {
         Ok(text)
     }
 
-    /// Writes the end: the numbers of changes of form and of what was read as Windows-1252, the line
-    /// to look at first, and the numbers of cards and of pictures and sounds beside them. `files` is
-    /// the number of files of cards or rows that were made, if the conversion made files.
+    /// Writes the end: the numbers of changes of form and of what was read as Windows-1252, the
+    /// line to look at first, and the numbers of cards and of pictures and sounds beside them.
+    /// `files` is the number of files of cards or rows that were made, if the conversion made
+    /// files.
     pub fn finish(
         &mut self,
         alloc: Global,

@@ -3,10 +3,10 @@
 use crate::cell::{cell_text, is_void};
 use crate::fields::row_field;
 use crate::header::{first_row, line_len};
+use base_types::NoMemory;
 use csv::ByteRecord;
 use import_text::begins_with_word;
 use std::alloc::Global;
-use vcard_text::NoMemory;
 
 /// The most lines above the header.
 pub(crate) const ABOVE_MAX: usize = 4;

@@ -5,9 +5,9 @@ ghost use Rattle.std.specs.Str.{encode_utf8_all};
 ghost use Rattle.contact_columns.specs.Cells.{clean_char, clean_text, cell_text};
 ghost use Rattle.contact_columns.specs.Cells.{is_blank, is_void};
 
+use base_types::{NoMemory, Text};
 use import_text::read_text;
 use std::alloc::Global;
-use vcard_text::{NoMemory, Text};
 
 /// Appends what a character of a cell becomes. `is_after_return` says that it comes right after a
 /// carriage return, which ended a line, so that a line feed ends no other.

@@ -15,9 +15,9 @@ use crate::signs::Signs;
 use crate::slots::{Slot, add_column, add_slot, has_place};
 use crate::thunderbird::thunderbird_meaning;
 use crate::wishes::{Wish, chosen_wishes, have_columns, read_wishes};
+use base_types::{Items, NoMemory, Text};
 use csv::ByteRecord;
 use std::alloc::Global;
-use vcard_text::{Items, NoMemory, Text};
 
 /// A column.
 #[derive(Drop)]
@@ -32,6 +32,24 @@ pub struct Column {
     pub property: Text,
     /// Whether the user leaves it out.
     pub is_left_out: bool,
+}
+
+impl Column {
+    /// A column with copies of these texts.
+    fn new(
+        alloc: Global,
+        name: &str,
+        known: &str,
+        property: &str,
+        is_left_out: bool,
+    ) -> Result<Column, NoMemory> {
+        Ok(Column {
+            name: Text::copy_of(alloc, name)?,
+            known: Text::copy_of(alloc, known)?,
+            property: Text::copy_of(alloc, property)?,
+            is_left_out,
+        })
+    }
 }
 
 /// The columns of a file of contacts, in order.
@@ -98,14 +116,23 @@ fn english_name(
     }
 }
 
-/// The same for each column.
+/// The names in English of the columns of these names (see `english_name`), in their order.
 fn english_names(alloc: Global, names: &[Text]) -> Result<Items<Text>, NoMemory> {
     let folded = folded_names(alloc, names)?;
-    let program = program_of(folded.as_slice());
+    names_in_english(alloc, names, folded.as_slice())
+}
+
+/// The names in English of the columns of these names, of which `folded` are those in lower case.
+fn names_in_english(
+    alloc: Global,
+    names: &[Text],
+    folded: &[Text],
+) -> Result<Items<Text>, NoMemory> {
+    let program = program_of(folded);
     let mut english = Items::new(alloc);
     for place in 0..names.len() {
         let name = names[place].as_str();
-        let folded = folded.as_slice().get(place).map_or(name, |it| it.as_str());
+        let folded = folded.get(place).map_or(name, |it| it.as_str());
         english.push(Text::new(english_name(alloc, program, name, folded)?))?;
     }
     Ok(english)
@@ -113,20 +140,21 @@ fn english_names(alloc: Global, names: &[Text]) -> Result<Items<Text>, NoMemory>
 
 /// The property of a column that has these names, or an empty text. Adds the column to the slot of
 /// its property, unless another column has its place there.
-fn column_property(
+fn column_property<'a>(
     alloc: Global,
     slots: &mut Vec<Slot>,
     place: usize,
-    known: &str,
-    name: &str,
-) -> Result<Text, NoMemory> {
+    known: &'a str,
+    name: &'a str,
+) -> Result<&'a str, NoMemory> {
     let Some(meaning) = meaning_of(known, name) else {
-        return Text::copy_of(alloc, "");
+        return Ok("");
     };
-    if !add_column(alloc, slots, place, meaning)? {
-        return Text::copy_of(alloc, "");
+    if add_column(alloc, slots, place, meaning)? {
+        Ok(property_of(meaning))
+    } else {
+        Ok("")
     }
-    Text::copy_of(alloc, property_of(meaning))
 }
 
 /// The names of the columns that a header row has.
@@ -193,15 +221,15 @@ fn wished_column(
     name: &str,
     wish: &Wish<'_>,
 ) -> Result<Column, NoMemory> {
-    let property = wish.target.property;
-    let is_placed = property == "UID" || has_place(slots, place);
-    let known = wish.target.known;
-    Ok(Column {
-        name: Text::copy_of(alloc, name)?,
-        known: Text::copy_of(alloc, if known.is_empty() { wish.word } else { known })?,
-        property: Text::copy_of(alloc, if is_placed { property } else { "" })?,
-        is_left_out: wish.leaves_out(),
-    })
+    let target = wish.target;
+    let is_placed = target.property == "UID" || has_place(slots, place);
+    let property = if is_placed { target.property } else { "" };
+    let known = if target.known.is_empty() {
+        wish.word
+    } else {
+        target.known
+    };
+    Column::new(alloc, name, known, property, wish.leaves_out())
 }
 
 /// A column that is known by its name in English, if it is.
@@ -213,16 +241,11 @@ fn known_column(
     known: &str,
 ) -> Result<Column, NoMemory> {
     let property = if known == "UID" {
-        Text::copy_of(alloc, "UID")?
+        known
     } else {
         column_property(alloc, slots, place, known, name)?
     };
-    Ok(Column {
-        name: Text::copy_of(alloc, name)?,
-        known: Text::copy_of(alloc, known)?,
-        property,
-        is_left_out: false,
-    })
+    Column::new(alloc, name, known, property, false)
 }
 
 /// The columns of these names, and what they give. Those of wishes have the first choice.
@@ -232,28 +255,47 @@ pub(crate) fn columns_of(
     wishes: &[Wish<'_>],
 ) -> Result<ContactColumns, NoMemory> {
     let english = english_names(alloc, names)?;
-    let mut columns = Items::new(alloc);
-    let mut slots = Vec::new(alloc);
     let chosen = chosen_wishes(alloc, names, wishes)?;
-    let signs = signs_of(english.as_slice(), chosen.as_slice(), wishes);
-    add_wished(alloc, &mut slots, chosen.as_slice(), wishes)?;
+    let mut read = ContactColumns {
+        columns: Items::new(alloc),
+        slots: Vec::new(alloc),
+        dates: DateOrder::Unknown,
+    };
+    add_columns(
+        alloc,
+        &mut read,
+        names,
+        english.as_slice(),
+        chosen.as_slice(),
+        wishes,
+    )?;
+    Ok(read)
+}
+
+/// Adds the columns of these names, of which `english` are those in English, and what they give.
+fn add_columns(
+    alloc: Global,
+    read: &mut ContactColumns,
+    names: &[Text],
+    english: &[Text],
+    chosen: &[usize],
+    wishes: &[Wish<'_>],
+) -> Result<(), NoMemory> {
+    let signs = signs_of(english, chosen, wishes);
+    add_wished(alloc, &mut read.slots, chosen, wishes)?;
     for place in 0..names.len() {
         let name = names[place].as_str();
         let index = chosen.get(place).copied().unwrap_or(wishes.len());
         let column = match wishes.get(index) {
-            Some(wish) => wished_column(alloc, slots.as_slice(), place, name, wish)?,
+            Some(wish) => wished_column(alloc, read.slots.as_slice(), place, name, wish)?,
             None => {
-                let known = english.as_slice().get(place).map_or(name, |it| it.as_str());
-                known_column(alloc, &mut slots, place, name, signs.settled(known))?
+                let known = english.get(place).map_or(name, |it| it.as_str());
+                known_column(alloc, &mut read.slots, place, name, signs.settled(known))?
             }
         };
-        columns.push(column)?;
+        read.columns.push(column)?;
     }
-    Ok(ContactColumns {
-        columns,
-        slots,
-        dates: DateOrder::Unknown,
-    })
+    Ok(())
 }
 
 /// The columns that a header row of contacts names: those of a name or an organization, and of
@@ -270,12 +312,22 @@ pub fn read_columns(
 ) -> Result<Option<ContactColumns>, NoMemory> {
     let names = column_names(alloc, header)?;
     let wishes = read_wishes(alloc, wished)?;
-    if !have_columns(alloc, wishes.as_slice(), names.as_slice())? {
+    contact_columns(alloc, names.as_slice(), wishes.as_slice())
+}
+
+/// The columns of these names, if they are those of contacts, or all columns that are wished.
+fn contact_columns(
+    alloc: Global,
+    names: &[Text],
+    wishes: &[Wish<'_>],
+) -> Result<Option<ContactColumns>, NoMemory> {
+    if !have_columns(alloc, wishes, names)? {
         return Ok(None);
     }
-    let read = columns_of(alloc, names.as_slice(), wishes.as_slice())?;
-    if wishes.is_empty() && !are_contacts(alloc, &read)? {
-        return Ok(None);
+    let read = columns_of(alloc, names, wishes)?;
+    if !wishes.is_empty() || are_contacts(alloc, &read)? {
+        Ok(Some(read))
+    } else {
+        Ok(None)
     }
-    Ok(Some(read))
 }

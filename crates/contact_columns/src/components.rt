@@ -1,22 +1,29 @@
 //! Which component of a structured value a column has (RFC 6350, section 3.3).
-ghost use Rattle.std.specs.Prelude.{◌≡◌};
+ghost use Rattle.std.specs.Prelude.{◌≡◌, ◌||◌, bytes_eq};
 ghost use Rattle.contact_columns.specs.Components.{name_component, address_component};
 ghost use Rattle.contact_columns.specs.Components.{component_of, ends, organization_component};
+
+/// Whether the name is one of the two.
+fn is_either(name: &str, one: &str, other: &str) -> bool
+    ensures { result ≡ (bytes_eq name.now one.now || bytes_eq name.now other.now) }
+{
+    name == one || name == other
+}
 
 /// The component of N that a column of this name has in both programs' exports: 0 for family names,
 /// 1 for given names, 2 for additional names, 3 for prefixes, and 4 for suffixes.
 pub(crate) fn name_component(name: &str) -> Option<usize>
     ensures { result ≡ name_component name.now }
 {
-    if name == "Last Name" || name == "Family Name" {
+    if is_either(name, "Last Name", "Family Name") {
         Some(0)
-    } else if name == "First Name" || name == "Given Name" {
+    } else if is_either(name, "First Name", "Given Name") {
         Some(1)
-    } else if name == "Middle Name" || name == "Additional Name" {
+    } else if is_either(name, "Middle Name", "Additional Name") {
         Some(2)
-    } else if name == "Name Prefix" || name == "Title" {
+    } else if is_either(name, "Name Prefix", "Title") {
         Some(3)
-    } else if name == "Name Suffix" || name == "Suffix" {
+    } else if is_either(name, "Name Suffix", "Suffix") {
         Some(4)
     } else {
         None

@@ -4,10 +4,10 @@ use crate::columns::{ContactColumns, read_columns};
 use crate::dates::{DateOrder, DateSigns};
 use crate::fields::row_field;
 use crate::header::Header;
+use base_types::NoMemory;
 use csv::{ByteRecord, ErrorKind, Reader, ReaderBuilder};
 use std::alloc::Global;
 use std::io::Read;
-use vcard_text::NoMemory;
 
 /// The places of the columns with dates.
 fn date_places(alloc: Global, columns: &ContactColumns) -> Result<Vec<usize>, NoMemory> {
@@ -57,6 +57,36 @@ fn places_in_header<R: Read>(
     }
 }
 
+/// The order of day and month in the columns at these places, by all rows that are left.
+fn order_below<R: Read>(
+    rows: &mut Reader<R>,
+    row: &mut ByteRecord,
+    places: &[usize],
+) -> Result<Option<DateOrder>, NoMemory> {
+    let mut signs = DateSigns::new();
+    for _row in 0..u64::MAX {
+        if !read_row(rows, row)? {
+            break;
+        }
+        note_dates(&mut signs, places, row);
+    }
+    Ok(signs.order())
+}
+
+/// The order of day and month in rows of which the first is the header.
+fn order_in<R: Read>(
+    alloc: Global,
+    rows: &mut Reader<R>,
+    wished: &str,
+) -> Result<Option<DateOrder>, NoMemory> {
+    let mut row = ByteRecord::new(alloc);
+    let places = places_in_header(alloc, rows, &mut row, wished)?;
+    if places.is_empty() {
+        return Ok(Some(DateOrder::Unknown));
+    }
+    order_below(rows, &mut row, places.as_slice())
+}
+
 /// Whether the day or the month comes first in the dates of a file, by all its rows. `source`
 /// begins with the header. `None` if there are dates that may be two, and none says which they are,
 /// or some say the one and some the other. The only `Err` is out of memory.
@@ -70,17 +100,5 @@ pub fn read_date_order<R: Read + Drop>(
         .flexible(true)
         .delimiter(header.delimiter)
         .from_reader(alloc, source);
-    let mut row = ByteRecord::new(alloc);
-    let mut signs = DateSigns::new();
-    let places = places_in_header(alloc, &mut rows, &mut row, header.wished)?;
-    if places.is_empty() {
-        return Ok(Some(DateOrder::Unknown));
-    }
-    for _row in 0..u64::MAX {
-        if !read_row(&mut rows, &mut row)? {
-            break;
-        }
-        note_dates(&mut signs, places.as_slice(), &row);
-    }
-    Ok(signs.order())
+    order_in(alloc, &mut rows, header.wished)
 }

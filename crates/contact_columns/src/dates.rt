@@ -1,7 +1,7 @@
 //! Dates as programs write them, in the form of vCard 4.0 (RFC 6350, section 4.3.1).
 
+use base_types::NoMemory;
 use std::alloc::Global;
-use vcard_text::NoMemory;
 
 /// Whether the day or the month comes first in the dates of a file, where both are numbers.
 #[derive(Clone, Copy, PartialEq, Eq)]
@@ -72,30 +72,32 @@ fn year_of(digits: &str) -> Option<u16> {
     Some(front.saturating_mul(100).saturating_add(back))
 }
 
-/// The month of an English or a German name, of which the first three letters are looked at.
+/// The first three letters of the names of months, in English and in German.
+const MONTHS: &[(&str, u8)] = &[
+    ("jan", 1),
+    ("feb", 2),
+    ("mar", 3),
+    ("mär", 3),
+    ("apr", 4),
+    ("may", 5),
+    ("mai", 5),
+    ("jun", 6),
+    ("jul", 7),
+    ("aug", 8),
+    ("sep", 9),
+    ("oct", 10),
+    ("okt", 10),
+    ("nov", 11),
+    ("dec", 12),
+    ("dez", 12),
+];
+
+/// The month of a name, of which the first three letters are looked at.
 fn month_of(name: &str) -> Option<u8> {
-    let months = [
-        ("jan", 1),
-        ("feb", 2),
-        ("mar", 3),
-        ("mär", 3),
-        ("apr", 4),
-        ("may", 5),
-        ("mai", 5),
-        ("jun", 6),
-        ("jul", 7),
-        ("aug", 8),
-        ("sep", 9),
-        ("oct", 10),
-        ("okt", 10),
-        ("nov", 11),
-        ("dec", 12),
-        ("dez", 12),
-    ];
-    for (front, month) in months {
+    for (front, month) in MONTHS {
         let found = name.get(..front.len()).unwrap_or("");
-        if found.eq_ignore_ascii_case(front) {
-            return Some(month);
+        if found.eq_ignore_ascii_case(*front) {
+            return Some(*month);
         }
     }
     None
@@ -195,11 +197,14 @@ fn separated(text: &str, separator: char) -> Option<Parsed> {
         })
 }
 
+/// A time of midnight, as it stands after a date.
+const MIDNIGHTS: &[&str] = &["T00:00:00", " 00:00:00", " 0:00:00", " 00:00", " 0:00"];
+
 /// The text without white space around it, and without a time of midnight after it.
 fn without_midnight(text: &str) -> &str {
     let text = text.trim();
-    for time in ["T00:00:00", " 00:00:00", " 0:00:00", " 00:00", " 0:00"] {
-        if let Some(front) = text.strip_suffix(time) {
+    for time in MIDNIGHTS {
+        if let Some(front) = text.strip_suffix(*time) {
             return front;
         }
     }

@@ -6,9 +6,9 @@ use crate::fields::row_field;
 use crate::header::{first_row, is_missing};
 use crate::headerless::find_rows;
 use crate::wishes::{has_rows_entry, read_wishes};
+use base_types::NoMemory;
 use csv::ByteRecord;
 use std::alloc::Global;
-use vcard_text::NoMemory;
 
 /// Whether a cell can't be a value of the property: an address of electronic mail has an `@`, and a
 /// number or a date a digit.

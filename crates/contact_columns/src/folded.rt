@@ -1,7 +1,7 @@
 //! Names of columns as the tables have them.
 
+use base_types::{Items, NoMemory, Text};
 use std::alloc::Global;
-use vcard_text::{Items, NoMemory, Text};
 
 /// The name in lower case, with `ss` for `ß`, which has no capital letter.
 pub(crate) fn folded(alloc: Global, name: &str) -> Result<String, NoMemory> {
@@ -17,7 +17,7 @@ pub(crate) fn folded(alloc: Global, name: &str) -> Result<String, NoMemory> {
     Ok(text)
 }
 
-/// The same of each name.
+/// Each name in lower case, in their order.
 pub(crate) fn folded_names(alloc: Global, names: &[Text]) -> Result<Items<Text>, NoMemory> {
     let mut all = Items::new(alloc);
     for name in names {

@@ -2,7 +2,54 @@
 //! (`Given Name`, `E-mail 1 - Type`).
 
 use crate::components::name_component;
-use crate::meaning::{Meaning, Part};
+use crate::known_names::{KnownName, name_in};
+use crate::meaning::{Meaning, NamedPart, Part, meaning_in};
+
+/// Columns without a number.
+const SINGLES: &[NamedPart] = &[
+    ("Name", "FN", Part::Value),
+    ("Nickname", "NICKNAME", Part::Value),
+    ("Birthday", "BDAY", Part::Value),
+    ("Notes", "NOTE", Part::Value),
+    ("Photo", "PHOTO", Part::Value),
+    ("Labels", "CATEGORIES", Part::Value),
+    ("Group Membership", "CATEGORIES", Part::Value),
+    ("Occupation", "ROLE", Part::Value),
+    ("Organization Name", "ORG", Part::Component(0)),
+    ("Organization Department", "ORG", Part::Component(1)),
+    ("Organization Title", "TITLE", Part::Value),
+];
+
+/// Parts of an address.
+const ADDRESS_PARTS: &[NamedPart] = &[
+    ("PO Box", "ADR", Part::Component(0)),
+    ("Extended Address", "ADR", Part::Component(1)),
+    ("Street", "ADR", Part::Component(2)),
+    ("City", "ADR", Part::Component(3)),
+    ("Region", "ADR", Part::Component(4)),
+    ("Postal Code", "ADR", Part::Component(5)),
+    ("Country", "ADR", Part::Component(6)),
+    ("Formatted", "ADR", Part::Formatted),
+];
+
+/// Parts of an organization.
+const ORGANIZATION_PARTS: &[NamedPart] = &[
+    ("Name", "ORG", Part::Component(0)),
+    ("Department", "ORG", Part::Component(1)),
+    ("Title", "TITLE", Part::Value),
+    ("Job Description", "ROLE", Part::Value),
+];
+
+/// The kinds of the other numbered columns, and their properties.
+const NUMBERED: &[KnownName] = &[
+    ("E-mail", "EMAIL"),
+    ("Phone", "TEL"),
+    ("Address", "ADR"),
+    ("Website", "URL"),
+    ("Relation", "RELATED"),
+    ("Event", "X-ABDATE"),
+    ("Custom Field", "X-CUSTOM-FIELD"),
+];
 
 /// A column of a person's name, which both programs have.
 pub(crate) fn name_meaning(name: &str) -> Option<Meaning<'_>> {
@@ -10,88 +57,31 @@ pub(crate) fn name_meaning(name: &str) -> Option<Meaning<'_>> {
     Some(Meaning::component("N", "", place, ""))
 }
 
-/// A column without a number.
+/// A column without a number. An occupation stands beside the role of an organization.
 fn single_meaning(name: &str) -> Option<Meaning<'_>> {
-    let meaning = match name {
-        "Name" => Meaning::value("FN", "", ""),
-        "Nickname" => Meaning::value("NICKNAME", "", ""),
-        "Birthday" => Meaning::value("BDAY", "", ""),
-        "Notes" => Meaning::value("NOTE", "", ""),
-        "Photo" => Meaning::value("PHOTO", "", ""),
-        "Labels" | "Group Membership" => Meaning::value("CATEGORIES", "", ""),
-        "Occupation" => Meaning::value("ROLE", "Occupation", ""),
-        "Organization Name" => Meaning::component("ORG", "", 0, ""),
-        "Organization Department" => Meaning::component("ORG", "", 1, ""),
-        "Organization Title" => Meaning::value("TITLE", "", ""),
-        _ => return None,
-    };
-    Some(meaning)
-}
-
-/// A part of an address. `key` is its number.
-fn address_meaning<'a>(key: &'a str, part: &str) -> Option<Meaning<'a>> {
-    let place = match part {
-        "PO Box" => 0,
-        "Extended Address" => 1,
-        "Street" => 2,
-        "City" => 3,
-        "Region" => 4,
-        "Postal Code" => 5,
-        "Country" => 6,
-        "Formatted" => {
-            return Some(Meaning {
-                property: "ADR",
-                key,
-                part: Part::Formatted,
-                types: "",
-            });
-        }
-        _ => return None,
-    };
-    Some(Meaning::component("ADR", key, place, ""))
-}
-
-/// A part of an organization. `key` is its number.
-fn organization_meaning<'a>(key: &'a str, part: &str) -> Option<Meaning<'a>> {
-    match part {
-        "Name" => Some(Meaning::component("ORG", key, 0, "")),
-        "Department" => Some(Meaning::component("ORG", key, 1, "")),
-        "Title" => Some(Meaning::value("TITLE", key, "")),
-        "Job Description" => Some(Meaning::value("ROLE", key, "")),
-        _ => None,
-    }
-}
-
-/// The property of the numbered columns of this kind.
-fn numbered_property(kind: &str) -> Option<&'static str> {
-    match kind {
-        "E-mail" => Some("EMAIL"),
-        "Phone" => Some("TEL"),
-        "Address" => Some("ADR"),
-        "Website" => Some("URL"),
-        "Relation" => Some("RELATED"),
-        "Event" => Some("X-ABDATE"),
-        "Custom Field" => Some("X-CUSTOM-FIELD"),
-        _ => None,
-    }
+    let key = if name == "Occupation" { name } else { "" };
+    meaning_in(SINGLES, name, key, "")
 }
 
 /// A part of a numbered property, as `Value` of `Phone` and `1`.
 fn numbered_meaning<'a>(kind: &str, key: &'a str, part: &str) -> Option<Meaning<'a>> {
     if kind == "Organization" {
-        return organization_meaning(key, part);
+        return meaning_in(ORGANIZATION_PARTS, part, key, "");
     }
-    let property = numbered_property(kind)?;
-    match part {
-        "Label" | "Type" => Some(Meaning {
+    let property = name_in(NUMBERED, kind)?;
+    if part == "Label" || part == "Type" {
+        Some(Meaning {
             property,
             key,
             part: Part::Label,
             types: "",
-        }),
-        "Value" if property != "ADR" => Some(Meaning::value(property, key, "")),
-        _ if property == "ADR" => address_meaning(key, part),
-        _ => None,
+        })
+    } else if property == "ADR" {
+        meaning_in(ADDRESS_PARTS, part, key, "")
+    } else if part == "Value" {
+        Some(Meaning::value(property, key, ""))
+    } else {
+        None
     }
 }
 

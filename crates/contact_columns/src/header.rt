@@ -8,9 +8,9 @@ use crate::recognized::unread_columns;
 use crate::row_ends::rows_end_with_returns;
 use crate::row_scan::mark_len;
 use crate::wishes::{are_numbers, has_rows_entry, most_number};
+use base_types::{NoMemory, Text};
 use csv::{ByteRecord, ReaderBuilder};
 use std::alloc::Global;
-use vcard_text::{NoMemory, Text};
 
 /// The header of a file of contacts.
 #[derive(Clone, Copy)]
@@ -135,32 +135,9 @@ fn find_written<'a>(
 }
 
 impl<'a> Header<'a> {
-    /// The same, with this order of day and month.
+    /// This header, with an order of day and month that was found below it.
     pub fn with_dates(self, dates: DateOrder) -> Header<'a> {
-        Header {
-            start: self.start,
-            lines: self.lines,
-            above: self.above,
-            delimiter: self.delimiter,
-            width: self.width,
-            dates,
-            wished: self.wished,
-            is_missing: self.is_missing,
-        }
-    }
-}
-
-/// The header, of whose columns this is said.
-fn header_with<'a>(header: Header<'_>, wished: &'a str) -> Header<'a> {
-    Header {
-        start: header.start,
-        lines: header.lines,
-        above: header.above,
-        delimiter: header.delimiter,
-        width: header.width,
-        dates: header.dates,
-        wished,
-        is_missing: header.is_missing,
+        Header { dates, ..self }
     }
 }
 
@@ -189,7 +166,7 @@ pub fn find_header<'a>(
     }
     match find_written(alloc, head, "")? {
         Some(known) if most_number(wished) <= known.width => {
-            Ok(Some(header_with(known, wished)))
+            Ok(Some(Header { wished, ..known }))
         }
         Some(_) => Ok(None),
         None => find_rows(alloc, head, wished),

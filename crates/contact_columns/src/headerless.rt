@@ -6,9 +6,9 @@ use crate::dates::DateOrder;
 use crate::header::{DELIMITERS, Header, empty_lines, line_len};
 use crate::row_ends::{first_end_place, rows_end_with_returns};
 use crate::wishes::{CELLS_MAX, RowForm, most_number, wished_form};
+use base_types::{Items, NoMemory, Text};
 use csv::{ByteRecord, ReaderBuilder};
 use std::alloc::Global;
-use vcard_text::{Items, NoMemory, Text};
 
 /// The rows from which the delimiter and the number of cells are known.
 const ROWS_TRIED: usize = 10;

@@ -3,8 +3,8 @@
 
 use crate::joined_names::{Joined, joined_in, without_gaps};
 use crate::programs::{Program, own_names};
+use base_types::NoMemory;
 use std::alloc::Global;
-use vcard_text::NoMemory;
 
 /// A name in lower case, with `ss` for `ß`, and the name of Google's or Outlook's in English. Some
 /// names mean something only beside others (see `Signs`).
@@ -410,9 +410,9 @@ pub(crate) fn known_name(program: Program, name: &str) -> Option<&'static str> {
     None
 }
 
-/// The same for a name that a table has with other spaces, hyphens, underscores or dots, as
-/// `first_name`. `None` also if it stands for names that mean something else, as `birth_day`, which
-/// may be a date or a day of the month.
+/// The name in English that Google or Outlook has for a column of a name that a table has with
+/// other spaces, hyphens, underscores or dots, as `first_name`. `None` also if it stands for names
+/// that mean different things, as `birth_day`, which may be a date or a day of the month.
 pub(crate) fn joined_name(
     alloc: Global,
     program: Program,

@@ -1,91 +1,30 @@
 //! What becomes of each column, in the words of what a user says of them.
 
-use crate::columns::ContactColumns;
+use crate::columns::{Column, ContactColumns};
 use crate::header::Header;
-use crate::meaning::Part;
 use crate::slots::Slot;
 use crate::suggestion::push_entry;
+use crate::targets::{part_word, target_of};
 use crate::wishes::{RowForm, push_header_entry, push_rows_entry};
+use base_types::{NoMemory, Text};
 use std::alloc::Global;
-use vcard_text::{NoMemory, Text};
 
-/// The word for a component of N.
-fn name_word(place: usize) -> &'static str {
-    match place {
-        0 => "n.family",
-        1 => "n.given",
-        2 => "n.additional",
-        3 => "n.prefix",
-        4 => "n.suffix",
-        _ => "",
-    }
-}
-
-/// The word for a component of ADR.
-fn address_word(place: usize) -> &'static str {
-    match place {
-        0 => "adr.box",
-        1 => "adr.extended",
-        2 => "adr.street",
-        3 => "adr.city",
-        4 => "adr.region",
-        5 => "adr.code",
-        6 => "adr.country",
-        _ => "",
-    }
-}
-
-/// The word for a value of the property.
-fn value_word(property: &str) -> &'static str {
-    match property {
-        "FN" => "fn",
-        "NICKNAME" => "nickname",
-        "TITLE" => "title",
-        "ROLE" => "role",
-        "EMAIL" => "email",
-        "TEL" => "tel",
-        "URL" => "url",
-        "BDAY" => "bday",
-        "ANNIVERSARY" => "anniversary",
-        "NOTE" => "note",
-        "CATEGORIES" => "categories",
-        "GENDER" => "gender",
-        "LANG" => "lang",
-        "IMPP" => "impp",
-        _ => "",
-    }
-}
-
-/// The word for a part of the property; empty if there is none, as for a label.
-fn part_word(property: &str, part: Part) -> &'static str {
-    match (property, part) {
-        (_, Part::Value) => value_word(property),
-        ("N", Part::Component(place)) => name_word(place),
-        ("ADR", Part::Component(place)) => address_word(place),
-        ("ADR", Part::Formatted) => "adr",
-        ("ORG", Part::Component(0)) => "org",
-        ("ORG", Part::Component(1)) => "org.unit",
-        _ => "",
-    }
-}
-
-/// Whether a property may have a TYPE among what a user says.
-fn has_types(word: &str) -> bool {
-    let is_single = matches!(word, "fn" | "bday" | "anniversary" | "gender");
-    !is_single && !word.starts_with("n.")
-}
-
-/// The word with the types after it, as `tel;type=work`.
+/// The word with the types after it, as `tel;type=work`, if its property may have types.
 fn word_with_types(alloc: Global, word: &str, types: &str) -> Result<String, NoMemory> {
     let mut text = String::from_str(alloc, word)?;
-    if types.is_empty() || !has_types(word) {
-        return Ok(text);
+    if !types.is_empty() && target_of(word).is_some_and(|target| target.has_types) {
+        push_types(&mut text, types)?;
     }
+    Ok(text)
+}
+
+/// Appends types that have commas between them, each as `;type=work`.
+fn push_types(text: &mut String, types: &str) -> Result<(), NoMemory> {
     for each in types.split(',') {
         text.push_str(";type=")?;
         text.push_str(each)?;
     }
-    Ok(text)
+    Ok(())
 }
 
 /// Sets the words for the columns of a slot.
@@ -99,10 +38,10 @@ fn set_words(alloc: Global, words: &mut Vec<String>, slot: &Slot) -> Result<(), 
     Ok(())
 }
 
-/// The words for all columns; empty where there is none.
-fn words_of(alloc: Global, columns: &ContactColumns) -> Result<Vec<String>, NoMemory> {
+/// The words for columns that are left out and for those of UIDs; empty for others.
+fn first_words(alloc: Global, columns: &[Column]) -> Result<Vec<String>, NoMemory> {
     let mut words = Vec::new(alloc);
-    for column in columns.columns.as_slice() {
+    for column in columns {
         let word = if column.is_left_out {
             "-"
         } else if column.property.as_str() == "UID" {
@@ -112,10 +51,29 @@ fn words_of(alloc: Global, columns: &ContactColumns) -> Result<Vec<String>, NoMe
         };
         words.push(String::from_str(alloc, word)?)?;
     }
+    Ok(words)
+}
+
+/// The words for all columns; empty where there is none.
+fn words_of(alloc: Global, columns: &ContactColumns) -> Result<Vec<String>, NoMemory> {
+    let mut words = first_words(alloc, columns.columns.as_slice())?;
     for slot in &columns.slots {
         set_words(alloc, &mut words, slot)?;
     }
     Ok(words)
+}
+
+/// Appends the entries of the columns for which there are words.
+fn push_words(alloc: Global, text: &mut String, columns: &ContactColumns) -> Result<(), NoMemory> {
+    let words = words_of(alloc, columns)?;
+    let names = columns.columns.as_slice();
+    for place in 0..names.len() {
+        let word = words.get(place).map_or("", |word| word.as_str());
+        if !word.is_empty() {
+            push_entry(alloc, text, place, names[place].name.as_str(), word)?;
+        }
+    }
+    Ok(())
 }
 
 /// What becomes of the columns, as `Name=fn,#7=-`. Columns whose cells are kept aside are missing,
@@ -127,15 +85,8 @@ pub fn mapped_columns(
     columns: &ContactColumns,
     header: Header<'_>,
 ) -> Result<Text, NoMemory> {
-    let words = words_of(alloc, columns)?;
-    let names = columns.columns.as_slice();
     let mut text = String::new(alloc);
-    for place in 0..names.len() {
-        let word = words.get(place).map_or("", |word| word.as_str());
-        if !word.is_empty() {
-            push_entry(alloc, &mut text, place, names[place].name.as_str(), word)?;
-        }
-    }
+    push_words(alloc, &mut text, columns)?;
     if header.is_missing {
         let form = RowForm {
             delimiter: header.delimiter,

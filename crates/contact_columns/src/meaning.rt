@@ -59,6 +59,29 @@ impl<'a> Meaning<'a> {
     }
 }
 
+/// A name of a column, the property that holds its cells, and what a cell is of it.
+pub(crate) type NamedPart = (&'static str, &'static str, Part);
+
+/// What a column means that a table has under this name, with this key and these types.
+pub(crate) fn meaning_in<'a>(
+    table: &[NamedPart],
+    name: &str,
+    key: &'a str,
+    types: &'a str,
+) -> Option<Meaning<'a>> {
+    for (known, property, part) in table {
+        if *known == name {
+            return Some(Meaning {
+                property: *property,
+                key,
+                part: *part,
+                types,
+            });
+        }
+    }
+    None
+}
+
 /// The number of components of the property's value (RFC 6350, sections 6.2.2, 6.3.1 and 6.6.4), or
 /// 0 if it has none.
 pub fn component_count(property: &str) -> usize {

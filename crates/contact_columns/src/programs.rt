@@ -1,7 +1,7 @@
 //! The programs and languages whose columns have names that mean something else elsewhere.
 
 use crate::known_names::KnownName;
-use vcard_text::Text;
+use base_types::Text;
 
 /// The program, or the language, of the columns of a file.
 #[derive(Clone, Copy, PartialEq, Eq)]

@@ -4,9 +4,10 @@ use crate::columns::{Column, ContactColumns, column_names, columns_of};
 use crate::folded::folded;
 use crate::meaning::Part;
 use crate::slots::Slot;
+use crate::wishes::push_listed;
+use base_types::NoMemory;
 use csv::ByteRecord;
 use std::alloc::Global;
-use vcard_text::NoMemory;
 
 /// Parts of names of columns of addresses of electronic mail.
 const MAIL_WORDS: &[&str] = &["mail", "courriel", "correo", "messagerie"];
@@ -150,6 +151,17 @@ pub(crate) fn are_contacts(alloc: Global, read: &ContactColumns) -> Result<bool,
     Ok(!lacks_mails && !lacks_numbers && !lacks_names)
 }
 
+/// Appends the names of the columns that should have names, addresses or numbers, and that aren't
+/// known, with commas between them.
+fn push_unread(alloc: Global, unread: &mut String, columns: &[Column]) -> Result<(), NoMemory> {
+    for column in columns {
+        if unread_in(alloc, column)?.is_any() {
+            push_listed(unread, column.name.as_str())?;
+        }
+    }
+    Ok(())
+}
+
 /// The names of the columns of a header that should have names, addresses of electronic mail or
 /// numbers of telephones, and that aren't known, with commas between them. The only `Err` is out of
 /// memory.
@@ -157,13 +169,6 @@ pub(crate) fn unread_columns(alloc: Global, header: &ByteRecord) -> Result<Strin
     let names = column_names(alloc, header)?;
     let read = columns_of(alloc, names.as_slice(), &[])?;
     let mut unread = String::new(alloc);
-    for column in read.columns.as_slice() {
-        if unread_in(alloc, column)?.is_any() {
-            if !unread.is_empty() {
-                unread.push_str(", ")?;
-            }
-            unread.push_str(column.name.as_str())?;
-        }
-    }
+    push_unread(alloc, &mut unread, read.columns.as_slice())?;
     Ok(unread)
 }

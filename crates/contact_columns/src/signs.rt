@@ -1,5 +1,29 @@
 //! What a column means by the other columns of its file.
 
+/// What the names of the columns of an address say after that of the address, but for its street.
+const ADDRESS_PARTS: &[&str] = &[
+    "City",
+    "State",
+    "Region",
+    "Postal Code",
+    "Country",
+    "Country/Region",
+    "PO Box",
+    "Address PO Box",
+    "Street 2",
+    "Extended Address",
+];
+
+/// Whether these are the words for a part of an address beside its street.
+fn is_part(words: &str) -> bool {
+    for part in ADDRESS_PARTS {
+        if *part == words {
+            return true;
+        }
+    }
+    false
+}
+
 /// Which columns of an address a file has.
 #[derive(Clone, Copy)]
 struct AddressSigns {
@@ -31,21 +55,10 @@ impl AddressSigns {
 
     /// Notes a column of the address, by what its name says after that of the address.
     fn note(&mut self, part: &str) {
-        match part {
-            "Street" => self.has_street = true,
-            "City"
-            | "State"
-            | "Region"
-            | "Postal Code"
-            | "Country"
-            | "Country/Region"
-            | "PO Box"
-            | "Address PO Box"
-            | "Street 2"
-            | "Extended Address" => {
-                self.has_part = true;
-            }
-            _ => {}
+        if part == "Street" {
+            self.has_street = true;
+        } else if is_part(part) {
+            self.has_part = true;
         }
     }
 

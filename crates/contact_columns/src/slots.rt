@@ -1,8 +1,8 @@
 //! `Slot`: the columns that give one property.
 
 use crate::meaning::{Meaning, Part};
+use base_types::{Items, NoMemory, Text};
 use std::alloc::Global;
-use vcard_text::{Items, NoMemory, Text};
 
 /// A column of a slot.
 #[derive(Clone, Copy)]
@@ -43,6 +43,16 @@ impl Slot {
         self.property.as_str() == meaning.property
             && self.key.as_str() == meaning.key
             && self.types.as_str() == meaning.types
+    }
+
+    /// Whether the slot has the column at the index.
+    fn has_place(&self, place: usize) -> bool {
+        for column in self.columns.as_slice() {
+            if column.place == place {
+                return true;
+            }
+        }
+        false
     }
 
     /// The index in the row of the column with the part, if the slot has one.
@@ -109,10 +119,10 @@ pub(crate) fn add_slot(
 
 /// Whether a slot has the column at the index.
 pub(crate) fn has_place(slots: &[Slot], place: usize) -> bool {
-    slots.iter().any(|slot| {
-        slot.columns
-            .as_slice()
-            .iter()
-            .any(|column| column.place == place)
-    })
+    for slot in slots {
+        if slot.has_place(place) {
+            return true;
+        }
+    }
+    false
 }

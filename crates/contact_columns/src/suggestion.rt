@@ -5,8 +5,8 @@ use crate::folded::folded;
 use crate::header::{DELIMITERS, first_row};
 use crate::recognized::{has_names, is_other};
 use crate::wishes::push_header_entry;
+use base_types::{Items, NoMemory, Text};
 use std::alloc::Global;
-use vcard_text::{Items, NoMemory, Text};
 
 /// Parts of names of columns, and what columns with such names mostly become.
 const GUESSES: &[(&str, &str)] = &[
@@ -67,20 +67,25 @@ const GUESSES: &[(&str, &str)] = &[
     ("comment", "note"),
 ];
 
+/// What a column of this name may become, which is in lower case.
+fn guess_by(name: &str) -> Option<&'static str> {
+    if name.contains("phonet") {
+        return None;
+    }
+    let is_other = is_other(name);
+    for (part, word) in GUESSES {
+        let is_reach = word.starts_with("email") || word.starts_with("tel");
+        if name.contains(*part) && !(is_other && is_reach) {
+            return Some(*word);
+        }
+    }
+    None
+}
+
 /// What a column of this name may become.
 fn guess(alloc: Global, name: &str) -> Result<Option<&'static str>, NoMemory> {
     let name = folded(alloc, name)?;
-    if name.as_str().contains("phonet") {
-        return Ok(None);
-    }
-    let is_other = is_other(name.as_str());
-    for (part, word) in GUESSES {
-        let is_reach = word.starts_with("email") || word.starts_with("tel");
-        if name.as_str().contains(*part) && !(is_other && is_reach) {
-            return Ok(Some(*word));
-        }
-    }
-    Ok(None)
+    Ok(guess_by(name.as_str()))
 }
 
 /// Whether the character may stand in the name of a column in an option between single quotes.
@@ -142,6 +147,46 @@ fn name_place(
     Ok(free)
 }
 
+/// Appends what to say of a column: that it has names, or the guess for it, if there is one.
+fn push_suggestion(
+    alloc: Global,
+    text: &mut String,
+    place: usize,
+    name: &str,
+    has_names: bool,
+) -> Result<(), NoMemory> {
+    let word = if has_names {
+        Some("fn")
+    } else {
+        guess(alloc, name)?
+    };
+    match word {
+        Some(word) => push_entry(alloc, text, place, name, word),
+        None => Ok(()),
+    }
+}
+
+/// Appends what to say of the columns, in their order, of which the one at `named` has names.
+fn push_suggestions(
+    alloc: Global,
+    text: &mut String,
+    columns: &[Column],
+    named: Option<usize>,
+) -> Result<(), NoMemory> {
+    for (place, column) in columns.iter().enumerate() {
+        if column.property.is_empty() {
+            push_suggestion(
+                alloc,
+                text,
+                place,
+                column.name.as_str(),
+                named == Some(place),
+            )?;
+        }
+    }
+    Ok(())
+}
+
 /// What to say of the columns of these names, in their order: a guess for each that isn't known. If
 /// none has names, the first one for which there is no guess has them.
 fn suggestion_for(alloc: Global, names: &[Text]) -> Result<String, NoMemory> {
@@ -149,17 +194,7 @@ fn suggestion_for(alloc: Global, names: &[Text]) -> Result<String, NoMemory> {
     let columns = read.columns.as_slice();
     let named = name_place(alloc, columns, has_names(read.slots.as_slice()))?;
     let mut text = String::new(alloc);
-    for (place, column) in columns.iter().enumerate() {
-        if !column.property.is_empty() {
-            continue;
-        }
-        let name = column.name.as_str();
-        if named == Some(place) {
-            push_entry(alloc, &mut text, place, name, "fn")?;
-        } else if let Some(word) = guess(alloc, name)? {
-            push_entry(alloc, &mut text, place, name, word)?;
-        }
-    }
+    push_suggestions(alloc, &mut text, columns, named)?;
     Ok(text)
 }
 

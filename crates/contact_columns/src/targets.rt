@@ -23,15 +23,100 @@ pub(crate) const TARGET_WORDS: &str = "fn, n.family, n.given, n.additional, n.pr
      adr.code, adr.country, adr.box, adr.extended, url, bday, anniversary, note, categories, uid, \
      gender, lang, impp, and - to leave a column out";
 
-/// Columns of a component.
-fn component(property: &'static str, place: usize, known: &'static str) -> Target {
-    Target {
-        property,
-        part: Part::Component(place),
-        known,
-        is_single: true,
-        has_types: property != "N",
+/// A word, the property that holds the column's cells, what a cell is of it, and the name of
+/// Google's or Outlook's for such a column.
+type ComponentWord = (&'static str, &'static str, Part, &'static str);
+
+/// The words for a property, and the property.
+type PropertyWord = (&'static str, &'static str);
+
+/// The words for the components of a value, and for addresses as they are printed. A property has
+/// one such column each.
+const COMPONENTS: &[ComponentWord] = &[
+    ("n.family", "N", Part::Component(0), "Last Name"),
+    ("n.given", "N", Part::Component(1), "First Name"),
+    ("n.additional", "N", Part::Component(2), "Middle Name"),
+    ("n.prefix", "N", Part::Component(3), "Name Prefix"),
+    ("n.suffix", "N", Part::Component(4), "Name Suffix"),
+    ("org", "ORG", Part::Component(0), "Company"),
+    ("org.unit", "ORG", Part::Component(1), "Department"),
+    ("adr", "ADR", Part::Formatted, "Address 1 - Formatted"),
+    ("adr.box", "ADR", Part::Component(0), "Address 1 - PO Box"),
+    (
+        "adr.extended",
+        "ADR",
+        Part::Component(1),
+        "Address 1 - Extended Address",
+    ),
+    (
+        "adr.street",
+        "ADR",
+        Part::Component(2),
+        "Address 1 - Street",
+    ),
+    ("adr.city", "ADR", Part::Component(3), "Address 1 - City"),
+    (
+        "adr.region",
+        "ADR",
+        Part::Component(4),
+        "Address 1 - Region",
+    ),
+    (
+        "adr.code",
+        "ADR",
+        Part::Component(5),
+        "Address 1 - Postal Code",
+    ),
+    (
+        "adr.country",
+        "ADR",
+        Part::Component(6),
+        "Address 1 - Country",
+    ),
+];
+
+/// The words for values of which there is one column.
+const SINGLES: &[PropertyWord] = &[
+    ("fn", "FN"),
+    ("bday", "BDAY"),
+    ("anniversary", "ANNIVERSARY"),
+    ("gender", "GENDER"),
+    ("uid", "UID"),
+    ("-", ""),
+];
+
+/// The words for values of which there may be several columns.
+const VALUES: &[PropertyWord] = &[
+    ("nickname", "NICKNAME"),
+    ("title", "TITLE"),
+    ("role", "ROLE"),
+    ("email", "EMAIL"),
+    ("tel", "TEL"),
+    ("url", "URL"),
+    ("note", "NOTE"),
+    ("categories", "CATEGORIES"),
+    ("lang", "LANG"),
+    ("impp", "IMPP"),
+];
+
+/// The property for which a table has the word, in any case.
+fn property_of(table: &[PropertyWord], word: &str) -> Option<&'static str> {
+    for (known, property) in table {
+        if known.eq_ignore_ascii_case(word) {
+            return Some(*property);
+        }
     }
+    None
+}
+
+/// The word that a table has for the property.
+fn word_of(table: &[PropertyWord], property: &str) -> Option<&'static str> {
+    for (word, known) in table {
+        if *known == property {
+            return Some(*word);
+        }
+    }
+    None
 }
 
 /// Columns of a value, of which there may be several.
@@ -56,96 +141,50 @@ fn single(property: &'static str) -> Target {
     }
 }
 
-/// A column of addresses as they are printed.
-fn formatted() -> Target {
-    Target {
-        property: "ADR",
-        part: Part::Formatted,
-        known: "Address 1 - Formatted",
-        is_single: true,
-        has_types: true,
+/// The component that the word names, in any case.
+fn component(word: &str) -> Option<Target> {
+    for (named, property, part, known) in COMPONENTS {
+        if named.eq_ignore_ascii_case(word) {
+            return Some(Target {
+                property: *property,
+                part: *part,
+                known: *known,
+                is_single: true,
+                has_types: *property != "N",
+            });
+        }
     }
+    None
 }
-
-/// The target of a structured value that the word names.
-fn structured_target(word: &str) -> Option<Target> {
-    let target = match word {
-        "n.family" => component("N", 0, "Last Name"),
-        "n.given" => component("N", 1, "First Name"),
-        "n.additional" => component("N", 2, "Middle Name"),
-        "n.prefix" => component("N", 3, "Name Prefix"),
-        "n.suffix" => component("N", 4, "Name Suffix"),
-        "org" => component("ORG", 0, "Company"),
-        "org.unit" => component("ORG", 1, "Department"),
-        "adr" => formatted(),
-        "adr.box" => component("ADR", 0, "Address 1 - PO Box"),
-        "adr.extended" => component("ADR", 1, "Address 1 - Extended Address"),
-        "adr.street" => component("ADR", 2, "Address 1 - Street"),
-        "adr.city" => component("ADR", 3, "Address 1 - City"),
-        "adr.region" => component("ADR", 4, "Address 1 - Region"),
-        "adr.code" => component("ADR", 5, "Address 1 - Postal Code"),
-        "adr.country" => component("ADR", 6, "Address 1 - Country"),
-        _ => return None,
-    };
-    Some(target)
-}
-
-/// The words for targets, in lower case.
-const WORDS: &[&str] = &[
-    "fn",
-    "n.family",
-    "n.given",
-    "n.additional",
-    "n.prefix",
-    "n.suffix",
-    "nickname",
-    "org",
-    "org.unit",
-    "title",
-    "role",
-    "email",
-    "tel",
-    "adr",
-    "adr.street",
-    "adr.city",
-    "adr.region",
-    "adr.code",
-    "adr.country",
-    "adr.box",
-    "adr.extended",
-    "url",
-    "bday",
-    "anniversary",
-    "note",
-    "categories",
-    "uid",
-    "gender",
-    "lang",
-    "impp",
-    "-",
-];
 
 /// The target that the word names, in any case.
 pub(crate) fn target_of(word: &str) -> Option<Target> {
-    let word = *WORDS.iter().find(|it| it.eq_ignore_ascii_case(word))?;
-    let target = match word {
-        "fn" => single("FN"),
-        "bday" => single("BDAY"),
-        "anniversary" => single("ANNIVERSARY"),
-        "gender" => single("GENDER"),
-        "uid" => single("UID"),
-        "-" => single(""),
-        "nickname" => values("NICKNAME"),
-        "title" => values("TITLE"),
-        "role" => values("ROLE"),
-        "email" => values("EMAIL"),
-        "tel" => values("TEL"),
-        "url" => values("URL"),
-        "note" => values("NOTE"),
-        "categories" => values("CATEGORIES"),
-        "lang" => values("LANG"),
-        "impp" => values("IMPP"),
-        _ => return structured_target(word),
-    };
-    Some(target)
+    if let Some(property) = property_of(SINGLES, word) {
+        return Some(single(property));
+    }
+    if let Some(property) = property_of(VALUES, word) {
+        return Some(values(property));
+    }
+    component(word)
+}
+
+/// The word for a component of the property; empty if there is none.
+fn component_word(property: &str, part: Part) -> &'static str {
+    for (word, known, component, _) in COMPONENTS {
+        if *known == property && *component == part {
+            return *word;
+        }
+    }
+    ""
+}
+
+/// The word for a part of the property; empty if there is none, as for a label.
+pub(crate) fn part_word(property: &str, part: Part) -> &'static str {
+    if part == Part::Value {
+        word_of(SINGLES, property)
+            .or(word_of(VALUES, property))
+            .unwrap_or("")
+    } else {
+        component_word(property, part)
+    }
 }

@@ -1,20 +1,15 @@
 //! The columns of Thunderbird's exports that no other program has.
 
-use crate::meaning::{Meaning, Part};
+use crate::meaning::{Meaning, NamedPart, Part, meaning_in};
 
-/// What the column of this name means, if Thunderbird's exports in English have it: the year, the
-/// month or the day of the birthday.
+/// The year, the month and the day of the birthday.
+const BIRTHDAYS: &[NamedPart] = &[
+    ("Birth Year", "BDAY", Part::Year),
+    ("Birth Month", "BDAY", Part::Month),
+    ("Birth Day", "BDAY", Part::Day),
+];
+
+/// What the column of this name means, if Thunderbird's exports in English have it.
 pub(crate) fn thunderbird_meaning(name: &str) -> Option<Meaning<'_>> {
-    let part = match name {
-        "Birth Year" => Part::Year,
-        "Birth Month" => Part::Month,
-        "Birth Day" => Part::Day,
-        _ => return None,
-    };
-    Some(Meaning {
-        property: "BDAY",
-        key: "",
-        part,
-        types: "",
-    })
+    meaning_in(BIRTHDAYS, name, "", "")
 }

@@ -1,47 +1,56 @@
 //! What is wrong with what the user says of the columns of a file.
 
-use crate::columns::{column_names, columns_of};
+use crate::columns::{Column, column_names, columns_of};
 use crate::doubts::is_doubtful;
-use crate::header::{find_header, first_row, is_missing};
+use crate::header::{Header, find_header, first_row, is_missing};
 use crate::headerless::{number_names, row_width};
 use crate::suggestion::first_names;
 use crate::targets::{TARGET_WORDS, target_of};
 use crate::wishes::{
-    Wish, chosen_wishes, entry_parts, has_column, is_zero, read_wishes, says_header, says_rows,
-    types_in,
+    Wish, chosen_wishes, entry_parts, has_column, is_zero, push_listed, read_wishes, says_header,
+    says_rows, types_in,
 };
-use std::alloc::Global;
-use vcard_text::{Items, NoMemory, Text};
+use base_types::{Items, NoMemory, Text};
+use std::alloc::{AllocError, Global};
+
+/// These words, for what is wrong.
+fn said(words: Result<String, AllocError>) -> Result<Option<Text>, NoMemory> {
+    Ok(Some(Text::new(words?)))
+}
+
+/// What is wrong with the parameters after a word whose property may have types or not.
+fn params_fault(
+    alloc: Global,
+    parts: (&str, &str, &str),
+    has_types: bool,
+) -> Result<Option<Text>, NoMemory> {
+    let (column, word, params) = parts;
+    match types_in(alloc, params)? {
+        None => said(format!(in alloc;
+            "';{params}' after '{column}={word}' isn't ;type=WORD, once for each type"
+        )),
+        Some(types) if !types.is_empty() && !has_types => {
+            said(format!(in alloc; "'{word}' has no types"))
+        }
+        Some(_) => Ok(None),
+    }
+}
 
 /// What is wrong with an entry, whatever the file is.
 fn entry_fault(alloc: Global, entry: &str) -> Result<Option<Text>, NoMemory> {
     if says_header(entry) || says_rows(entry) {
         return Ok(None);
     }
-    let Some((column, word, params)) = entry_parts(entry) else {
-        let words = format!(in alloc; "'{entry}' isn't COLUMN=PROPERTY")?;
-        return Ok(Some(Text::new(words)));
+    let Some(parts) = entry_parts(entry) else {
+        return said(format!(in alloc; "'{entry}' isn't COLUMN=PROPERTY"));
     };
+    let (column, word, _) = parts;
     if is_zero(column) {
-        let words = format!(in alloc; "there is no column '{column}': columns are counted from 1")?;
-        return Ok(Some(Text::new(words)));
+        return said(format!(in alloc; "there is no column '{column}': columns are counted from 1"));
     }
-    let Some(target) = target_of(word) else {
-        let words = format!(in alloc; "'{word}' is no property here; there are {TARGET_WORDS}")?;
-        return Ok(Some(Text::new(words)));
-    };
-    match types_in(alloc, params)? {
-        None => {
-            let words = format!(in alloc;
-                "';{params}' after '{column}={word}' isn't ;type=WORD, once for each type"
-            )?;
-            Ok(Some(Text::new(words)))
-        }
-        Some(types) if !types.is_empty() && !target.has_types => {
-            let words = format!(in alloc; "'{word}' has no types")?;
-            Ok(Some(Text::new(words)))
-        }
-        Some(_) => Ok(None),
+    match target_of(word) {
+        Some(target) => params_fault(alloc, parts, target.has_types),
+        None => said(format!(in alloc; "'{word}' is no property here; there are {TARGET_WORDS}")),
     }
 }
 
@@ -55,6 +64,13 @@ fn first_fault(alloc: Global, wished: &str) -> Result<Option<Text>, NoMemory> {
     Ok(None)
 }
 
+/// The names of the columns of a header, in a file that begins with these octets.
+fn header_names(alloc: Global, head: &[u8], header: Header<'_>) -> Result<Items<Text>, NoMemory> {
+    let rest = head.get(header.start..).unwrap_or(&[]);
+    let row = first_row(alloc, rest, header.delimiter)?;
+    column_names(alloc, &row)
+}
+
 /// The names of the columns of the header, if a row has all columns of the wishes; their numbers,
 /// if the file has no header.
 fn wished_names(alloc: Global, head: &[u8], wished: &str) -> Result<Option<Items<Text>>, NoMemory> {
@@ -62,11 +78,7 @@ fn wished_names(alloc: Global, head: &[u8], wished: &str) -> Result<Option<Items
         return number_names(alloc, head, wished);
     }
     match find_header(alloc, head, wished)? {
-        Some(header) => {
-            let rest = head.get(header.start..).unwrap_or(&[]);
-            let row = first_row(alloc, rest, header.delimiter)?;
-            Ok(Some(column_names(alloc, &row)?))
-        }
+        Some(header) => Ok(Some(header_names(alloc, head, header)?)),
         None => Ok(None),
     }
 }
@@ -75,12 +87,23 @@ fn wished_names(alloc: Global, head: &[u8], wished: &str) -> Result<Option<Items
 fn listed(alloc: Global, names: &[Text]) -> Result<String, NoMemory> {
     let mut list = String::new(alloc);
     for name in names {
-        if !list.is_empty() {
-            list.push_str(", ")?;
-        }
-        list.push_str(name.as_str())?;
+        push_listed(&mut list, name.as_str())?;
     }
     Ok(list)
+}
+
+/// The first column of a wish that isn't among these.
+fn first_missing<'a>(
+    alloc: Global,
+    wishes: &[Wish<'a>],
+    names: &[Text],
+) -> Result<Option<&'a str>, NoMemory> {
+    for wish in wishes {
+        if !has_column(alloc, wish, names)? {
+            return Ok(Some(wish.column));
+        }
+    }
+    Ok(None)
 }
 
 /// The words for the first column of a wish that isn't among these.
@@ -89,17 +112,12 @@ fn missing_column(
     wishes: &[Wish<'_>],
     names: &[Text],
 ) -> Result<Option<Text>, NoMemory> {
-    for wish in wishes {
-        if !has_column(alloc, wish, names)? {
-            let column = wish.column;
-            let list = listed(alloc, names)?;
-            let list = list.as_str();
-            let words = format!(in alloc; "there is no column '{column}'; there are: {list}")?;
-            return Ok(Some(Text::new(words)));
-        }
-    }
-    let words = format!(in alloc; "no row has all these columns")?;
-    Ok(Some(Text::new(words)))
+    let Some(column) = first_missing(alloc, wishes, names)? else {
+        return said(format!(in alloc; "no row has all these columns"));
+    };
+    let list = listed(alloc, names)?;
+    let list = list.as_str();
+    said(format!(in alloc; "there is no column '{column}'; there are: {list}"))
 }
 
 /// The words for the first column of a wish that rows with so many cells don't have. The file has
@@ -113,14 +131,12 @@ fn missing_number(
     for wish in wishes {
         if !wish.place().is_some_and(|place| place < width) {
             let column = wish.column;
-            let words = format!(in alloc;
+            return said(format!(in alloc;
                 "there is no column '{column}'; the number of columns is {count}"
-            )?;
-            return Ok(Some(Text::new(words)));
+            ));
         }
     }
-    let words = format!(in alloc; "the file has no rows")?;
-    Ok(Some(Text::new(words)))
+    said(format!(in alloc; "the file has no rows"))
 }
 
 /// The words for the first wish about columns that earlier ones are about.
@@ -132,22 +148,19 @@ fn second_wish(
     for index in 0..wishes.len() {
         if !chosen.iter().any(|it| *it == index) {
             let column = wishes[index].column;
-            let words = format!(in alloc; "'{column}' is given more than once")?;
-            return Ok(Some(Text::new(words)));
+            return said(format!(in alloc; "'{column}' is given more than once"));
         }
     }
     Ok(None)
 }
 
-/// The words for the first column that is given to a property which another column has.
-fn second_column(
+/// The words for the first of the columns that is given to a property which another one has.
+fn doubled_column(
     alloc: Global,
     wishes: &[Wish<'_>],
-    names: &[Text],
+    columns: &[Column],
     chosen: &[usize],
 ) -> Result<Option<Text>, NoMemory> {
-    let read = columns_of(alloc, names, wishes)?;
-    let columns = read.columns.as_slice();
     for place in 0..columns.len() {
         let index = chosen.get(place).copied().unwrap_or(wishes.len());
         let column = &columns[place];
@@ -155,12 +168,22 @@ fn second_column(
             if column.property.is_empty() && !column.is_left_out {
                 let name = column.name.as_str();
                 let word = wish.word;
-                let words = format!(in alloc; "'{name}' isn't the only column given to {word}")?;
-                return Ok(Some(Text::new(words)));
+                return said(format!(in alloc; "'{name}' isn't the only column given to {word}"));
             }
         }
     }
     Ok(None)
+}
+
+/// The words for the first column of these names that is given to a property which another one has.
+fn second_column(
+    alloc: Global,
+    wishes: &[Wish<'_>],
+    names: &[Text],
+    chosen: &[usize],
+) -> Result<Option<Text>, NoMemory> {
+    let read = columns_of(alloc, names, wishes)?;
+    doubled_column(alloc, wishes, read.columns.as_slice(), chosen)
 }
 
 /// The words for what is wrong with the wishes of a header that has all their columns.
@@ -181,10 +204,19 @@ const DOUBT: &str =
 /// entries, or two columns for one value.
 fn fault_of_wishes(alloc: Global, head: &[u8], wished: &str) -> Result<Option<Text>, NoMemory> {
     let wishes = read_wishes(alloc, wished)?;
-    let wishes = wishes.as_slice();
-    if let Some(names) = wished_names(alloc, head, wished)? {
-        return doubled(alloc, wishes, names.as_slice());
+    match wished_names(alloc, head, wished)? {
+        Some(names) => doubled(alloc, wishes.as_slice(), names.as_slice()),
+        None => missing(alloc, head, wished, wishes.as_slice()),
     }
+}
+
+/// The words for a column that there isn't, in a file that hasn't all columns of the wishes.
+fn missing(
+    alloc: Global,
+    head: &[u8],
+    wished: &str,
+    wishes: &[Wish<'_>],
+) -> Result<Option<Text>, NoMemory> {
     if is_missing(alloc, head, wished)? {
         return missing_number(alloc, wishes, row_width(alloc, head, wished)?);
     }

@@ -2,8 +2,8 @@
 
 use crate::meaning::Meaning;
 use crate::targets::{Target, target_of};
+use base_types::{NoMemory, Text};
 use std::alloc::Global;
-use vcard_text::{NoMemory, Text};
 
 /// What is said of one column.
 #[derive(Drop)]
@@ -75,24 +75,36 @@ fn type_in(param: &str) -> Option<&str> {
     }
 }
 
+/// Appends a type in lower case, with a comma before it unless it is the first.
+fn push_type(types: &mut String, word: &str) -> Result<(), NoMemory> {
+    if !types.is_empty() {
+        types.push(',')?;
+    }
+    for c in word.chars() {
+        types.push(c.to_ascii_lowercase())?;
+    }
+    Ok(())
+}
+
+/// Appends the types of the parameters. Returns false at the first one that isn't a type.
+fn push_types(types: &mut String, params: &str) -> Result<bool, NoMemory> {
+    for param in params.split(';') {
+        match type_in(param) {
+            Some(word) => push_type(types, word)?,
+            None => return Ok(false),
+        }
+    }
+    Ok(true)
+}
+
 /// The types of the parameters, with commas between them. `None` if one isn't a type.
 pub(crate) fn types_in(alloc: Global, params: &str) -> Result<Option<Text>, NoMemory> {
     let mut types = String::new(alloc);
-    if params.is_empty() {
-        return Ok(Some(Text::new(types)));
+    if params.is_empty() || push_types(&mut types, params)? {
+        Ok(Some(Text::new(types)))
+    } else {
+        Ok(None)
     }
-    for param in params.split(';') {
-        let Some(word) = type_in(param) else {
-            return Ok(None);
-        };
-        if !types.is_empty() {
-            types.push(',')?;
-        }
-        for c in word.chars() {
-            types.push(c.to_ascii_lowercase())?;
-        }
-    }
-    Ok(Some(Text::new(types)))
 }
 
 /// What the entry says, unless something is wrong with it.
@@ -353,17 +365,30 @@ pub(crate) fn have_columns(
     Ok(true)
 }
 
+/// Appends a text to a list, with a comma before it unless it is the first.
+pub(crate) fn push_listed(list: &mut String, text: &str) -> Result<(), NoMemory> {
+    if !list.is_empty() {
+        list.push_str(", ")?;
+    }
+    list.push_str(text)?;
+    Ok(())
+}
+
+/// Appends the columns that are left out, with commas between them.
+fn push_left_out(columns: &mut String, wishes: &[Wish<'_>]) -> Result<(), NoMemory> {
+    for wish in wishes {
+        if wish.leaves_out() {
+            push_listed(columns, wish.column)?;
+        }
+    }
+    Ok(())
+}
+
 /// The columns that are left out, with commas between them. Empty if there are none. The only `Err`
 /// is out of memory.
 pub fn left_out_columns(alloc: Global, wished: &str) -> Result<Text, NoMemory> {
+    let wishes = read_wishes(alloc, wished)?;
     let mut columns = String::new(alloc);
-    for wish in &read_wishes(alloc, wished)? {
-        if wish.leaves_out() {
-            if !columns.is_empty() {
-                columns.push_str(", ")?;
-            }
-            columns.push_str(wish.column)?;
-        }
-    }
+    push_left_out(&mut columns, wishes.as_slice())?;
     Ok(Text::new(columns))
 }

@@ -310,8 +310,8 @@ fn keep_cells(
     Ok(made)
 }
 
-/// The same, of a row whose cells have these texts. A control character of a cell that its text has
-/// as a space is reported, too.
+/// What is kept of a row whose cells have these texts, and what is reported of it. A control
+/// character of a cell that its text has as a space is reported, too.
 pub(crate) fn keep_row(
     alloc: Global,
     columns: &[Column],

@@ -1,5 +1,5 @@
-//! The lines of a property whose value has components (RFC 6350, section 3.3). Google writes several
-//! addresses into the same columns.
+//! The lines of a property whose value has components (RFC 6350, section 3.3). Google writes
+//! several addresses into the same columns.
 
 use crate::entries::cell_at;
 use crate::lines::make_param;

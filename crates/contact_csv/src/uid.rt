@@ -143,8 +143,8 @@ fn identifier_uid(alloc: Global, column: &Column, text: &str) -> Result<Option<S
     Ok(None)
 }
 
-/// The UID that a cell gives: itself in a column of UIDs, or with `by_identifier` the one that tells
-/// its row apart.
+/// The UID that a cell gives: itself in a column of UIDs, or with `by_identifier` the one that
+/// tells its row apart.
 fn cell_own_uid(
     alloc: Global,
     column: &Column,
