@@ -77,7 +77,7 @@ tally_with number horizon cards counts remembered = record {
   remembered = remembered;
 }
 
--- the eleven numbers of a tally under their names, in byte order of name
+-- the eleven numbers of a tally under their names, in the order of the octets of the names
 abbrev pub tally_numbers : Tally → List (List ℕ × ℕ)
 tally_numbers tally =
     (codes "cards", tally.cards)

@@ -15,6 +15,6 @@ object_of members = object (members_from members)
 abbrev pub json_number : ℕ → Data
 json_number n = number (unsigned n)
 
--- the members with one more number, in byte order of name
+-- the members with one more number, in the order of the octets of the names
 abbrev pub with_number : Members → List ℕ × ℕ → Members
 with_number members row = put row.0 (json_number row.1) members

@@ -1,6 +1,6 @@
 //! Formats the replies of the service as HTTP messages (RFC 9110, RFC 9112) with JSON bodies (RFC
 //! 8259). A body is one JSON value: one for each result of a store, each refusal and each fault.
-//! The members of each object are in byte order of name.
+//! The members of each object are in the order of the octets of their names.
 #![tactic(auto)]
 
 mod bodies;

@@ -1,4 +1,5 @@
-//! Replies as JSON values. The members of each object are in byte order of name.
+//! Replies as JSON values. The members of each object are in the order of the octets of their
+//! names.
 ghost use Rattle.std.specs.Prelude.{◌≡◌, IfOk};
 ghost use Rattle.serde_json.specs.View.{view};
 ghost use Rattle.http_replies.specs.ReplyValues.{books_value, created_value};

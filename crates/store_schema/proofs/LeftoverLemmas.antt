@@ -295,7 +295,7 @@ image_with log db = record { log = log; db = db }
 abbrev pub seen_after : List ℕ → List ℕ → Bool → List Event → List ℕ
 seen_after log db is_log events = (replay (cond is_log log db) events).seen
 
--- they have the bytes that their calls so far have shown
+-- they have the octets that their calls so far have shown
 pub seen_alike : (log db : List ℕ) {a b c d : Bool} {w x y z : List Event} → a ≡ b → w ≡ x → c ≡ d
     → y ≡ z → image_with (seen_after log db a w) (seen_after log db c y)
     ≡ image_with (seen_after log db b x) (seen_after log db d z)

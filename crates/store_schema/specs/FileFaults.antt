@@ -22,15 +22,15 @@ use Rattle.store_schema.specs.declared.open_fault.OpenFault.TheVariants.{NotEmpt
 -- ---- what the files held
 
 module _ (image : Image) where
-  -- files with these bytes hold no database
+  -- files with these octets hold no database
   abbrev pub HoldsNoDatabase : Type 0
   HoldsNoDatabase = (trees : Trees) → ¬ HoldsDatabase image trees
 
-  -- files with these bytes hold tables of which the fact holds
+  -- files with these octets hold tables of which the fact holds
   abbrev pub FileHas : (Database → Type 0) → Type 0
   FileHas = FindsTables (AreFoundIn image)
 
-  -- files with these bytes hold trees that list no schema
+  -- files with these octets hold trees that list no schema
   abbrev pub FileHasNoSchema : Type 0
   FileHasNoSchema = FindsNoSchema (AreFoundIn image)
 
@@ -51,7 +51,7 @@ module _ {D : Type 0} {g : Ghosts D} where
 -- ---- why the files are refused
 
 module _ {D : Type 0} {g : Ghosts D} (image : Image) (left : Leftover D g) where
-  -- The fault is right for files with these bytes, of which this is left. The schema test is
+  -- The fault is right for files with these octets, of which this is left. The schema test is
   -- `Classifies`, and `IsWellFormed` is what the rows of the tables must be. No connection opens
   -- over rows that break the declarations of their tables, since the files then hold no database:
   -- that is `Damaged` too. An error of the database is possible in every case.
@@ -76,7 +76,7 @@ module _ {D : Type 0} {g : Ghosts D} (image : Image) (left : Leftover D g) where
 
 module _ {D : Type 0} {g : Ghosts D} (image : Image) where
   -- The fault is that of the database if no files were opened. Otherwise it is right for files with
-  -- these bytes, of which this is left.
+  -- these octets, of which this is left.
   abbrev pub IsFileRefusal :
       (Database → Result (Unit {0}) OpenFault → Type 0) → (Database → Type 0) → OpenFault
       → Option (Leftover D g) → Type 0

@@ -162,7 +162,7 @@ fn is_only_name(own: &str, names: &[Bytes]) -> bool
     rest.is_empty() && name.as_slice() == own.as_bytes()
 }
 
-/// Whether each key has an order, ascending in byte order in every column.
+/// Whether each key has an order, ascending in the order of octets in every column.
 fn are_plain(keys: &[&[usize]], orders: &[Order]) -> bool
     ensures { result ≡ all_match tests.is_plain_order (map (λ key. key.now) keys.now)
         orders.now }
