@@ -13,3 +13,4 @@ pub mod SearchLemmas
 pub mod CopyLemmas
 pub mod RestartLemmas
 pub mod PathLemmas
+pub mod LegalLemmas

@@ -1,5 +1,7 @@
 //! Laws of stores over tables.
+ghost use Rattle.book_model.specs.Books.{Books};
 ghost use Rattle.book_model.specs.Bounds.{Bounds};
+ghost use Rattle.book_resync.specs.ResyncLaws.{HasLegalCards};
 ghost use Rattle.book_store.specs.Crashes.{StoresSurviveCrashes};
 ghost use Rattle.book_store.specs.Restarts.{HoldsStore};
 ghost use Rattle.book_store.specs.StoreViews.{StoredTrees};
@@ -13,6 +15,7 @@ ghost use Rattle.store_rows.specs.TableRows.{TableRows};
 ghost use Rattle.std.specs.Prelude.{◌<◌, ◌*◌, ◌^◌};
 
 use sqlite::Alter;
+use vcard_text::laws::{card_is_computed, spelled_is_card};
 
 /// The rows of well-formed books cause no fault in a call that reads, if the limits allow fewer
 /// than 2^63 books, fewer than 2^63 changes of each, and fewer than 2^63 - 1 of all together. The
@@ -50,3 +53,12 @@ pub fn left_stores_open()
     ensures { (image : Image) (trees : Trees) → HoldsDatabase image trees
         → (stored : StoredTrees trees) → HoldsStore image stored.books }
 {}
+
+/// A text can spell each live card of a file that holds a store, as the life of a store asks before
+/// a resync. So it is of each file that an opening takes, whoever wrote it.
+pub fn stored_cards_are_legal()
+    ensures { (image : Image) (books : Books) → HoldsStore image books → HasLegalCards books }
+{
+    card_is_computed();
+    spelled_is_card();
+}
