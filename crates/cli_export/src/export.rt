@@ -5,12 +5,12 @@ ghost use Rattle.base_types.specs.TextMaps.{octet_map};
 ghost use Rattle.book_service.specs.WholeBooks.{lines_by_uid};
 ghost use Rattle.cli_export.specs.CardFiles.{Exports, PrintsCards, StopsCards, cards_text};
 ghost use Rattle.cli_export.specs.CardFiles.{one_text};
+ghost use Rattle.cli_orders.specs.Outputs.{Flushes};
 
 use base_types::{Items, NoMemory};
-use cli_orders::{Stop, write_out};
+use cli_orders::{Output, Stop, write_out};
 use std::alloc::Global;
 use std::collections::BTreeMap;
-use std::io::Write;
 use sync_core::{BookStore, Denied, Stored};
 use vcard_export::write_older_card;
 use vcard_text::{Card, write_card};
@@ -71,7 +71,7 @@ fn export<S: BookStore>(
 ///
 /// Stops with `NoSuchBook`; with a fault of the store; with `Memory` if an allocation fails; and
 /// with `Device` if the writer fails.
-pub fn run_card_export<S: BookStore, W: Write>(
+pub fn run_card_export<S: BookStore, W: Output>(
     alloc: Global,
     store: &mut S,
     book: &str,
@@ -82,6 +82,7 @@ pub fn run_card_export<S: BookStore, W: Write>(
         (W.contents writer.old) (W.contents writer.new) store.new) }
     ensures stopped { IfErr result (λ stop. StopsCards S.model store.old book.now is_older stop
         (W.contents writer.old) (W.contents writer.new) store.new) }
+    ensures flushed { Flushes W.contents W.flushed writer.old writer.new result }
 {
     let text = export(alloc, store, book, is_older)?;
     write_out(writer, text.as_slice())

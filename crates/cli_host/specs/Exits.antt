@@ -73,8 +73,8 @@ pub record IsTryStopped (input : List ℕ) (before after : Option (List ℕ))
   pub output_kept : KeepsTryOutput stop input before after
   pub reports_stop : ReportsStop stop errors_before errors_after exit
 
--- A store is represented by its books, a front by what it answers, an endpoint by the effects of its
--- calls, a connection by its octets, and a listener by the connections that arrive at it.
+-- A store is represented by its books, a front by what it answers, an endpoint by the effects of
+-- its calls, a connection by its octets, and a listener by the connections that arrive at it.
 module _ {S P L Connection : Type 0} (model : StoreModel S) (front : FrontRelation)
     (effects : EndpointRelation P) (stream : ConnectionModel Connection)
     (coming : L → Option (List (Option Connection))) where

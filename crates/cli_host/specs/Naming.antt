@@ -51,6 +51,21 @@ abbrev pub given : Option (List ℕ) → List ℕ
 given None = []
 given (Some text) = text
 
+-- the store file of an order that names no other; otherwise, nothing
+abbrev pub names_in_file : Order → OrderNames
+names_in_file (Book file book) = named kind.Other file false [] 0
+names_in_file (Export file book form) = named kind.Other file false [] 0
+names_in_file (ExportCards file book is_older) = named kind.Other file false [] 0
+names_in_file (Tally file book) = named kind.Other file false [] 0
+names_in_file (Forget file book upto) = named kind.Other file false [] 0
+names_in_file (Mirror file book limit pages) = named kind.Other file false [] 0
+names_in_file (Expand file book uid) = named kind.Other file false [] 0
+names_in_file (Migrate file) = named kind.Other file false [] 0
+names_in_file (Books file) = named kind.Books file false [] 0
+names_in_file (Verify file) = named kind.Verify file false [] 0
+names_in_file (Resync file pairs) = named kind.Resync file false [] 0
+names_in_file order = named kind.Other [] false [] 0
+
 -- an order's store file, and whether it makes that, its other file or its socket, and its port
 abbrev pub names_of : Order → OrderNames
 names_of (Init file) = named kind.Other file true [] 0
@@ -59,18 +74,7 @@ names_of (Run file port socket names max_open idle_timeout max_held creates is_l
     named kind.Run file creates (given socket) port
 names_of (Import file book key csv) = named kind.Import file false csv 0
 names_of (Check file) = named kind.Check [] false file 0
-names_of (Book file book) = named kind.Other file false [] 0
-names_of (Export file book form) = named kind.Other file false [] 0
-names_of (ExportCards file book is_older) = named kind.Other file false [] 0
-names_of (Tally file book) = named kind.Other file false [] 0
-names_of (Forget file book upto) = named kind.Other file false [] 0
-names_of (Mirror file book limit pages) = named kind.Other file false [] 0
-names_of (Expand file book uid) = named kind.Other file false [] 0
-names_of (Migrate file) = named kind.Other file false [] 0
-names_of (Books file) = named kind.Books file false [] 0
-names_of (Verify file) = named kind.Verify file false [] 0
 names_of (Copy file target without) = named kind.Copy file false target 0
 names_of (Restore backup file pairs) = named kind.Restore file true backup 0
-names_of (Resync file pairs) = named kind.Resync file false [] 0
 names_of Try = named kind.Try [] false [] 0
-names_of order = named kind.Other [] false [] 0
+names_of order = names_in_file order

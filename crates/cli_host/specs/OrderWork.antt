@@ -61,21 +61,25 @@ store_work_of (Forget file book upto) = UseFile file (Perform (ForgetUpto book u
 store_work_of (Mirror file book limit pages) = UseFile file (MirrorBook book limit pages)
 store_work_of (Expand file book uid) = UseFile file (Perform (People book uid))
 store_work_of (Books file) = UseFile file (ListBooks listing.Books)
-store_work_of (Verify file) = VerifyFile file
 store_work_of (ResyncFile file pairs) = UseFile file (Resync pairs)
 store_work_of order = Nothing
+
+-- what an order does that makes, copies or tests a whole file; otherwise, what it does to the store
+abbrev pub file_work_of : Order → Work
+file_work_of (Init file) = CreateFile file
+file_work_of (Migrate file) = MigrateFile file
+file_work_of (Copy file target without) = CopyFile file target without
+file_work_of (Restore backup file pairs) = RestoreFile backup file pairs
+file_work_of (Verify file) = VerifyFile file
+file_work_of order = store_work_of order
 
 -- each order's arguments in their places
 abbrev pub work_of : Order → Work
 work_of Try = Nothing
 work_of Version = PrintVersion
 work_of (Check file) = CheckFile file
-work_of (Init file) = CreateFile file
-work_of (Migrate file) = MigrateFile file
-work_of (Copy file target without) = CopyFile file target without
-work_of (Restore backup file pairs) = RestoreFile backup file pairs
 work_of (Run file port socket names max_open idle_timeout max_held creates is_logged site) =
     RunFile file creates names (address_of port socket)
     (limits_of endless_connections max_open idle_timeout max_held) is_logged site
 work_of (Serve file port connections) = ServeFile file port connections
-work_of order = store_work_of order
+work_of order = file_work_of order

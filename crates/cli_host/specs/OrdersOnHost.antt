@@ -361,7 +361,8 @@ module _ {S P L State : Type 0} (does : HandlerRelation State) (effects : Endpoi
     (state_of : S → State) where
   -- the file's store was opened or created, and then it was served
   pub record ServesStore (file : List ℕ) (creates : Bool) (requested : Address)
-      (limits : ServeLimits) (before after : Option (List ℕ)) (log : List (HostCall S P L)) : Type 0 where
+      (limits : ServeLimits) (before after : Option (List ℕ)) (log : List (HostCall S P L))
+      : Type 0 where
     pub store : S
     pub first : List (HostCall S P L)
     pub later : List (HostCall S P L)
@@ -391,8 +392,8 @@ module _ {S P L State : Type 0} (does : HandlerRelation State) (effects : Endpoi
       ⊎ (((store : S) × GetsStore file creates (Ok store) log × StopsForMemory stop before after)
       ⊎ StopsServingStore file creates requested limits stop before after log)
 
--- A store is represented by its books, a front by what it answers, and an endpoint by the effects of
--- its calls.
+-- A store is represented by its books, a front by what it answers, and an endpoint by the effects
+-- of its calls.
 module _ {S P L : Type 0} (model : StoreModel S) (front : FrontRelation)
     (effects : EndpointRelation P) where
   -- the file's store was opened, or created if that was asked for, and served with the front before
@@ -467,8 +468,8 @@ module _ {S P L : Type 0} (model : StoreModel S) (front : FrontRelation)
 
 -- ---- all orders
 
--- A store is represented by its books, a front by what it answers, an endpoint by the effects of its
--- calls, a connection by its octets, and a listener by the connections that arrive at it.
+-- A store is represented by its books, a front by what it answers, an endpoint by the effects of
+-- its calls, a connection by its octets, and a listener by the connections that arrive at it.
 module _ {S P L Connection : Type 0} (model : StoreModel S) (front : FrontRelation)
     (effects : EndpointRelation P) (stream : ConnectionModel Connection)
     (coming : L → Option (List (Option Connection))) where

@@ -1,5 +1,6 @@
 //! The entry point of the program: runs an order, reports errors, and returns how it ended.
-ghost use Rattle.std.specs.Prelude.{◌≡◌, ◌≢◌, ◌⊎◌, List, ℕ, IfOk, IfSome, Ok, Err, string_bytes};
+ghost use Rattle.std.specs.Prelude.{◌≡◌, ◌≢◌, ◌⊎◌, List, ℕ, IfOk, IfSome, OnOk, Ok, Err};
+ghost use Rattle.std.specs.Prelude.{string_bytes};
 ghost use Rattle.std.specs.Io.KnownBytes.{Keeps};
 ghost use Rattle.cli_args.specs.declared.fault.LineFault.{LineFault as TheFault};
 ghost use Rattle.cli_args.specs.declared.order.Order.{Order as TheOrder};
@@ -7,6 +8,7 @@ ghost use Rattle.cli_host.specs.Exits.{EndsOrder, IsTryDone, IsTryStopped, Repor
 ghost use Rattle.cli_host.specs.Exits.{ReportsResult, ReportsStop, with_line_feed};
 ghost use Rattle.cli_host.specs.Hosts.{LogsCalls};
 ghost use Rattle.cli_orders.specs.Inputs.{read_octets_max};
+ghost use Rattle.cli_orders.specs.Outputs.{IsFlushed, LeavesFlushed};
 ghost use Rattle.cli_orders.specs.Stops.{out_of_memory, stop_line};
 ghost use Rattle.book_http.specs.Streams.{ReadsAtMost};
 
@@ -17,10 +19,10 @@ use crate::words::say_why;
 use admin_store::AdminStore;
 use book_http::Listener;
 use cli_args::{LineFault, Order};
-use cli_orders::{Stop, run_try, write_out};
+use cli_orders::{Output, Stop, run_try, write_out};
 use hub_server::Endpoint;
 use std::alloc::Global;
-use std::io::{Read, Write};
+use std::io::Read;
 use vcard_text::NoMemory;
 
 /// How the program ended.
@@ -41,8 +43,10 @@ fn format_stop(alloc: Global, stop: Stop) -> Result<String, NoMemory>
 }
 
 /// Prints the line of a stop. Without memory for the line, it prints the stop for memory instead.
-fn report_stop<E: Write>(alloc: Global, errors: &mut E, stop: Stop) -> ProgramExit
-    ensures { ReportsStop stop (E.contents errors.old) (E.contents errors.new) result }
+fn report_stop<E: Output>(alloc: Global, errors: &mut E, stop: Stop) -> ProgramExit
+    ensures reports { ReportsStop stop (E.contents errors.old) (E.contents errors.new) result }
+    ensures flushed { OnOk result.reported
+        (LeavesFlushed E.contents E.flushed errors.old errors.new) }
 {
     match format_stop(alloc, stop) {
         Ok(line) => ProgramExit {
@@ -57,8 +61,10 @@ fn report_stop<E: Write>(alloc: Global, errors: &mut E, stop: Stop) -> ProgramEx
 }
 
 /// Reports the stop, if any.
-fn report_result<E: Write>(alloc: Global, errors: &mut E, done: Result<(), Stop>) -> ProgramExit
-    ensures { ReportsResult done (E.contents errors.old) (E.contents errors.new) result }
+fn report_result<E: Output>(alloc: Global, errors: &mut E, done: Result<(), Stop>) -> ProgramExit
+    ensures reports { ReportsResult done (E.contents errors.old) (E.contents errors.new) result }
+    ensures flushed { OnOk result.reported
+        (LeavesFlushed E.contents E.flushed errors.old errors.new) }
 {
     match done {
         Ok(()) => ProgramExit {
@@ -70,8 +76,11 @@ fn report_result<E: Write>(alloc: Global, errors: &mut E, done: Result<(), Stop>
 }
 
 /// Prints the text for invalid arguments or for help.
-fn report_bad_arguments<E: Write>(errors: &mut E, text: &str) -> ProgramExit
-    ensures { ReportsBadArguments text.now (E.contents errors.old) (E.contents errors.new) result }
+fn report_bad_arguments<E: Output>(errors: &mut E, text: &str) -> ProgramExit
+    ensures reports { ReportsBadArguments text.now
+        (E.contents errors.old) (E.contents errors.new) result }
+    ensures flushed { OnOk result.reported
+        (LeavesFlushed E.contents E.flushed errors.old errors.new) }
 {
     ProgramExit {
         reported: write_out(errors, text.as_bytes()),
@@ -80,7 +89,7 @@ fn report_bad_arguments<E: Write>(errors: &mut E, text: &str) -> ProgramExit
 }
 
 /// Runs the order `try`, and reports a stop.
-fn run_try_order<S, P, L, M: Host<S, P, L>, R: Read, W: Write, E: Write>(
+fn run_try_order<S, P, L, M: Host<S, P, L>, R: Read, W: Output, E: Output>(
     alloc: Global,
     host: &M,
     reader: &mut R,
@@ -94,6 +103,11 @@ fn run_try_order<S, P, L, M: Host<S, P, L>, R: Read, W: Write, E: Write>(
         (E.contents errors.old) (E.contents errors.new) result) }
     ensures at_most { ReadsAtMost read_octets_max
         (R.remaining reader.old) (R.remaining reader.new) }
+    ensures flushed { result.status ≡ 0 → IsFlushed W.contents W.flushed writer.new }
+    ensures left_flushed { result.status ≢ 3
+        → LeavesFlushed W.contents W.flushed writer.old writer.new }
+    ensures errors_flushed { OnOk result.reported
+        (LeavesFlushed E.contents E.flushed errors.old errors.new) }
 {
     let names = names_to_say(alloc, host, &Order::Try);
     let done = run_try(alloc, reader, writer);
@@ -109,13 +123,18 @@ fn run_other_order<
     P: Endpoint,
     L: Listener + Drop,
     M: Host<S, P, L>,
-    W: Write,
-    E: Write,
+    W: Output,
+    E: Output,
 >(alloc: Global, host: &mut M, order: Order, writer: &mut W, errors: &mut E) -> ProgramExit
-    ensures { LogsCalls M.calls host.old host.new
+    ensures ends { LogsCalls M.calls host.old host.new
         (EndsOrder S.model M.Front.answers P.calls L.Stream.model L.coming order
         (W.contents writer.old) (W.contents writer.new)
         (E.contents errors.old) (E.contents errors.new) result) }
+    ensures flushed { result.status ≡ 0 → IsFlushed W.contents W.flushed writer.new }
+    ensures left_flushed { result.status ≢ 3
+        → LeavesFlushed W.contents W.flushed writer.old writer.new }
+    ensures errors_flushed { OnOk result.reported
+        (LeavesFlushed E.contents E.flushed errors.old errors.new) }
 {
     let names = names_to_say(alloc, &*host, &order);
     let site = site_of(alloc, &order);
@@ -133,8 +152,8 @@ pub fn run_and_report<
     L: Listener + Drop,
     M: Host<S, P, L>,
     R: Read,
-    W: Write,
-    E: Write,
+    W: Output,
+    E: Output,
 >(
     alloc: Global,
     host: &mut M,
@@ -177,6 +196,17 @@ pub fn run_and_report<
         ReportsStop out_of_memory (E.contents errors.old) (E.contents errors.new) result
         × Keeps (W.contents writer.old) (W.contents writer.new)
         × (host.new ≡ host.old) }
+
+    // If the status is 0, all that was printed was flushed.
+    ensures flushed { result.status ≡ 0 → IsFlushed W.contents W.flushed writer.new }
+
+    // If the status isn't 3, nothing was printed, or all that was printed was flushed.
+    ensures left_flushed { result.status ≢ 3
+        → LeavesFlushed W.contents W.flushed writer.old writer.new }
+
+    // Nothing was reported, or all that was reported was flushed, unless standard error failed.
+    ensures errors_flushed { OnOk result.reported
+        (LeavesFlushed E.contents E.flushed errors.old errors.new) }
 {
     match order {
         Ok(Order::Try) => run_try_order(alloc, &*host, reader, writer, errors),

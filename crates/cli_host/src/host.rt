@@ -22,9 +22,9 @@ use store_schema::OpenFault;
 /// The contracts of the real host say neither what a file holds nor who connects to a port. The
 /// contracts over any host say which calls are made of it, and one body runs orders on all hosts.
 ///
-/// A host also prints the lines of `run --log`, says that a long import or opening goes on, and looks
-/// for why a file, a socket or a port couldn't be used. These are no calls: what an order does and
-/// prints doesn't depend on them.
+/// A host also prints the lines of `run --log`, says that a long import or opening goes on, and
+/// looks for why a file, a socket or a port couldn't be used. These are no calls: what an order
+/// does and prints doesn't depend on them.
 pub trait Host<S, P, L>: RequestLog {
     /// What answers some requests of `run` before the books and a site do.
     type Front: Front + Drop;
@@ -54,8 +54,8 @@ pub trait Host<S, P, L>: RequestLog {
     fn migrate_file(&mut self, file: &str) -> Result<u64, OpenFault>
         ensures { calls (Migrates file.now result) self.old self.new };
 
-    /// Copies the store in the file into a new file, without the books with these names, and returns
-    /// the number of books that it has. `NotEmpty` if something is there, and refused with
+    /// Copies the store in the file into a new file, without the books with these names, and
+    /// returns the number of books that it has. `NotEmpty` if something is there, and refused with
     /// `NoSuchBook` if a name isn't that of a book. No clause says what a stop leaves.
     fn copy_file(&mut self, file: &str, target: &str, without: &[Text]) -> Result<u64, Stop>
         ensures { calls (Copies file.now target.now without.now result) self.old self.new };

@@ -6,11 +6,11 @@ ghost use Rattle.cli_host.specs.Listings.{IsListingDenial, PrintsListing, StopsL
 ghost use Rattle.cli_host.specs.Listings.{book_row, last_line, listed_row, listing_output};
 ghost use Rattle.cli_host.specs.internal.ListingSteps.{IsLineDenial, IsLinesDenial};
 ghost use Rattle.sync_core.specs.StoreModels.{KeepsBooks};
+ghost use Rattle.cli_orders.specs.Outputs.{Flushes};
 
 use admin_store::AdminStore;
-use cli_orders::{Stop, write_out};
+use cli_orders::{Output, Stop, write_out};
 use std::alloc::Global;
-use std::io::Write;
 use sync_core::{BookLine, Denied, Tally};
 use vcard_text::NoMemory;
 
@@ -124,7 +124,7 @@ fn listing_text<S: AdminStore>(
 ///
 /// Stops with a fault of the store, with `Memory` if an allocation fails, and with `Device` if the
 /// writer fails.
-pub fn run_listing<S: AdminStore, W: Write>(
+pub fn run_listing<S: AdminStore, W: Output>(
     alloc: Global,
     store: &mut S,
     what: Listing,
@@ -134,6 +134,7 @@ pub fn run_listing<S: AdminStore, W: Write>(
         (W.contents writer.old) (W.contents writer.new) store.new) }
     ensures stopped { IfErr result (λ stop. StopsListing S.model what store.old stop
         (W.contents writer.old) (W.contents writer.new) store.new) }
+    ensures flushed { Flushes W.contents W.flushed writer.old writer.new result }
 {
     let text = listing_text(alloc, store, what)?;
     write_out(writer, text.as_slice())

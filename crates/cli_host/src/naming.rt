@@ -1,6 +1,7 @@
 //! What an order names, for what is said of its stop.
 ghost use Rattle.std.specs.Prelude.{◌≡◌, ◌||◌, [], IfOk, false};
-ghost use Rattle.cli_host.specs.Naming.{given, kind_of, named, names_of, uses_words};
+ghost use Rattle.cli_host.specs.Naming.{given, kind_of, named, names_in_file, names_of};
+ghost use Rattle.cli_host.specs.Naming.{uses_words};
 
 use crate::host::Host;
 use base_types::{NoMemory, Text};
@@ -71,6 +72,19 @@ fn of_file(alloc: Global, kind: OrderKind, file: &Text) -> Result<OrderNames, No
     named(alloc, kind, file.as_str(), false, "", 0)
 }
 
+/// The names of an order on a store file and another file.
+fn of_files(
+    alloc: Global,
+    kind: OrderKind,
+    file: &Text,
+    makes_file: bool,
+    other: &Text,
+) -> Result<OrderNames, NoMemory>
+    ensures { IfOk result (λ names. names ≡ named kind file.now makes_file other.now 0) }
+{
+    named(alloc, kind, file.as_str(), makes_file, other.as_str(), 0)
+}
+
 /// The text, or none if there is none.
 fn given(text: &Option<Text>) -> &str
     ensures { result.now ≡ given text.now }
@@ -78,6 +92,26 @@ fn given(text: &Option<Text>) -> &str
     match text {
         Some(text) => text.as_str(),
         None => "",
+    }
+}
+
+/// The names of an order that names a store file alone. For any other order: none.
+fn names_in_file(alloc: Global, order: &Order) -> Result<OrderNames, NoMemory>
+    ensures { IfOk result (λ names. names ≡ names_in_file order.now) }
+{
+    match order {
+        Order::Book { file, .. } => of_file(alloc, OrderKind::Other, file),
+        Order::Export { file, .. } => of_file(alloc, OrderKind::Other, file),
+        Order::ExportCards { file, .. } => of_file(alloc, OrderKind::Other, file),
+        Order::Tally { file, .. } => of_file(alloc, OrderKind::Other, file),
+        Order::Forget { file, .. } => of_file(alloc, OrderKind::Other, file),
+        Order::Mirror { file, .. } => of_file(alloc, OrderKind::Other, file),
+        Order::Expand { file, .. } => of_file(alloc, OrderKind::Other, file),
+        Order::Migrate { file } => of_file(alloc, OrderKind::Other, file),
+        Order::Books { file } => of_file(alloc, OrderKind::Books, file),
+        Order::Verify { file } => of_file(alloc, OrderKind::Verify, file),
+        Order::Resync { file, .. } => of_file(alloc, OrderKind::Resync, file),
+        _ => named(alloc, OrderKind::Other, "", false, "", 0),
     }
 }
 
@@ -104,51 +138,14 @@ fn names_of(alloc: Global, order: &Order) -> Result<OrderNames, NoMemory>
             given(socket),
             *port,
         ),
-        Order::Import { file, csv, .. } => {
-            named(
-                alloc,
-                OrderKind::Import,
-                file.as_str(),
-                false,
-                csv.as_str(),
-                0,
-            )
-        }
+        Order::Import { file, csv, .. } => of_files(alloc, OrderKind::Import, file, false, csv),
         Order::Check { file } => named(alloc, OrderKind::Check, "", false, file.as_str(), 0),
-        Order::Book { file, .. } => of_file(alloc, OrderKind::Other, file),
-        Order::Export { file, .. } => of_file(alloc, OrderKind::Other, file),
-        Order::ExportCards { file, .. } => of_file(alloc, OrderKind::Other, file),
-        Order::Tally { file, .. } => of_file(alloc, OrderKind::Other, file),
-        Order::Forget { file, .. } => of_file(alloc, OrderKind::Other, file),
-        Order::Mirror { file, .. } => of_file(alloc, OrderKind::Other, file),
-        Order::Expand { file, .. } => of_file(alloc, OrderKind::Other, file),
-        Order::Migrate { file } => of_file(alloc, OrderKind::Other, file),
-        Order::Books { file } => of_file(alloc, OrderKind::Books, file),
-        Order::Verify { file } => of_file(alloc, OrderKind::Verify, file),
-        Order::Copy { file, target, .. } => {
-            named(
-                alloc,
-                OrderKind::Copy,
-                file.as_str(),
-                false,
-                target.as_str(),
-                0,
-            )
-        }
+        Order::Copy { file, target, .. } => of_files(alloc, OrderKind::Copy, file, false, target),
         Order::Restore { backup, file, .. } => {
-            named(
-                alloc,
-                OrderKind::Restore,
-                file.as_str(),
-                true,
-                backup.as_str(),
-                0,
-            )
+            of_files(alloc, OrderKind::Restore, file, true, backup)
         }
-        Order::Resync { file, .. } => of_file(alloc, OrderKind::Resync, file),
         Order::Try => named(alloc, OrderKind::Try, "", false, "", 0),
-        Order::Version => named(alloc, OrderKind::Other, "", false, "", 0),
-        Order::Convert { .. } => named(alloc, OrderKind::Other, "", false, "", 0),
+        other => names_in_file(alloc, other),
     }
 }
 

@@ -3,13 +3,13 @@ ghost use Rattle.std.specs.Prelude.{◌≡◌, ◌/◌, IfErr, IfOk, OnOk};
 ghost use Rattle.cli_host.specs.Hosts.{Opens};
 ghost use Rattle.cli_host.specs.Progress.{begin_line, end_line, opening_line};
 ghost use Rattle.cli_orders.specs.CommandRuns.{PrintsCommand, StopsCommand};
+ghost use Rattle.cli_orders.specs.Outputs.{Flushes};
 
 use crate::host::Host;
 use base_types::NoMemory;
 use book_service::Command;
-use cli_orders::{Stop, run_command};
+use cli_orders::{Output, Stop, run_command};
 use std::alloc::Global;
-use std::io::Write;
 use store_schema::OpenFault;
 use sync_core::BookStore;
 
@@ -51,7 +51,7 @@ fn say<S, P, L, M: Host<S, P, L>>(host: &M, text: Result<Vec<u8>, NoMemory>) {
 
 /// `run_command` for an import of rows with this number of lines. If there are more than 1,000, and
 /// standard error is a terminal, it says before how many, and afterwards how long it took.
-pub(crate) fn run_import<S: BookStore, P, L, M: Host<S, P, L>, W: Write>(
+pub(crate) fn run_import<S: BookStore, P, L, M: Host<S, P, L>, W: Output>(
     alloc: Global,
     host: &M,
     store: &mut S,
@@ -63,6 +63,7 @@ pub(crate) fn run_import<S: BookStore, P, L, M: Host<S, P, L>, W: Write>(
         (W.contents writer.old) (W.contents writer.new) store.new) }
     ensures stopped { IfErr result (λ stop. StopsCommand S.model store.old command.now stop
         (W.contents writer.old) (W.contents writer.new) store.new) }
+    ensures flushed { Flushes W.contents W.flushed writer.old writer.new result }
 {
     if lines <= SILENT_LINES_MAX || !host.has_watcher() {
         return run_command(alloc, store, command, writer);

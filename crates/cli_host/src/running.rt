@@ -8,6 +8,7 @@ ghost use Rattle.cli_host.specs.OrdersOnHost.{RunsOnHost};
 ghost use Rattle.cli_host.specs.OrdersOnHost.{StopsInFile, StopsMaking, StopsMigrating};
 ghost use Rattle.cli_host.specs.OrdersOnHost.{StopsOnHost, StopsOnImport, StopsReadingRows};
 ghost use Rattle.cli_host.specs.OrdersOnHost.{StopsStoreWork, StopsWork};
+ghost use Rattle.cli_orders.specs.Outputs.{Flushes};
 
 use crate::copying::{run_copy, run_restore};
 use crate::host::Host;
@@ -24,16 +25,15 @@ use book_service::Command;
 use cli_args::Order;
 use cli_export::run_card_export;
 use cli_orders::{
-    Stop, created_line, kind_of_file, line_feed_count, migrate_text, run_check, run_command,
-    run_mirror, version_text, write_out,
+    Output, Stop, created_line, kind_of_file, line_feed_count, migrate_text, run_check,
+    run_command, run_mirror, version_text, write_out,
 };
 use hub_server::Endpoint;
 use std::alloc::Global;
-use std::io::Write;
 use sync_core::BookStore;
 
 /// Creates a store without books in the file, and prints `made`.
-fn run_init<S: Drop, P, L, M: Host<S, P, L>, W: Write>(
+fn run_init<S: Drop, P, L, M: Host<S, P, L>, W: Output>(
     host: &mut M,
     file: Text,
     writer: &mut W,
@@ -42,6 +42,7 @@ fn run_init<S: Drop, P, L, M: Host<S, P, L>, W: Write>(
         (MakesStore file (W.contents writer.old) (W.contents writer.new))) }
     ensures stopped { IfErr result (λ stop. LogsCalls M.calls host.old host.new
         (StopsMaking file stop (W.contents writer.old) (W.contents writer.new))) }
+    ensures flushed { Flushes W.contents W.flushed writer.old writer.new result }
 {
     let _books = host.create(file.as_str())?;
     write_out(writer, created_line().as_bytes())
@@ -49,7 +50,7 @@ fn run_init<S: Drop, P, L, M: Host<S, P, L>, W: Write>(
 
 /// Migrates the file to the current schema, and prints its number of books. The migration remains
 /// if this can't be written.
-fn run_migrate<S, P, L, M: Host<S, P, L>, W: Write>(
+fn run_migrate<S, P, L, M: Host<S, P, L>, W: Output>(
     alloc: Global,
     host: &mut M,
     file: Text,
@@ -59,6 +60,7 @@ fn run_migrate<S, P, L, M: Host<S, P, L>, W: Write>(
         (MigratesFile file (W.contents writer.old) (W.contents writer.new))) }
     ensures stopped { IfErr result (λ stop. LogsCalls M.calls host.old host.new
         (StopsMigrating file stop (W.contents writer.old) (W.contents writer.new))) }
+    ensures flushed { Flushes W.contents W.flushed writer.old writer.new result }
 {
     let books = host.migrate_file(file.as_str())?;
     let text = migrate_text(alloc, books)?;
@@ -66,7 +68,7 @@ fn run_migrate<S, P, L, M: Host<S, P, L>, W: Write>(
 }
 
 /// Checks the rows or the card of a file, as its name says, and prints what was found.
-fn run_check_of<S, P, L, M: Host<S, P, L>, W: Write>(
+fn run_check_of<S, P, L, M: Host<S, P, L>, W: Output>(
     alloc: Global,
     host: &mut M,
     file: &str,
@@ -76,13 +78,14 @@ fn run_check_of<S, P, L, M: Host<S, P, L>, W: Write>(
         (ChecksFile file.now (W.contents writer.old) (W.contents writer.new))) }
     ensures stopped { IfErr result (λ stop. LogsCalls M.calls host.old host.new
         (StopsChecking file.now stop (W.contents writer.old) (W.contents writer.new))) }
+    ensures flushed { Flushes W.contents W.flushed writer.old writer.new result }
 {
     let octets = host.read_rows(alloc, file)?;
     run_check(alloc, kind_of_file(file), octets.as_slice(), writer)
 }
 
 /// Imports a file of rows into a book of the store, and prints the counts.
-fn import_rows<S: BookStore, P, L, M: Host<S, P, L>, W: Write>(
+fn import_rows<S: BookStore, P, L, M: Host<S, P, L>, W: Output>(
     alloc: Global,
     host: &mut M,
     store: &mut S,
@@ -99,6 +102,7 @@ fn import_rows<S: BookStore, P, L, M: Host<S, P, L>, W: Write>(
         (W.contents writer.old) (W.contents writer.new) store.new log
         ⊎ StopsOnImport S.model store.old book key csv.now stop
         (W.contents writer.old) (W.contents writer.new) store.new log)) }
+    ensures flushed { Flushes W.contents W.flushed writer.old writer.new result }
 {
     let body = host.read_rows(alloc, csv)?;
     let lines = line_feed_count(body.as_slice());
@@ -107,7 +111,7 @@ fn import_rows<S: BookStore, P, L, M: Host<S, P, L>, W: Write>(
 }
 
 /// Does an order's work on a store, and prints the result.
-fn do_store_work<S: AdminStore, P, L, M: Host<S, P, L>, W: Write>(
+fn do_store_work<S: AdminStore, P, L, M: Host<S, P, L>, W: Output>(
     alloc: Global,
     host: &mut M,
     store: &mut S,
@@ -120,6 +124,7 @@ fn do_store_work<S: AdminStore, P, L, M: Host<S, P, L>, W: Write>(
     ensures stopped { IfErr result (λ stop. LogsCalls M.calls host.old host.new
         (StopsStoreWork S.model store.old work stop
         (W.contents writer.old) (W.contents writer.new) store.new)) }
+    ensures flushed { Flushes W.contents W.flushed writer.old writer.new result }
 {
     match work {
         StoreWork::Perform(command) => run_command(alloc, store, &command, writer),
@@ -138,7 +143,7 @@ fn do_store_work<S: AdminStore, P, L, M: Host<S, P, L>, W: Write>(
 }
 
 /// Does an order's work on the store in the file, which is opened first.
-fn use_file<S: AdminStore + Drop, P, L, M: Host<S, P, L>, W: Write>(
+fn use_file<S: AdminStore + Drop, P, L, M: Host<S, P, L>, W: Output>(
     alloc: Global,
     host: &mut M,
     file: Text,
@@ -149,13 +154,14 @@ fn use_file<S: AdminStore + Drop, P, L, M: Host<S, P, L>, W: Write>(
         (DoesInFile S.model file work (W.contents writer.old) (W.contents writer.new))) }
     ensures stopped { IfErr result (λ stop. LogsCalls M.calls host.old host.new
         (StopsInFile S.model file work stop (W.contents writer.old) (W.contents writer.new))) }
+    ensures flushed { Flushes W.contents W.flushed writer.old writer.new result }
 {
     let mut store = open_watched(alloc, host, file.as_str())?;
     do_store_work(alloc, host, &mut store, work, writer)
 }
 
 /// Does an order's work on a host, and prints its output.
-fn do_work<S: AdminStore + Drop, P: Endpoint, L: Listener + Drop, M: Host<S, P, L>, W: Write>(
+fn do_work<S: AdminStore + Drop, P: Endpoint, L: Listener + Drop, M: Host<S, P, L>, W: Output>(
     alloc: Global,
     host: &mut M,
     work: Work,
@@ -167,6 +173,7 @@ fn do_work<S: AdminStore + Drop, P: Endpoint, L: Listener + Drop, M: Host<S, P, 
     ensures stopped { IfErr result (λ stop. LogsCalls M.calls host.old host.new
         (StopsWork S.model M.Front.answers P.calls L.Stream.model L.coming work stop
         (W.contents writer.old) (W.contents writer.new))) }
+    ensures flushed { Flushes W.contents W.flushed writer.old writer.new result }
 {
     match work {
         Work::Nothing => Err(Stop::Device),
@@ -221,7 +228,7 @@ pub fn run_on_host<
     P: Endpoint,
     L: Listener + Drop,
     M: Host<S, P, L>,
-    W: Write,
+    W: Output,
 >(alloc: Global, host: &mut M, order: Order, writer: &mut W) -> Result<(), Stop>
     // The whole log of calls that were made of the host is that of the order.
     ensures done { OnOk result (LogsCalls M.calls host.old host.new
@@ -236,6 +243,7 @@ pub fn run_on_host<
     // written why it refuses the file, and the order to verify one which row is at fault.
     ensures output_kept { IfErr result (λ stop.
         KeepsOrderOutput order stop (W.contents writer.old) (W.contents writer.new)) }
+    ensures flushed { Flushes W.contents W.flushed writer.old writer.new result }
 {
     do_work(alloc, host, work_of(order), writer)
 }

@@ -5,19 +5,19 @@ ghost use Rattle.cli_host.specs.OrdersOnHost.{GetsStore, RunsFile, RunsFolder, R
 ghost use Rattle.cli_host.specs.OrdersOnHost.{RunsSite, ServesAt, StopsAt, StopsFolder};
 ghost use Rattle.cli_host.specs.OrdersOnHost.{StopsGuarded, StopsRun, StopsSite};
 ghost use Rattle.cli_host.specs.OrdersInTurn.{ServesFile, StopsServe};
+ghost use Rattle.cli_orders.specs.Outputs.{Flushes};
 
 use crate::host::Host;
 use crate::progress::open_watched;
 use base_types::{Items, Text};
 use book_http::{Listener, Service};
-use cli_orders::{Address, Stop, announce_and_serve, announce_and_serve_in_turn};
+use cli_orders::{Address, Output, Stop, announce_and_serve, announce_and_serve_in_turn};
 use http_fronts::WithFront;
 use http_requests::{Guarded, Handler};
 use hub_server::{Endpoint, ServeLimits};
 use request_log::{LoggedEndpoint, LoggedHandler};
 use site_files::{Site, WithSite};
 use std::alloc::Global;
-use std::io::Write;
 use store_schema::OpenFault;
 use sync_core::BookStore;
 
@@ -60,7 +60,7 @@ fn get_store<S, P, L, M: Host<S, P, L>>(
 
 /// Serves the connections to the address. The endpoint is closed last, however serving ended. If it
 /// is logged, the host prints a line for each request and for each fault of a connection.
-fn serve_at<S, P: Endpoint, L, M: Host<S, P, L>, H: Handler + Drop, W: Write>(
+fn serve_at<S, P: Endpoint, L, M: Host<S, P, L>, H: Handler + Drop, W: Output>(
     alloc: Global,
     host: &mut M,
     handler: H,
@@ -75,6 +75,7 @@ fn serve_at<S, P: Endpoint, L, M: Host<S, P, L>, H: Handler + Drop, W: Write>(
     ensures stopped { IfErr result (λ stop. LogsCalls M.calls host.old host.new
         (StopsAt H.does H.fault_reply P.calls address limits stop handler
         (W.contents writer.old) (W.contents writer.new))) }
+    ensures flushed { Flushes W.contents W.flushed writer.old writer.new result }
 {
     let (endpoint, address) = host.listen(alloc, address, limits.together)?;
     let log = log_if(is_logged, &*host);
@@ -99,7 +100,7 @@ fn serve_at<S, P: Endpoint, L, M: Host<S, P, L>, H: Handler + Drop, W: Write>(
 
 /// Serves the books in the file at the port, to one connection after another. The store is opened
 /// first.
-pub(crate) fn run_serve<S: BookStore + Drop, P, L: Listener + Drop, M: Host<S, P, L>, W: Write>(
+pub(crate) fn run_serve<S: BookStore + Drop, P, L: Listener + Drop, M: Host<S, P, L>, W: Output>(
     alloc: Global,
     host: &mut M,
     file: Text,
@@ -113,6 +114,7 @@ pub(crate) fn run_serve<S: BookStore + Drop, P, L: Listener + Drop, M: Host<S, P
     ensures stopped { IfErr result (λ stop. LogsCalls M.calls host.old host.new
         (StopsServe S.model L.Stream.model L.coming file port connections stop
         (W.contents writer.old) (W.contents writer.new))) }
+    ensures flushed { Flushes W.contents W.flushed writer.old writer.new result }
 {
     let store = open_watched(alloc, host, file.as_str())?;
     let mut service = Service::new(alloc, store)?;
@@ -120,9 +122,10 @@ pub(crate) fn run_serve<S: BookStore + Drop, P, L: Listener + Drop, M: Host<S, P
     announce_and_serve_in_turn(alloc, &mut service, listener, port, connections, writer)
 }
 
-/// Serves the books in the file, with the host's front before them, at the address behind a guard of
-/// a server with these names, beside those of the loopback. The store is opened or created first.
-fn run_guarded<S: BookStore + Drop, P: Endpoint, L, M: Host<S, P, L>, W: Write>(
+/// Serves the books in the file, with the host's front before them, at the address behind a guard
+/// of a server with these names, beside those of the loopback. The store is opened or created
+/// first.
+fn run_guarded<S: BookStore + Drop, P: Endpoint, L, M: Host<S, P, L>, W: Output>(
     alloc: Global,
     host: &mut M,
     file: Text,
@@ -139,6 +142,7 @@ fn run_guarded<S: BookStore + Drop, P: Endpoint, L, M: Host<S, P, L>, W: Write>(
     ensures stopped { IfErr result (λ stop. LogsCalls M.calls host.old host.new
         (StopsGuarded S.model M.Front.answers P.calls file creates names address limits stop
         (W.contents writer.old) (W.contents writer.new))) }
+    ensures flushed { Flushes W.contents W.flushed writer.old writer.new result }
 {
     let store = get_store(alloc, host, file.as_str(), creates)?;
     let service = Service::new(alloc, store)?;
@@ -148,7 +152,7 @@ fn run_guarded<S: BookStore + Drop, P: Endpoint, L, M: Host<S, P, L>, W: Write>(
 }
 
 /// The same with a site beside the service.
-fn run_site<S: BookStore + Drop, P: Endpoint, L, M: Host<S, P, L>, W: Write>(
+fn run_site<S: BookStore + Drop, P: Endpoint, L, M: Host<S, P, L>, W: Output>(
     alloc: Global,
     host: &mut M,
     site: Site,
@@ -166,6 +170,7 @@ fn run_site<S: BookStore + Drop, P: Endpoint, L, M: Host<S, P, L>, W: Write>(
     ensures stopped { IfErr result (λ stop. LogsCalls M.calls host.old host.new
         (StopsSite S.model M.Front.answers P.calls site file creates names address limits stop
         (W.contents writer.old) (W.contents writer.new))) }
+    ensures flushed { Flushes W.contents W.flushed writer.old writer.new result }
 {
     let store = get_store(alloc, host, file.as_str(), creates)?;
     let service = Service::new(alloc, store)?;
@@ -176,7 +181,7 @@ fn run_site<S: BookStore + Drop, P: Endpoint, L, M: Host<S, P, L>, W: Write>(
 }
 
 /// The same with the site of a folder, whose files are read first.
-fn run_folder<S: BookStore + Drop, P: Endpoint, L, M: Host<S, P, L>, W: Write>(
+fn run_folder<S: BookStore + Drop, P: Endpoint, L, M: Host<S, P, L>, W: Output>(
     alloc: Global,
     host: &mut M,
     dir: Text,
@@ -194,6 +199,7 @@ fn run_folder<S: BookStore + Drop, P: Endpoint, L, M: Host<S, P, L>, W: Write>(
     ensures stopped { IfErr result (λ stop. LogsCalls M.calls host.old host.new
         (StopsFolder S.model M.Front.answers P.calls dir file creates names address limits stop
         (W.contents writer.old) (W.contents writer.new))) }
+    ensures flushed { Flushes W.contents W.flushed writer.old writer.new result }
 {
     let site = host.read_site(dir.as_str())?;
     run_site(
@@ -203,7 +209,7 @@ fn run_folder<S: BookStore + Drop, P: Endpoint, L, M: Host<S, P, L>, W: Write>(
 
 /// Serves the books in the file behind a guard, with the site of a folder beside them if one is
 /// given.
-pub(crate) fn run_file<S: BookStore + Drop, P: Endpoint, L, M: Host<S, P, L>, W: Write>(
+pub(crate) fn run_file<S: BookStore + Drop, P: Endpoint, L, M: Host<S, P, L>, W: Output>(
     alloc: Global,
     host: &mut M,
     file: Text,
@@ -221,6 +227,7 @@ pub(crate) fn run_file<S: BookStore + Drop, P: Endpoint, L, M: Host<S, P, L>, W:
     ensures stopped { IfErr result (λ stop. LogsCalls M.calls host.old host.new
         (StopsRun S.model M.Front.answers P.calls file creates names address limits site stop
         (W.contents writer.old) (W.contents writer.new))) }
+    ensures flushed { Flushes W.contents W.flushed writer.old writer.new result }
 {
     match site {
         None => run_guarded(

@@ -2,20 +2,20 @@
 ghost use Rattle.std.specs.Prelude.{IfErr, OnOk};
 ghost use Rattle.cli_host.specs.Hosts.{LogsCalls};
 ghost use Rattle.cli_host.specs.OrdersOnHost.{StopsVerifying, VerifiesFile};
+ghost use Rattle.cli_orders.specs.Outputs.{Flushes};
 
 use crate::host::Host;
 use crate::listing::{Listing, run_listing};
 use crate::progress::open_watched;
 use admin_store::AdminStore;
 use base_types::Text;
-use cli_orders::{Stop, report_damage};
+use cli_orders::{Output, Stop, report_damage};
 use std::alloc::Global;
-use std::io::Write;
 use store_schema::OpenFault;
 
 /// Opens the store in the file, which tests all its rows, and lists its books and their number. If
 /// the file is damaged, it prints which row is at fault, and why.
-pub(crate) fn run_verify<S: AdminStore + Drop, P, L, M: Host<S, P, L>, W: Write>(
+pub(crate) fn run_verify<S: AdminStore + Drop, P, L, M: Host<S, P, L>, W: Output>(
     alloc: Global,
     host: &mut M,
     file: Text,
@@ -25,6 +25,7 @@ pub(crate) fn run_verify<S: AdminStore + Drop, P, L, M: Host<S, P, L>, W: Write>
         (VerifiesFile S.model file (W.contents writer.old) (W.contents writer.new))) }
     ensures stopped { IfErr result (λ stop. LogsCalls M.calls host.old host.new
         (StopsVerifying S.model file stop (W.contents writer.old) (W.contents writer.new))) }
+    ensures flushed { Flushes W.contents W.flushed writer.old writer.new result }
 {
     match open_watched(alloc, host, file.as_str()) {
         Ok(store) => {

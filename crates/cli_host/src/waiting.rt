@@ -3,10 +3,10 @@ ghost use Rattle.std.specs.Prelude.{◌≡◌, IfErr, OnOk};
 ghost use Rattle.std.specs.Io.KnownBytes.{Appends};
 ghost use Rattle.book_http.specs.Streams.{WritesPrefix};
 ghost use Rattle.cli_host.specs.Waiting.{waiting_text};
+ghost use Rattle.cli_orders.specs.Outputs.{Flushes};
 
 use cli_args::{LineFault, Order};
-use cli_orders::{Stop, write_out};
-use std::io::Write;
+use cli_orders::{Output, Stop, write_out};
 
 /// The line for a user at a terminal.
 const WAITING: &str =
@@ -26,7 +26,7 @@ fn waiting_text(is_terminal: bool, order: &Result<Order, LineFault>) -> &'static
 /// the order is `try`. Otherwise it writes nothing.
 ///
 /// `Device` if standard error fails.
-pub fn note_waiting<E: Write>(
+pub fn note_waiting<E: Output>(
     is_terminal: bool,
     order: &Result<Order, LineFault>,
     errors: &mut E,
@@ -36,6 +36,7 @@ pub fn note_waiting<E: Write>(
     ensures prefix { WritesPrefix (waiting_text is_terminal order.now)
         (E.contents errors.old) (E.contents errors.new) }
     ensures stop { IfErr result (λ stop. stop ≡ Stop.Device) }
+    ensures flushed { Flushes E.contents E.flushed errors.old errors.new result }
 {
     write_out(errors, waiting_text(is_terminal, order).as_bytes())
 }

@@ -1,6 +1,7 @@
 //! What an order does.
 ghost use Rattle.std.specs.Prelude.{◌≡◌};
-ghost use Rattle.cli_host.specs.OrderWork.{address_of, limits_of, store_work_of, work_of};
+ghost use Rattle.cli_host.specs.OrderWork.{address_of, file_work_of, limits_of, store_work_of};
+ghost use Rattle.cli_host.specs.OrderWork.{work_of};
 ghost use Rattle.cli_host.specs.declared.work.StoreWork.TheVariants.{Perform};
 ghost use Rattle.cli_host.specs.declared.work.Work.TheVariants.{UseFile};
 
@@ -205,20 +206,17 @@ fn store_work_of(order: Order) -> Work
         Order::Forget { file, book, upto } => perform_in(file, Command::Forget { book, upto }),
         Order::Expand { file, book, uid } => perform_in(file, Command::People { book, uid }),
         Order::Books { file } => use_in(file, StoreWork::ListBooks(Listing::Books)),
-        Order::Verify { file } => Work::VerifyFile { file },
         Order::Resync { file, pairs } => use_in(file, StoreWork::Resync { pairs }),
         _ => Work::Nothing,
     }
 }
 
-/// What the order does, with its arguments in their places.
-pub fn work_of(order: Order) -> Work
-    ensures { result ≡ work_of order }
+/// What an order does that makes, copies or tests a whole file. For any other order: what it does
+/// to the store in its file.
+fn file_work_of(order: Order) -> Work
+    ensures { result ≡ file_work_of order }
 {
     match order {
-        Order::Try => Work::Nothing,
-        Order::Version => Work::PrintVersion,
-        Order::Check { file } => Work::CheckFile { file },
         Order::Init { file } => Work::CreateFile { file },
         Order::Migrate { file } => Work::MigrateFile { file },
         Order::Copy {
@@ -239,6 +237,19 @@ pub fn work_of(order: Order) -> Work
             file,
             pairs,
         },
+        Order::Verify { file } => Work::VerifyFile { file },
+        other => store_work_of(other),
+    }
+}
+
+/// What the order does, with its arguments in their places.
+pub fn work_of(order: Order) -> Work
+    ensures { result ≡ work_of order }
+{
+    match order {
+        Order::Try => Work::Nothing,
+        Order::Version => Work::PrintVersion,
+        Order::Check { file } => Work::CheckFile { file },
         Order::Run {
             file,
             port,
@@ -268,6 +279,6 @@ pub fn work_of(order: Order) -> Work
             port,
             connections,
         },
-        other => store_work_of(other),
+        other => file_work_of(other),
     }
 }

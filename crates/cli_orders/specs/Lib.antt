@@ -4,6 +4,7 @@ pub mod Stops
 pub mod ReplyTexts
 pub mod CommandRuns
 pub mod OrderReplies
+pub mod Outputs
 pub mod Announcements
 pub mod TurnServing
 pub mod Inputs

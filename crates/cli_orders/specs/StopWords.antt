@@ -37,8 +37,8 @@ store_words found.Damaged =
     codes "its pages are damaged, or sqlite3 wrote to it; restore a backup"
 store_words cause = codes "its disk failed or is full, or what it holds can't be read"
 
--- Which order helps: one that makes the file, if it is missing. Who looks for the books of a file has
--- no use for an empty one.
+-- Which order helps: one that makes the file, if it is missing. Who looks for the books of a file
+-- has no use for an empty one.
 abbrev pub store_advice : OrderKind → FoundCause → Advice
 store_advice kind.Run found.Missing = advise.RunWithCreate
 store_advice kind.Serve found.Missing = advise.InitFile

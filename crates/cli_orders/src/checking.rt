@@ -1,12 +1,13 @@
 //! Runs the order `check` on the octets of a file.
 ghost use Rattle.std.specs.Prelude.{IfErr, OnOk};
 ghost use Rattle.cli_orders.specs.Findings.{PassesCheck, StopsCheck};
+ghost use Rattle.cli_orders.specs.Outputs.{Flushes};
 
 use crate::finding::{FileKind, check_octets, finding_text, verdict_of};
+use crate::output::Output;
 use crate::stop::Stop;
 use crate::writing::write_out;
 use std::alloc::Global;
-use std::io::Write;
 
 /// Checks the octets of a file, and prints what it found: the number of rows, or that it is a card,
 /// or the first fault in words. No store is needed.
@@ -14,7 +15,7 @@ use std::io::Write;
 /// Refused with `BadImport` and the first faulty row, or with `BadCard` and the card's first fault,
 /// after the words are written. Stops with `Memory` if an allocation fails, and with `Device` if
 /// the writer fails.
-pub fn run_check<W: Write>(
+pub fn run_check<W: Output>(
     alloc: Global,
     file: FileKind,
     octets: &[u8],
@@ -24,6 +25,7 @@ pub fn run_check<W: Write>(
         (W.contents writer.old) (W.contents writer.new)) }
     ensures stopped { IfErr result (λ stop. StopsCheck file octets.now stop
         (W.contents writer.old) (W.contents writer.new)) }
+    ensures flushed { Flushes W.contents W.flushed writer.old writer.new result }
 {
     let finding = check_octets(alloc, file, octets)?;
     let text = finding_text(alloc, finding)?;

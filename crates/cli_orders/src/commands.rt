@@ -2,14 +2,15 @@
 ghost use Rattle.std.specs.Prelude.{◌≡◌, IfErr, IfOk, OnOk};
 ghost use Rattle.cli_orders.specs.CommandRuns.{PrintsCommand, PrintsMirror, StopsCommand};
 ghost use Rattle.cli_orders.specs.CommandRuns.{StopsMirror};
+ghost use Rattle.cli_orders.specs.Outputs.{Flushes};
 ghost use Rattle.cli_orders.specs.ReplyTexts.{IsReplyStop, IsReplyText};
 
+use crate::output::Output;
 use crate::stop::Stop;
 use crate::writing::write_out;
 use crate::{book_text, expand_text, forget_text, imported_text, mirror_text, tally_text};
 use book_service::{Command, Reply, mirror, perform};
 use std::alloc::Global;
-use std::io::Write;
 use sync_core::{BookStore, Fault};
 
 /// The text to print for a reply, or why there is none.
@@ -45,7 +46,7 @@ fn reply_text(alloc: Global, reply: Reply) -> Result<Vec<u8>, Stop>
 ///
 /// No order has a command of another kind. Such a command is performed too, but its reply has no
 /// text: if the command succeeds, this stops with the fault `Store`, and the changes remain.
-pub fn run_command<S: BookStore, W: Write>(
+pub fn run_command<S: BookStore, W: Output>(
     alloc: Global,
     store: &mut S,
     command: &Command,
@@ -55,6 +56,7 @@ pub fn run_command<S: BookStore, W: Write>(
         (W.contents writer.old) (W.contents writer.new) store.new) }
     ensures stopped { IfErr result (λ stop. StopsCommand S.model store.old command.now stop
         (W.contents writer.old) (W.contents writer.new) store.new) }
+    ensures flushed { Flushes W.contents W.flushed writer.old writer.new result }
 {
     let reply = perform(alloc, store, command);
     let text = reply_text(alloc, reply)?;
@@ -66,7 +68,7 @@ pub fn run_command<S: BookStore, W: Write>(
 ///
 /// Stops with the errors of `book_service::mirror`, with `Memory` if an allocation fails, and with
 /// `Device` if the writer fails.
-pub fn run_mirror<S: BookStore, W: Write>(
+pub fn run_mirror<S: BookStore, W: Output>(
     alloc: Global,
     store: &mut S,
     book: &str,
@@ -76,10 +78,10 @@ pub fn run_mirror<S: BookStore, W: Write>(
 ) -> Result<(), Stop>
     ensures printed { OnOk result (PrintsMirror S.model store.old book.now limit pages
         (W.contents writer.old) (W.contents writer.new) store.new) }
-
     ensures stopped { IfErr result (λ stop.
         StopsMirror S.model store.old book.now limit pages stop
         (W.contents writer.old) (W.contents writer.new) store.new) }
+    ensures flushed { Flushes W.contents W.flushed writer.old writer.new result }
 {
     let mirrored = mirror(alloc, store, book, limit, pages)?;
     let text = mirror_text(alloc, &mirrored)?;

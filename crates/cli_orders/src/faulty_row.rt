@@ -1,14 +1,16 @@
 //! The output of `verify` for a damaged file.
-ghost use Rattle.std.specs.Prelude.{◌≡◌, ◌++◌, IfOk, OnOk};
+ghost use Rattle.std.specs.Prelude.{◌≡◌, ◌⊎◌, ◌++◌, IfOk, OnOk};
 ghost use Rattle.cli_orders.specs.FaultyRows.{ReportsDamage, book_word, damage_text, fault_words};
 ghost use Rattle.cli_orders.specs.FaultyRows.{faulty_row_line, labelled, row_label, table_word};
+ghost use Rattle.cli_orders.specs.Outputs.{LeavesFlushed};
+ghost use Rattle.cli_orders.specs.declared.stop.Stop.TheVariants.{Device};
 
+use crate::output::Output;
 use crate::row_fault_words::row_fault_words;
 use crate::stop::Stop;
 use crate::writing::write_out;
 use request_log::write_shown;
 use std::alloc::Global;
-use std::io::Write;
 use store_check::faults::{FaultyRow, RowFault};
 use store_schema::OpenFault;
 use vcard_text::NoMemory;
@@ -104,12 +106,13 @@ fn damage_text(
 /// The names, UIDs and keys are cut after 255 octets. Octets that aren't visible ASCII characters
 /// are escaped, and so is the backslash. Returns `Memory` instead if an allocation fails, and
 /// `Device` if the writer fails.
-pub fn report_damage<W: Write>(
+pub fn report_damage<W: Output>(
     alloc: Global,
     found: Result<Option<FaultyRow>, OpenFault>,
     writer: &mut W,
 ) -> Stop
-    ensures { ReportsDamage found result (W.contents writer.old) (W.contents writer.new) }
+    ensures reported { ReportsDamage found result (W.contents writer.old) (W.contents writer.new) }
+    ensures flushed { (result ≡ Device) ⊎ LeavesFlushed W.contents W.flushed writer.old writer.new }
 {
     let text = match damage_text(alloc, found) {
         Ok(text) => text,

@@ -21,6 +21,7 @@ mod line_starts;
 mod mirror_output;
 mod one_line_outputs;
 mod order_names;
+mod output;
 mod reading;
 mod restore_output;
 mod row_causes;
@@ -50,6 +51,7 @@ pub use one_line_outputs::{
     book_text, copy_text, created_line, forget_text, imported_text, migrate_text, resync_text,
 };
 pub use order_names::{OrderKind, OrderNames};
+pub use output::Output;
 pub use reading::{read_at_most, read_rows_of};
 pub use restore_output::{Restored, restore_text};
 pub use sentences::stop_sentence;

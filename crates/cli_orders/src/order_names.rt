@@ -38,8 +38,8 @@ pub struct OrderNames {
     pub file: Text,
     /// Whether the order makes the store file if it isn't there.
     pub makes_file: bool,
-    /// The other file: the file of rows, the file to check, the new file of a copy, the copy that is
-    /// put back, or the Unix socket to listen at. Empty if the order has none.
+    /// The other file: the file of rows, the file to check, the new file of a copy, the copy that
+    /// is put back, or the Unix socket to listen at. Empty if the order has none.
     pub other: Text,
     /// The port; 0 if the order has none.
     pub port: u16,

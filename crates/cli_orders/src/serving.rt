@@ -1,17 +1,18 @@
 //! Announces the address and serves connections.
-ghost use Rattle.std.specs.Prelude.{◌≡◌, IfErr, IfOk, OnOk};
+ghost use Rattle.std.specs.Prelude.{◌≡◌, ◌⊎◌, IfErr, IfOk, OnErr, OnOk};
 ghost use Rattle.cli_orders.specs.Announcements.{AnnouncesAndServes, StopsServing, listening_line};
 ghost use Rattle.cli_orders.specs.declared.address.Address.TheVariants.{Port, Socket};
+ghost use Rattle.cli_orders.specs.Outputs.{Flushes, IsFlushed};
 ghost use Rattle.cli_orders.specs.TurnServing.{AnnouncesAndServesInTurn, StopsServingInTurn};
 
 use crate::address::Address;
+use crate::output::Output;
 use crate::stop::Stop;
 use crate::writing::write_out;
 use book_http::{Listener, serve_listener};
 use http_requests::Handler;
 use hub_server::{Endpoint, ServeLimits, serve_endpoint};
 use std::alloc::Global;
-use std::io::Write;
 use vcard_text::NoMemory;
 
 /// The line that announces a port, for example `listening 127.0.0.1:8080`.
@@ -44,7 +45,7 @@ fn listening_text(alloc: Global, address: &Address) -> Result<Vec<u8>, NoMemory>
 /// Stops with `Memory` if an allocation fails before the first connection is accepted, for the line
 /// or after it was written; and with `Device` if the writer or the endpoint fails. A connection
 /// that fails, is silent, or finds no memory ends alone.
-pub fn announce_and_serve<H: Handler, E: Endpoint, W: Write>(
+pub fn announce_and_serve<H: Handler, E: Endpoint, W: Output>(
     alloc: Global,
     handler: &mut H,
     endpoint: &mut E,
@@ -55,9 +56,15 @@ pub fn announce_and_serve<H: Handler, E: Endpoint, W: Write>(
     ensures served { OnOk result (AnnouncesAndServes H.does H.fault_reply E.calls address.now limits
         handler.old endpoint.old (W.contents writer.old) (W.contents writer.new)
         handler.new endpoint.new) }
-    ensures stopped { IfErr result (λ stop. StopsServing H.does H.fault_reply E.calls address.now limits
-        handler.old endpoint.old (W.contents writer.old) (W.contents writer.new)
+    ensures stopped { IfErr result (λ stop. StopsServing H.does H.fault_reply E.calls
+        address.now limits handler.old endpoint.old (W.contents writer.old) (W.contents writer.new)
         stop handler.new endpoint.new) }
+    ensures flushed { Flushes W.contents W.flushed writer.old writer.new result }
+
+    // The line is flushed before anything is handled or called, and nothing is written after it.
+    ensures flushed_first { OnErr result
+        ((handler.new ≡ handler.old) × (endpoint.new ≡ endpoint.old)
+        ⊎ IsFlushed W.contents W.flushed writer.new) }
 {
     let line = listening_text(alloc, address)?;
     write_out(writer, line.as_slice())?;
@@ -72,7 +79,7 @@ pub fn announce_and_serve<H: Handler, E: Endpoint, W: Write>(
 /// Stops with `Memory` if an allocation fails for the line; with `Device` if the writer or the
 /// listener fails; and, once all connections were served, with `Serve` if some were aborted, for
 /// the fault of the first.
-pub fn announce_and_serve_in_turn<H: Handler, L: Listener + Drop, W: Write>(
+pub fn announce_and_serve_in_turn<H: Handler, L: Listener + Drop, W: Output>(
     alloc: Global,
     handler: &mut H,
     listener: L,
@@ -86,6 +93,11 @@ pub fn announce_and_serve_in_turn<H: Handler, L: Listener + Drop, W: Write>(
     ensures stopped { IfErr result (λ stop. StopsServingInTurn H.does H.fault_reply
         L.Stream.model port connections (L.coming listener)
         handler.old (W.contents writer.old) (W.contents writer.new) stop handler.new) }
+    ensures flushed { Flushes W.contents W.flushed writer.old writer.new result }
+
+    // The line is flushed before anything is handled, and nothing is written after it.
+    ensures flushed_first { OnErr result ((handler.new ≡ handler.old)
+        ⊎ IsFlushed W.contents W.flushed writer.new) }
 {
     let line = port_text(alloc, port)?;
     write_out(writer, line.as_slice())?;

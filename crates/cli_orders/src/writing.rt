@@ -2,7 +2,9 @@
 ghost use Rattle.std.specs.Prelude.{◌≡◌, IfErr, OnOk};
 ghost use Rattle.std.specs.Io.KnownBytes.{Appends};
 ghost use Rattle.book_http.specs.Streams.{WritesPrefix};
+ghost use Rattle.cli_orders.specs.Outputs.{Flushes};
 
+use crate::output::Output;
 use crate::stop::Stop;
 use std::io::{ErrorKind, Write};
 
@@ -40,14 +42,15 @@ fn write_whole<W: Write>(writer: &mut W, octets: &[u8]) -> Result<(), Stop>
 ///
 /// `Stop::Device` if the writer fails. Then a prefix of the octets is written, perhaps none,
 /// perhaps all.
-pub fn write_out<W: Write>(writer: &mut W, octets: &[u8]) -> Result<(), Stop>
+pub fn write_out<W: Output>(writer: &mut W, octets: &[u8]) -> Result<(), Stop>
     ensures written { OnOk result (Appends (W.contents writer.old) (W.contents writer.new)
         octets.now) }
     ensures prefix { WritesPrefix octets.now (W.contents writer.old) (W.contents writer.new) }
     ensures stop { IfErr result (λ stop. stop ≡ Stop.Device) }
+    ensures flushed { Flushes W.contents W.flushed writer.old writer.new result }
 {
     write_whole(writer, octets)?;
-    match writer.flush() {
+    match writer.flush_all() {
         Ok(()) => Ok(()),
         Err(_) => Err(Stop::Device),
     }

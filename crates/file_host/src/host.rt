@@ -62,8 +62,8 @@ fn limits() -> Limits
     Limits::standard()
 }
 
-/// Creates the store in a file whose creation was stopped: it has no tables, and perhaps only a part
-/// of its first page. Any other file stays as it is.
+/// Creates the store in a file whose creation was stopped: it has no tables, and perhaps only a
+/// part of its first page. Any other file stays as it is.
 fn finish_creation(rt: &HostRuntime, file: &str) {
     let _refused = SqlStore::create(rt, file, limits());
 }

@@ -1,6 +1,6 @@
 //! Puts a copy back in place of a file. A program that is stopped on the way leaves the file as it
-//! was, or the new one. In place of a file that can't be read it may leave one that is refused as no
-//! store; what was there is kept then.
+//! was, or the new one. In place of a file that can't be read it may leave one that is refused as
+//! no store; what was there is kept then.
 
 use crate::file_care::{
     are_same_file, on_device, real_name, remove_log, remove_with_log, sync_folder_of, take_access,

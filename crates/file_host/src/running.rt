@@ -7,6 +7,7 @@ ghost use Rattle.cli_host.specs.Exits.{EndsOrder, IsTryDone, IsTryStopped, Repor
 ghost use Rattle.cli_host.specs.Exits.{ReportsStop};
 ghost use Rattle.cli_host.specs.OrdersOnHost.{KeepsOrderOutput, RunsOnHost, StopsOnHost};
 ghost use Rattle.cli_orders.specs.Inputs.{read_octets_max};
+ghost use Rattle.cli_orders.specs.Outputs.{Flushes, IsFlushed, LeavesFlushed};
 ghost use Rattle.cli_orders.specs.Stops.{out_of_memory};
 ghost use Rattle.book_http.specs.Streams.{ReadsAtMost};
 ghost use Rattle.file_host.specs.FileHosts.{HasLog};
@@ -16,11 +17,11 @@ use book_http::{Connection, Listener};
 use book_store::FileBooks;
 use cli_args::{LineFault, Order};
 use cli_host::{ProgramExit, run_and_report, run_on_host};
-use cli_orders::Stop;
+use cli_orders::{Output, Stop};
 use http_fronts::Front;
 use hub_server::Endpoint;
 use socket_endpoint::SocketEndpoint;
-use std::io::{Read, Write};
+use std::io::Read;
 use std::net::{TcpListener, TcpStream};
 use std::rt::HostRuntime;
 use sync_core::BookStore;
@@ -30,7 +31,7 @@ use sync_core::BookStore;
 /// No contract connects a store with a real file, or an endpoint or a listener with sockets. So the
 /// clauses only say that there are stores, endpoints and listeners with which this is the order's
 /// log.
-pub fn run_order<F: Front + Copy, W: Write>(
+pub fn run_order<F: Front + Copy, W: Output>(
     rt: &HostRuntime,
     front: F,
     order: Order,
@@ -50,6 +51,7 @@ pub fn run_order<F: Front + Copy, W: Write>(
     // written why it refuses the file, and the order to verify one which row is at fault.
     ensures output_kept { IfErr result (λ stop.
         KeepsOrderOutput order stop (W.contents writer.old) (W.contents writer.new)) }
+    ensures flushed { Flushes W.contents W.flushed writer.old writer.new result }
 {
     let mut host = FileHost::new(*rt, front);
     run_on_host(rt.alloc(), &mut host, order, writer)
@@ -60,7 +62,7 @@ pub fn run_order<F: Front + Copy, W: Write>(
 ///
 /// As for `run_order`, the clauses only say that there are stores, endpoints and listeners with
 /// which this is the order's log.
-pub fn run_and_report_on_files<F: Front + Copy, R: Read, W: Write, E: Write>(
+pub fn run_and_report_on_files<F: Front + Copy, R: Read, W: Output, E: Output>(
     rt: &HostRuntime,
     front: F,
     order: Result<Order, LineFault>,
@@ -98,6 +100,17 @@ pub fn run_and_report_on_files<F: Front + Copy, R: Read, W: Write, E: Write>(
     ensures memory { order ≡ Err TheFault.Memory →
         ReportsStop out_of_memory (E.contents errors.old) (E.contents errors.new) result
         × Keeps (W.contents writer.old) (W.contents writer.new) }
+
+    // If the status is 0, all that was printed was flushed.
+    ensures flushed { result.status ≡ 0 → IsFlushed W.contents W.flushed writer.new }
+
+    // If the status isn't 3, nothing was printed, or all that was printed was flushed.
+    ensures left_flushed { result.status ≢ 3
+        → LeavesFlushed W.contents W.flushed writer.old writer.new }
+
+    // Nothing was reported, or all that was reported was flushed, unless standard error failed.
+    ensures errors_flushed { OnOk result.reported
+        (LeavesFlushed E.contents E.flushed errors.old errors.new) }
 {
     let mut host = FileHost::new(*rt, front);
     run_and_report(rt.alloc(), &mut host, order, reader, writer, errors)

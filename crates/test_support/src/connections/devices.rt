@@ -1,5 +1,6 @@
 //! Inputs and outputs that fail.
 
+use cli_orders::Output;
 use std::alloc::Global;
 use std::io;
 use std::io::{Read, Write};
@@ -78,5 +79,15 @@ impl Write for FailingWriter {
         } else {
             Ok(())
         }
+    }
+}
+
+impl Output for FailingWriter {
+    ghost use Rattle.std.specs.Prelude.{None};
+
+    ghost flushed = { λ _. None };
+
+    fn flush_all(&mut self) -> io::Result<()> {
+        self.flush()
     }
 }

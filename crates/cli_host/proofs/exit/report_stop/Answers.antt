@@ -12,8 +12,8 @@ twenty = decimal_step 20 (omega arith) (omega arith)
     ∙ ap (λ ds. ds ++ 48 ∷ []) (decimal_digit 2 (omega arith))
 
 -- the report where there is no memory for the line
-pub returns-in-Err : goal.returns-in-Err
-returns-in-Err g c = record {
+pub returns-in-Err-clause-reports : goal.returns-in-Err-clause-reports
+returns-in-Err-clause-reports g c = record {
   printed_stop = out_of_memory;
   agrees = inr refl;
   reports = record {

@@ -11,4 +11,5 @@ returns g c = record {
       c.args.host.now c.do_work.new.host (work_of c.args.order)
       (g.W.Write.contents c.args.writer.now) (g.W.Write.contents c.do_work.new.writer)
       (rw c.work_of.ensures at c.do_work.ensures.stopped);
+  flushed = c.do_work.ensures.flushed;
 }

@@ -1,4 +1,4 @@
-use Rattle.std.proofs.Common.{rules, Ok, Err}
+use Rattle.std.proofs.Common.{rules, Ok, Err, inl, inr, refl}
 use Rattle.cli_host.specs.Hosts.{FindsFault, Opens}
 use Rattle.cli_host.proofs.CallLemmas.{damage_reported, file_unverified, file_verified}
 use Rattle.cli_host.proofs.CallLemmas.{verify_unopened}
@@ -32,7 +32,7 @@ returns-in-Damaged-clause-stopped g c =
     damage_reported g.S.BookStore.model g.M.Host.calls c.args.host.now c.open_watched.new.host
     c.find_fault-found.new.self c.args.file c.find_fault-found.result c.report_damage.result
     (g.W.Write.contents c.args.writer.now) (g.W.Write.contents c.report_damage.new.writer) made
-    searched c.report_damage.ensures
+    searched c.report_damage.ensures.reported
 
 pub returns : goal.returns
 returns g c =
@@ -43,4 +43,5 @@ returns g c =
       stopped = verify_unopened g.S.BookStore.model g.M.Host.calls c.args.host.now
           c.open_watched.new.host c.args.file c.in-Err.fault (g.W.Write.contents c.args.writer.now)
           c.in_default.not-Damaged made;
+      flushed = record { done = tt; stopped = inr (inl refl) };
     }
