@@ -52,6 +52,18 @@ CARDS = [
         ["line 5: kept as X-UNREADABLE", "line 6: TEL rewritten", "line 1: FN added"],
     ),
     Converted(
+        "in a text that is kept another control character is a space, and a tab beside it stays",
+        card("3.0", "UID:a", "FN:Ann", "no\x01\tproperty"),
+        ["UID:a", "FN:Ann", "X-UNREADABLE:no \tproperty"],
+        ["line 5: kept as X-UNREADABLE"],
+    ),
+    Converted(
+        "nothing is escaped in a URI, also in that of a NOTE",
+        card("3.0", "UID:a", "FN:Ann", "NOTE;VALUE=uri:http://a.test/b,c"),
+        ["UID:a", "FN:Ann", "NOTE;VALUE=uri:http://a.test/b,c"],
+        [],
+    ),
+    Converted(
         "base64 beside another encoding, in either order: the octets are those of a PNG",
         card("3.0", "UID:a", "FN:Ann", "PHOTO;ENCODING=b;ENCODING=8BIT:iVBORw==",
              "LOGO;QUOTED-PRINTABLE;BASE64:iVBORw=="),
