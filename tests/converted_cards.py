@@ -57,6 +57,20 @@ CARDS = [
         ["line 5: kept as X-UNREADABLE", "line 6: TEL rewritten", "line 1: FN added"],
     ),
     of_ann(
+        "in a text that is kept another control character is a space, and a tab beside it stays",
+        "3.0",
+        ["no\x01\tproperty"],
+        ["X-UNREADABLE:no \tproperty"],
+        ["line 5: kept as X-UNREADABLE"],
+    ),
+    of_ann(
+        "nothing is escaped in a URI, also in that of a NOTE",
+        "3.0",
+        ["NOTE;VALUE=uri:http://a.test/b,c"],
+        ["NOTE;VALUE=uri:http://a.test/b,c"],
+        [],
+    ),
+    of_ann(
         "base64 beside another encoding, in either order: the octets are those of a PNG",
         "3.0",
         ["PHOTO;ENCODING=b;ENCODING=8BIT:iVBORw==", "LOGO;QUOTED-PRINTABLE;BASE64:iVBORw=="],

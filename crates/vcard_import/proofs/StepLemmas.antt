@@ -13,6 +13,7 @@ use Rattle.vcard_text.specs.MakingSteps.{card_line_fault, check_lines_after}
 use Rattle.vcard_text.specs.Scanning.{ok_unless}
 use Rattle.vcard_lines.specs.ParseSteps.{◌>>=◌}
 use Rattle.vcard_property.specs.Lines.{IsUidLine}
+use Rattle.vcard_property.specs.declared.version.Version.{Version}
 use Rattle.vcard_import.specs.Delimiters.{is_delimiter}
 use Rattle.vcard_import.specs.declared.card_lines.CardLines.{CardLines}
 use Rattle.vcard_import.specs.declared.rules.Reading.{Reading}
@@ -89,14 +90,16 @@ none_found p (first ∷ lines) e =
 
 -- ---- one more logical line
 
-made_more : (before : List RawLine) (raw : RawLine) (start end : CardLines) (line : Line)
-    → BecomeCard (before ++ raw ∷ []) (start.lines ++ line ∷ []) end.changes
+made_more : (version : Version) (before : List RawLine) (raw : RawLine) (start end : CardLines)
+    (line : Line)
+    → BecomeCard version (before ++ raw ∷ []) (start.lines ++ line ∷ []) end.changes
     → end.lines ≡ start.lines ++ line ∷ []
     → end.seen.uid ≡ (start.seen.uid || line_is_named (codes "UID") line)
     → end.seen.kind ≡ (start.seen.kind || line_is_named (codes "KIND") line) → IsProperLine line
-    → card_line_fault start.lines line ≡ None → Makes before start → Makes (before ++ raw ∷ []) end
-made_more before raw start end line become is u k p e m = record {
-  become = subst (λ l. BecomeCard (before ++ raw ∷ []) l end.changes) (sym is) become;
+    → card_line_fault start.lines line ≡ None → Makes version before start
+    → Makes version (before ++ raw ∷ []) end
+made_more version before raw start end line become is u k p e m = record {
+  become = subst (λ l. BecomeCard version (before ++ raw ∷ []) l end.changes) (sym is) become;
   proper = subst (AllByRecursion IsProperLine) (sym is) (all_more start.lines line m.proper p);
   passed = subst ArePassed (sym is) (passed_more start.lines line m.passed e);
   seen = record {
@@ -116,13 +119,14 @@ pub pushed : (reading : Reading) (raw : RawLine) (start end : CardLines) (line :
     → end.lines ≡ start.lines ++ line ∷ []
     → end.seen.uid ≡ (start.seen.uid || line_is_named (codes "UID") line)
     → end.seen.kind ≡ (start.seen.kind || line_is_named (codes "KIND") line)
-    → ((before : List RawLine) → BecomeCard before start.lines start.changes
-    → BecomeCard (before ++ raw ∷ []) (start.lines ++ line ∷ []) end.changes) → IsProperLine line
-    → breaks_rule start.seen reading line ≡ false → (has_left_out start.changes ≡ false
+    → ((before : List RawLine) → BecomeCard reading.version before start.lines start.changes
+    → BecomeCard reading.version (before ++ raw ∷ []) (start.lines ++ line ∷ []) end.changes)
+    → IsProperLine line → breaks_rule start.seen reading line ≡ false → (has_left_out start.changes ≡ false
     → has_left_out end.changes ≡ false) → (has_joined start.changes ≡ false
     → has_joined end.changes ≡ false) → Extends reading (raw ∷ []) start end
 pushed reading raw start end line is u k become p h stays unjoined = record {
-  makes = λ before m. made_more before raw start end line (become before m.become) is u k p
+  makes = λ before m. made_more reading.version before raw start end line
+      (become before m.become) is u k p
       (line_is_free start.lines line p (body_is_free start.lines start.seen reading line m.seen h))
       m;
   uid = λ t. ap found_uid is ∙ find_skips (line_is_named (codes "UID")) start.lines line
@@ -139,7 +143,7 @@ pub skipped : (reading : Reading) (raw : RawLine) (start : CardLines)
     → is_delimiter raw.octets ≡ true → Extends reading (raw ∷ []) start start
 skipped reading raw start d = record {
   makes = λ before m. record {
-    become = left_out before raw start.lines start.changes d m.become;
+    become = left_out reading.version before raw start.lines start.changes d m.become;
     proper = m.proper;
     passed = m.passed;
     seen = m.seen;
@@ -158,9 +162,10 @@ pub left : (reading : Reading) (raw : RawLine) (start end : CardLines) (change :
     → Extends reading (raw ∷ []) start end
 left reading raw start end change place may stays unjoined lines seen changes = record {
   makes = λ before m. record {
-    become = subst (λ c. BecomeCard (before ++ raw ∷ []) end.lines c) (sym changes)
-        (subst (λ l. BecomeCard (before ++ raw ∷ []) l (start.changes ++ change ∷ [])) (sym lines)
-        (gone before raw start.lines start.changes change place may m.become));
+    become = subst (λ c. BecomeCard reading.version (before ++ raw ∷ []) end.lines c) (sym changes)
+        (subst (λ l. BecomeCard reading.version (before ++ raw ∷ []) l
+        (start.changes ++ change ∷ [])) (sym lines)
+        (gone reading.version before raw start.lines start.changes change place may m.become));
     proper = subst (AllByRecursion IsProperLine) (sym lines) m.proper;
     passed = subst ArePassed (sym lines) m.passed;
     seen = record {
@@ -187,34 +192,39 @@ split_whole raws index raw l is = ap (λ r. take index raws ++ r)
 -- one of the logical lines is the UID
 pub record WithUid (reading : Reading) (raws : List RawLine) (line : Line) (made : CardLines) :
     Type 0 where
-  pub makes : Makes raws made
+  pub makes : Makes reading.version raws made
   pub uid : found_uid made.lines ≡ Some line
   pub members : reading.keeps_members ≡ false → has_line_named (codes "MEMBER") made.lines ≡ false
   pub whole : reading.leaves_out ≡ false → has_left_out made.changes ≡ false
   pub unjoined : reading.joins ≡ false → has_joined made.changes ≡ false
 
 pub with_uid : (others reading : Reading) (raws : List RawLine) (index : ℕ) (raw : RawLine) (line :
-    Line) (start a b end : CardLines) → others.takes_uid ≡ false → reading.takes_uid ≡ true
+    Line) (start a b end : CardLines) → others.version ≡ reading.version
+    → others.takes_uid ≡ false → reading.takes_uid ≡ true
     → others.keeps_members ≡ reading.keeps_members → others.leaves_out ≡ reading.leaves_out
     → others.joins ≡ reading.joins → index < length raws → raw ≡ get_or raws index raw
-    → IsUidLine line → Makes [] start → found_uid start.lines ≡ None
+    → IsUidLine line → Makes others.version [] start → found_uid start.lines ≡ None
     → has_line_named (codes "MEMBER") start.lines ≡ false → has_left_out start.changes ≡ false
     → has_joined start.changes ≡ false → Extends others (take index raws) start a
     → (IsProperLine line → breaks_rule a.seen reading line ≡ false → Extends reading (raw ∷ []) a b)
     → b.lines ≡ a.lines ++ line ∷ [] → Extends others (drop (index + 1) raws) b end
     → WithUid reading raws line end
-with_uid others reading raws index raw line start a b end none takes keeps leaves joins l is u made
-    found members whole unjoined before push lines after =
-    let at : Makes (take index raws) a = before.makes [] made in
+with_uid others reading raws index raw line start a b end one none takes keeps leaves joins l is u
+    made found members whole unjoined before push lines after =
+    let at : Makes reading.version (take index raws) a =
+    subst (λ v. Makes v (take index raws) a) one (before.makes [] made) in
     let unfound : found_uid a.lines ≡ None = before.uid none ∙ found in
     let unseen : a.seen.uid ≡ false = at.seen.uid ∙ none_found (line_is_named (codes "UID")) a.lines
     unfound in
     let pushed : Extends reading (raw ∷ []) a b =
     push u.proper (uid_is_allowed a.seen reading line u unseen takes) in
     record {
-      makes = subst (λ r. Makes r end) (append_assoc (take index raws) (raw ∷ [])
+      makes = subst (λ r. Makes reading.version r end) (append_assoc (take index raws) (raw ∷ [])
           (drop (index + 1) raws) ∙ split_whole raws index raw l is)
-          (after.makes (take index raws ++ raw ∷ []) (pushed.makes (take index raws) at));
+          (subst (λ v. Makes v ((take index raws ++ raw ∷ []) ++ drop (index + 1) raws) end) one
+          (after.makes (take index raws ++ raw ∷ [])
+          (subst (λ v. Makes v (take index raws ++ raw ∷ []) b) (sym one)
+          (pushed.makes (take index raws) at))));
       uid = after.uid none ∙ ap found_uid lines ∙ find_finds (line_is_named (codes "UID")) a.lines
           line unfound u.named;
       members = λ k. after.members (keeps

@@ -12,8 +12,9 @@ use Rattle.vcard_text.specs.Making.{upper_lines, AreTooLongCardLines}
 use Rattle.vcard_text.specs.Spelling.{without_bom}
 use Rattle.vcard_property.specs.Lines.{plain_line}
 use Rattle.vcard_property.specs.SameLines.{AreLine, has_encoding}
-use Rattle.vcard_property.specs.Values.{HasSameValue, KeepsValue}
+use Rattle.vcard_property.specs.Values.{HasKnownValue, KeepsValue}
 use Rattle.vcard_property.specs.declared.change_kind.ChangeKind.TheVariants.{Added}
+use Rattle.vcard_property.specs.declared.version.Version.{Version}
 use Rattle.vcard_import.specs.Delimiters.{is_delimiter}
 use Rattle.vcard_import.specs.DerivedUid.{derived_uid}
 use Rattle.vcard_import.specs.Ends.{without_end}
@@ -41,22 +42,22 @@ pub record IsKept (octets : List ℕ) (Rest : List Line → Type 0) (card : List
   pub rest : Rest others
 
 -- what the octets hold is a value of nothing but white space
-pub record IsBlank (octets : List ℕ) : Type 0 where
+pub record IsBlank (version : Version) (octets : List ℕ) : Type 0 where
   pub value : List ℕ
-  pub kept : KeepsValue octets value
+  pub kept : KeepsValue version octets value
   pub blank : trim value ≡ []
 
--- If each version writes the value of the logical line alike, or it is a picture, a sound or a key in
--- base64, the line of the card has it: as it is, as a `data:` URI or in its text. Only a blank one, as
--- that of an FN without a name, may be replaced.
-abbrev pub KeepsSameValue : List ℕ → Line → Type 0
-KeepsSameValue octets line =
-    HasSameValue octets → KeepsValue octets line.value ⊎ IsBlank octets
+-- If the value of the logical line is known, or it is a picture, a sound or a key in base64, the
+-- line of the card has it: as vCard 4.0 writes it, as a `data:` URI or in its text. Only a blank
+-- one, as that of an FN without a name, may be replaced.
+abbrev pub KeepsKnownValue : Version → List ℕ → Line → Type 0
+KeepsKnownValue version octets line =
+    HasKnownValue octets → KeepsValue version octets line.value ⊎ IsBlank version octets
 
 -- The first line of the card isn't what the octets of the logical line spell, and the first change
--- is at the place of that logical line, of a kind that fits the line. A value that each version
--- writes alike is kept. The rest holds for the other lines and changes.
-pub record IsChanged (raw : RawLine) (Rest : List Line → List Change → Type 0)
+-- is at the place of that logical line, of a kind that fits the line. A value that is known is
+-- kept. The rest holds for the other lines and changes.
+pub record IsChanged (version : Version) (raw : RawLine) (Rest : List Line → List Change → Type 0)
     (card : List Line) (changes : List Change) : Type 0 where
   pub line : Line
   pub others : List Line
@@ -67,7 +68,7 @@ pub record IsChanged (raw : RawLine) (Rest : List Line → List Change → Type 
   pub changes_are : changes ≡ change ∷ more
   pub place : change.place ≡ raw.place
   pub kind : fits change.kind line ≡ true
-  pub keeps : KeepsSameValue raw.octets line
+  pub keeps : KeepsKnownValue version raw.octets line
   pub rest : Rest others more
 
 -- The logical line is a label, a picture or a sound without a line of its own. The first change is
@@ -84,13 +85,13 @@ pub record IsGone (raw : RawLine) (Rest : List Change → Type 0) (changes : Lis
 -- Each logical line becomes one line of the card, in order; only one that begins or ends a card or
 -- gives its version may be missing, and one that the changes call joined to another or left out.
 -- The changes are those of the logical lines that don't spell the line that they became, in order.
-abbrev pub BecomeCard : List RawLine → List Line → List Change → Type 0
-BecomeCard [] card changes = (card ≡ []) × (changes ≡ [])
-BecomeCard (raw ∷ raws) card changes =
-    ((is_delimiter raw.octets ≡ true) × BecomeCard raws card changes)
-    ⊎ (IsKept raw.octets (λ others. BecomeCard raws others changes) card
-    ⊎ (IsChanged raw (λ others more. BecomeCard raws others more) card changes
-    ⊎ IsGone raw (λ more. BecomeCard raws card more) changes))
+abbrev pub BecomeCard : Version → List RawLine → List Line → List Change → Type 0
+BecomeCard version [] card changes = (card ≡ []) × (changes ≡ [])
+BecomeCard version (raw ∷ raws) card changes =
+    ((is_delimiter raw.octets ≡ true) × BecomeCard version raws card changes)
+    ⊎ (IsKept raw.octets (λ others. BecomeCard version raws others changes) card
+    ⊎ (IsChanged version raw (λ others more. BecomeCard version raws others more) card changes
+    ⊎ IsGone raw (λ more. BecomeCard version raws card more) changes))
 
 -- ---- the lines that are added
 
@@ -127,7 +128,7 @@ left_out_lines octets changes = filter (is_left_out_at changes) (card_raw_lines 
 pub record IsConverted (octets : List ℕ) (card : List Line) (changes : List Change) : Type 0 where
   pub lines : List Line
   pub reported : List Change
-  pub become : BecomeCard (card_raw_lines octets) lines reported
+  pub become : BecomeCard (version_of octets) (card_raw_lines octets) lines reported
   pub labels : HaveAddresses reported
   pub name : List ℕ
   pub card_is : card ≡ lines ++ missing_lines octets name lines

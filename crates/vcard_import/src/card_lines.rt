@@ -4,8 +4,10 @@ ghost use Rattle.std.specs.Prelude.{◌<◌, codes, length, None};
 ghost use Rattle.vcard_lines.specs.declared.line.Line.{Line};
 ghost use Rattle.vcard_text.specs.Cards.{IsProperLine, has_line_named};
 ghost use Rattle.vcard_property.specs.Lines.{IsUidLine};
-ghost use Rattle.vcard_property.specs.Values.{HasSameValue, KeepsValue};
-ghost use Rattle.vcard_import.specs.Conversions.{KeepsSameValue};
+ghost use Rattle.vcard_property.specs.SameLines.{is_same_in};
+ghost use Rattle.vcard_property.specs.declared.version.Version.{Version};
+ghost use Rattle.vcard_property.specs.Values.{HasKnownValue, KeepsValue};
+ghost use Rattle.vcard_import.specs.Conversions.{KeepsKnownValue};
 ghost use Rattle.vcard_import.specs.FirstUid.{first_uid};
 ghost use Rattle.vcard_import.specs.Labels.{HaveAddresses, fits, says_joined};
 ghost use Rattle.vcard_import.specs.LeftOut.{has_left_out, may_go, says_left_out};
@@ -45,8 +47,8 @@ fn labelled_line(
 ) -> Result<(Line, ChangeKind), NoMemory>
     ensures proper { IfOk result (λ made. IsProperLine made.0) }
     ensures kind { IfOk result (λ made. fits made.1 made.0 ≡ true) }
-    ensures keeps { HasSameValue octets.now
-        → IfOk result (λ made. KeepsValue octets.now made.0.value) }
+    ensures keeps { HasKnownValue octets.now
+        → IfOk result (λ made. KeepsValue version octets.now made.0.value) }
 {
     let (line, kind) = convert_line(alloc, octets, version)?;
     if let Some(Labelling::Gets(text)) = label {
@@ -70,7 +72,8 @@ fn line_after(
     ensures proper { IfOk result (λ made. IsProperLine made.0) }
     ensures kind { IfOk result (λ made. fits made.1 made.0 ≡ true) }
     ensures allowed { IfOk result (λ made. breaks_rule seen reading made.0 ≡ false) }
-    ensures keeps { IfOk result (λ made. KeepsSameValue octets.now made.0) }
+    ensures keeps { IfOk result (λ made.
+        KeepsKnownValue reading.version octets.now made.0) }
 {
     let (line, kind) = labelled_line(alloc, octets, reading.version, label)?;
     if !name.is_empty() && is_empty_name(&line) {
@@ -86,7 +89,7 @@ fn line_after(
 fn nested_line(alloc: Global, octets: &[u8]) -> Result<Line, NoMemory>
     ensures proper { IfOk result IsProperLine }
     ensures name { IfOk result (λ line. line.name ≡ codes "X-AGENT") }
-    ensures keeps { IfOk result (KeepsSameValue octets.now) }
+    ensures keeps { (version : Version) → IfOk result (KeepsKnownValue version octets.now) }
 {
     let text = read_text(alloc, octets)?;
     text_line(alloc, "X-AGENT", text.as_str())
@@ -114,7 +117,7 @@ fn split_label(labels: &[Labelling]) -> (Option<&Labelling>, &[Labelling]) {
 
 impl CardLines {
     fn new(alloc: Global) -> CardLines
-        ensures makes { Makes [] result }
+        ensures makes { (version : Version) → Makes version [] result }
         ensures uid { found_uid result.lines ≡ None }
         ensures members { has_line_named (codes "MEMBER") result.lines ≡ false }
         ensures whole { has_left_out result.changes ≡ false }
@@ -140,7 +143,8 @@ impl CardLines {
     ) -> Result<(), NoMemory>
         ensures extends { OnOk result ((reading : Reading) → IsProperLine line
             → fits kind line ≡ true → breaks_rule self.old.seen reading line ≡ false
-            → KeepsSameValue raw.now.octets line → Extends reading (raw.now ∷ []) self.old self.new) }
+            → KeepsKnownValue reading.version raw.now.octets line
+            → Extends reading (raw.now ∷ []) self.old self.new) }
         ensures lines { OnOk result (self.new.lines ≡ self.old.lines ++ line ∷ []) }
     {
         if !are_line(alloc, raw.octets.as_slice(), &line)? {
@@ -232,7 +236,8 @@ fn lines_with_uid(
     requires within { uid.index < length raws.now }
     requires legal { IsUidLine uid.line }
     requires spelled { IsSpelledAt raws.now uid.index uid.line }
-    ensures makes { IfOk result (λ made. Makes raws.now made) }
+    requires same { is_same_in reading.version uid.line ≡ true }
+    ensures makes { IfOk result (Makes reading.version raws.now) }
     ensures uid { IfOk result (λ made. found_uid made.lines ≡ Some uid.line) }
     ensures members { reading.keeps_members ≡ false → IfOk result (λ made.
         has_line_named (codes "MEMBER") made.lines ≡ false) }
@@ -267,7 +272,7 @@ fn read_lines(
     name: &str,
     labels: &[Labelling],
 ) -> Result<CardLines, NoMemory>
-    ensures makes { IfOk result (λ made. Makes raws.now made) }
+    ensures makes { IfOk result (Makes reading.version raws.now) }
     ensures uid { (line : Line) → first_uid reading.version raws.now ≡ Some line
         → IfOk result (λ made. found_uid made.lines ≡ Some line) }
     ensures members { keeps_members ≡ false → IfOk result (λ made.
@@ -301,7 +306,7 @@ fn lines_named(
     name: &str,
     labels: &[Labelling],
 ) -> Result<CardLines, NoMemory>
-    ensures makes { IfOk result (λ made. Makes raws.now made) }
+    ensures makes { IfOk result (Makes reading.version raws.now) }
     ensures uid { (line : Line) → first_uid reading.version raws.now ≡ Some line
         → IfOk result (λ made. found_uid made.lines ≡ Some line) }
     ensures members { IfOk result (λ made. has_stray_members made.lines ≡ false) }
@@ -325,7 +330,7 @@ fn lines_with_name(
     reading: Reading,
     labels: &[Labelling],
 ) -> Result<CardLines, NoMemory>
-    ensures makes { IfOk result (λ made. Makes raws.now made) }
+    ensures makes { IfOk result (Makes reading.version raws.now) }
     ensures uid { (line : Line) → first_uid reading.version raws.now ≡ Some line
         → IfOk result (λ made. found_uid made.lines ≡ Some line) }
     ensures members { IfOk result (λ made. has_stray_members made.lines ≡ false) }
@@ -364,7 +369,7 @@ pub(crate) fn lines_of_card(
     version: Version,
     leaves_out: bool,
 ) -> Result<CardLines, NoMemory>
-    ensures makes { IfOk result (λ made. Makes raws.now made) }
+    ensures makes { IfOk result (Makes version raws.now) }
     ensures uid { (line : Line) → first_uid version raws.now ≡ Some line
         → IfOk result (λ made. found_uid made.lines ≡ Some line) }
     ensures members { IfOk result (λ made. has_stray_members made.lines ≡ false) }

@@ -1,6 +1,7 @@
 //! Finds the UID of a card among its logical lines.
-ghost use Rattle.std.specs.Prelude.{◌≡◌, ◌<◌, ◌&&◌, ◌||◌, IfOk, IfSome, length, option_map};
+ghost use Rattle.std.specs.Prelude.{◌≡◌, ◌<◌, ◌&&◌, ◌||◌, IfOk, IfSome, length, option_map, true};
 ghost use Rattle.vcard_property.specs.Lines.{IsUidLine};
+ghost use Rattle.vcard_property.specs.SameLines.{is_same_in};
 ghost use Rattle.vcard_import.specs.Delimiters.{begins_card};
 ghost use Rattle.vcard_import.specs.FirstUid.{first_uid};
 ghost use Rattle.vcard_import.specs.internal.Steps.{IsSpelledAt};
@@ -45,6 +46,8 @@ pub(crate) fn first_uid(
     ensures within { IfOk result (λ found. IfSome found (λ uid. uid.index < length raws.now)) }
     ensures spelled { IfOk result (λ found. IfSome found (λ uid.
         IsSpelledAt raws.now uid.index uid.line)) }
+    ensures same { IfOk result (λ found. IfSome found (λ uid.
+        is_same_in version uid.line ≡ true)) }
 {
     let mut begun = false;
     for (index, raw) in raws.iter().enumerate() {

@@ -22,7 +22,3 @@ permitted_char c p = recursion_from_All (λ b. is_permitted b ≡ true) (encode_
     inside_one c [] (encode_utf8 c) k (sym (append-nil (encode_utf8 c))) l low in
     both_ways (is_permitted (get_or (encode_utf8 c) k 0)) (ap is_permitted (sym at)
     ∙ e) (ap is_permitted (sym same) ∙ p)))
-
-pub one_more : (before : List ℕ) (c : ℕ) → AllInClass is_permitted before → is_permitted c ≡ true
-    → AllInClass is_permitted (before ++ encode_utf8 c)
-one_more before c a p = of-append is_permitted before _ a (permitted_char c p)

@@ -3,3 +3,7 @@ pub mod SameLemmas
 pub mod ControlLemmas
 pub mod MediaLemmas
 pub mod TextLemmas
+pub mod EscapeLemmas
+pub mod ReadBackLemmas
+pub mod KeptLemmas
+pub mod BreakLemmas

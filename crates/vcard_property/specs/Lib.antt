@@ -1,7 +1,11 @@
+pub mod Escapes
+pub mod Forms
+pub mod KeptTexts
 pub mod Kinds
 pub mod Labels
 pub mod Lines
 pub mod Media
 pub mod SameLines
+pub mod ValueTexts
 pub mod Values
 pub mod internal

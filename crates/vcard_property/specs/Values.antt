@@ -1,27 +1,28 @@
--- Lines whose value each version of vCard writes alike, so that vCard 4.0 has it as it is; and
--- pictures, sounds and keys in base64, which are `data:` URIs there (RFC 6350, sections 6.2.4, 6.6.3,
--- 6.7.5 and 6.8.1).
-use Rattle.std.specs.Prelude.{ℕ, ◌≡◌, Bool, true, not, ◌&&◌, ◌||◌, ◌==◌, ◌⊎◌, List, ◌++◌}
+-- Lines whose value is known: the text after the first colon, as its version reads it. And
+-- pictures, sounds and keys in base64, which are `data:` URIs in vCard 4.0 (RFC 6350, sections
+-- 6.2.4, 6.6.3, 6.7.5 and 6.8.1).
+use Rattle.std.specs.Prelude.{ℕ, ◌≡◌, Bool, true, false, not, ◌&&◌, ◌||◌, ◌==◌, ◌⊎◌, List, ◌++◌}
 use Rattle.std.specs.Prelude.{codes, if◌then◌else◌, Option, None, Some}
-use Rattle.std.specs.Char.{is_ascii_graphic, is_control}
 use Rattle.std.specs.List.{list_all, list_any, slice_split}
 use Rattle.std.specs.Option.{is_some}
-use Rattle.std.specs.Str.{IsUtf8, chars, str_eq_ignore_ascii_case}
+use Rattle.std.specs.Str.{str_eq_ignore_ascii_case}
 use Rattle.base64.specs.Engines.{standard}
 use Rattle.base64.specs.GeneralPurpose.{encode_of}
-use Rattle.base_types.specs.Octets.{backslash, colon, comma, dot, quote, semicolon, tab}
-use Rattle.import_text.specs.RawLines.{head, is_encoded_as}
+use Rattle.base_types.specs.Octets.{backslash, comma, dot, quote, semicolon}
+use Rattle.import_text.specs.Encodings.{text_of}
+use Rattle.import_text.specs.RawLines.{head}
 use Rattle.vcard_lines.specs.Grammar.{is_name_octet}
 use Rattle.vcard_lines.specs.TextValues.{unescaped_text}
 use Rattle.vcard_lines.specs.declared.line.Line.{Line}
-use Rattle.vcard_property.specs.Media.{after, base64_octets, before}
-use Rattle.vcard_property.specs.SameLines.{AreLine, has_octet}
+use Rattle.vcard_property.specs.Escapes.{SpellsSame, rewritten_value}
+use Rattle.vcard_property.specs.Forms.{has_clear_form, says, value_form, written_name}
+use Rattle.vcard_property.specs.KeptTexts.{kept_text}
+use Rattle.vcard_property.specs.Media.{base64_octets}
+use Rattle.vcard_property.specs.SameLines.{AreLine, has_octet, is_same_in}
+use Rattle.vcard_property.specs.ValueTexts.{has_clear_encoding, names_quoted, value_of, value_text}
+use Rattle.vcard_property.specs.declared.version.Version.{Version}
 
 -- ---- the name
-
--- the name of a property with its group, as the line has it
-abbrev pub written_name : List ℕ → List ℕ
-written_name line = before semicolon (head line)
 
 -- letters, digits, hyphens and dots
 abbrev pub is_plain_name : List ℕ → Bool
@@ -38,8 +39,8 @@ has_other_form name = str_eq_ignore_ascii_case name (codes "LABEL")
     || str_eq_ignore_ascii_case name (codes "REV")
 
 -- A comma of the text has a backslash before it in vCard 4.0, and may have none in another version.
-abbrev pub escapes_commas : List ℕ → Bool
-escapes_commas name = str_eq_ignore_ascii_case name (codes "FN")
+abbrev pub may_lack_backslash : List ℕ → Bool
+may_lack_backslash name = str_eq_ignore_ascii_case name (codes "FN")
     || str_eq_ignore_ascii_case name (codes "NOTE")
     || str_eq_ignore_ascii_case name (codes "TITLE")
     || str_eq_ignore_ascii_case name (codes "ROLE")
@@ -51,51 +52,22 @@ escapes_commas name = str_eq_ignore_ascii_case name (codes "FN")
 abbrev pub is_named_so : (List ℕ → Bool) → List ℕ → Bool
 is_named_so test line = list_any test (slice_split (λ octet. octet == dot) (written_name line))
 
--- ---- the parameters
-
-abbrev pub is_b : ℕ → Bool
-is_b octet = octet == 66 || octet == 98
-
--- the part of a head is the word B, perhaps with white space around it, which means base64
-abbrev pub is_bare_b : List ℕ → Bool
-is_bare_b part = list_any is_b part
-    && list_all (λ octet. is_b octet || not (is_ascii_graphic octet)) part
-
--- The part of a head says how the value is encoded, or names a character set other than UTF-8.
-abbrev pub says_encoding : List ℕ → Bool
-says_encoding part = not (str_eq_ignore_ascii_case part (codes "CHARSET=UTF-8"))
-    && (is_encoded_as (codes "CHARSET") part || is_encoded_as (codes "ENCODING") part
-    || is_encoded_as (codes "QUOTED-PRINTABLE") part || is_encoded_as (codes "BASE64") part
-    || is_bare_b part)
-
--- a part of the head says so
-abbrev pub is_encoded : List ℕ → Bool
-is_encoded line = list_any says_encoding (slice_split (λ octet. octet == semicolon) (head line))
-
 -- ---- the value
 
--- The value is what is after the first colon, since no double quote is before it.
-abbrev pub value_of : List ℕ → List ℕ
-value_of line = after colon line
-
--- a control character but the tab
-abbrev pub has_control : List ℕ → Bool
-has_control line = list_any (λ c. is_control c && not (c == tab)) (chars line)
-
--- No character of the value is escaped in any version.
+-- No character of the value is escaped in any version, or encoded.
 abbrev pub has_plain_value : List ℕ → Bool
-has_plain_value line = not (has_octet backslash (value_of line))
-    && (not (has_octet comma (value_of line)) || not (is_named_so escapes_commas line))
+has_plain_value line = not (says names_quoted line) && not (has_octet backslash (value_of line))
+    && (not (has_octet comma (value_of line)) || not (is_named_so may_lack_backslash line))
 
 -- ---- the line
 
 -- The name is made of letters, digits and hyphens, and is none of those whose values have another
--- form in vCard 4.0. The head has no double quote and says nothing of an encoding. The line has no
--- control character. The value has no backslash; and no comma, where one may need a backslash.
-abbrev pub has_same_value : List ℕ → Bool
-has_same_value line = is_plain_name (written_name line) && not (is_named_so has_other_form line)
-    && not (has_octet quote (head line)) && not (is_encoded line) && not (has_control line)
-    && has_plain_value line
+-- form in vCard 4.0. The head has no double quote. How the value is encoded is clear. Its form is
+-- clear too, or no character of it is escaped.
+abbrev pub has_known_value : List ℕ → Bool
+has_known_value line = is_plain_name (written_name line) && not (is_named_so has_other_form line)
+    && not (has_octet quote (head line)) && has_clear_encoding line
+    && (has_clear_form line || has_plain_value line)
 
 -- ---- pictures
 
@@ -117,8 +89,7 @@ is_in_base64 line = list_any names_base64 (slice_split (λ octet. octet == semic
 
 -- the line is a picture, a sound or a key, and its head says that its value is base64
 abbrev pub has_media : List ℕ → Bool
-has_media line =
-    is_media_name (written_name line) && is_in_base64 line && not (has_control line)
+has_media line = is_media_name (written_name line) && is_in_base64 line
 
 -- the octets of the picture, the sound or the key that the line has in it; none if its value isn't
 -- base64
@@ -126,33 +97,42 @@ abbrev pub media_of : List ℕ → Option (List ℕ)
 media_of line = if has_media line then base64_octets (value_of line) else None
 
 -- The value is a `data:` URI of these octets: a media type, and their base64.
-pub record IsDataUri (octets value : List ℕ) : Type 0 where
-  pub media : List ℕ
-  pub found : media_of octets ≡ Some media
+pub record IsUriOf (media value : List ℕ) : Type 0 where
   pub media_type : List ℕ
+  pub no_comma : has_octet comma media_type ≡ false
   pub value_is : value ≡ codes "data:" ++ media_type ++ codes ";base64," ++ encode_of standard media
+
+-- the value is a `data:` URI of the picture, the sound or the key that the line has in it
+pub record IsDataUri (line value : List ℕ) : Type 0 where
+  pub media : List ℕ
+  pub found : media_of line ≡ Some media
+  pub uri : IsUriOf media value
 
 -- ---- what stays
 
--- the octets are the text of a line whose value is the same in each version, or of a picture, a
--- sound or a key in base64
-pub record HasSameValue (octets : List ℕ) : Type 0 where
-  pub utf8 : IsUtf8 octets
-  pub same : (has_same_value octets || is_some (media_of octets)) ≡ true
+-- the value of the line is known, or the line is a picture, a sound or a key in base64
+abbrev pub HasKnownValue : List ℕ → Type 0
+HasKnownValue octets = (has_known_value octets || is_some (media_of octets)) ≡ true
 
--- the value is that of the line if it is the same in each version, or a `data:` URI of the picture
-abbrev pub HasValueOf : List ℕ → List ℕ → Type 0
-HasValueOf octets value = ((has_same_value octets ≡ true) × (value ≡ value_of octets))
-    ⊎ IsDataUri octets value
+-- The value is that of the line of this version, as vCard 4.0 writes it. There it spells the same.
+pub record IsRewritten (version : Version) (octets value : List ℕ) : Type 0 where
+  pub known : has_known_value octets ≡ true
+  pub value_is : value ≡ rewritten_value (value_form version octets) (value_text octets)
+  pub spells : SpellsSame (value_form version octets) (value_text octets) value
 
--- the value is that of the line that the octets spell
-pub record IsSpelled (octets value : List ℕ) : Type 0 where
+-- the value is that of the line, as vCard 4.0 writes it, or a `data:` URI of the picture
+abbrev pub HasValueOf : Version → List ℕ → List ℕ → Type 0
+HasValueOf version octets value = IsRewritten version octets value ⊎ IsDataUri octets value
+
+-- the value is that of the line that the octets spell, which the version writes as vCard 4.0 does
+pub record IsSpelled (version : Version) (octets value : List ℕ) : Type 0 where
   pub line : Line
   pub spelled : AreLine octets line
+  pub same : is_same_in version line ≡ true
   pub value_is : value ≡ line.value
 
--- The value has what the octets hold: it is that of the line that they spell, it has their value, or
--- it encodes their whole text.
-abbrev pub KeepsValue : List ℕ → List ℕ → Type 0
-KeepsValue octets value = IsSpelled octets value
-    ⊎ (HasValueOf octets value ⊎ (unescaped_text value ≡ octets))
+-- The value has what the octets hold: it is that of the line that they spell, it has their value,
+-- or it encodes their whole text, but for control characters.
+abbrev pub KeepsValue : Version → List ℕ → List ℕ → Type 0
+KeepsValue version octets value = IsSpelled version octets value
+    ⊎ (HasValueOf version octets value ⊎ (unescaped_text value ≡ kept_text (text_of octets)))

@@ -1,1 +1,4 @@
+pub mod BreakLoop
 pub mod ProperTests
+pub mod RewriteLoop
+pub mod UriNames

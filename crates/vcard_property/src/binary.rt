@@ -1,10 +1,11 @@
 //! Values of base64 as `data:` URIs (RFC 6350, sections 6.2.4 and 6.8.1; RFC 2397).
-ghost use Rattle.std.specs.Prelude.{◌≡◌, ◌++◌, List, ℕ, IfOk, not, filter, codes, string_bytes};
+ghost use Rattle.std.specs.Prelude.{◌≡◌, IfOk, IfSome, false, not, filter, string_bytes};
 ghost use Rattle.std.specs.Option.{option_map};
 ghost use Rattle.std.specs.Char.{is_ascii_whitespace};
-ghost use Rattle.base64.specs.Engines.{standard};
-ghost use Rattle.base64.specs.GeneralPurpose.{encode_of};
+ghost use Rattle.base_types.specs.Octets.{comma};
 ghost use Rattle.vcard_property.specs.Media.{base64_octets};
+ghost use Rattle.vcard_property.specs.SameLines.{has_octet};
+ghost use Rattle.vcard_property.specs.Values.{IsUriOf};
 
 use base64::DecodeAllocError;
 use base64::engine::general_purpose::{STANDARD, STANDARD_PAD_INDIFFERENT};
@@ -47,8 +48,11 @@ pub(crate) fn decoded_base64(alloc: Global, text: &str) -> Result<Option<Vec<u8>
     decoded_octets(alloc, text.as_bytes())
 }
 
-/// The media type that a value of TYPE names for a property, if it names one.
-fn media_type(name: &str, word: &str) -> Option<&'static str> {
+/// The media type that a value of TYPE names for a property, if it names one. No media type has a
+/// comma.
+fn media_type(name: &str, word: &str) -> Option<&'static str>
+    ensures { IfSome result (λ media_type. has_octet comma media_type.now ≡ false) }
+{
     match (name, word) {
         ("KEY", "x509" | "pkix-cert") => Some("application/pkix-cert"),
         ("KEY", "pgp" | "pgp-keys") => Some("application/pgp-keys"),
@@ -66,7 +70,9 @@ fn media_type(name: &str, word: &str) -> Option<&'static str> {
 }
 
 /// The same for a word that may be a whole media type, as image/jpeg.
-fn media_type_of(name: &str, word: &str) -> Option<&'static str> {
+fn media_type_of(name: &str, word: &str) -> Option<&'static str>
+    ensures { IfSome result (λ media_type. has_octet comma media_type.now ≡ false) }
+{
     match word.rsplit_once('/') {
         Some((_, format)) => media_type(name, format),
         None => media_type(name, word),
@@ -79,7 +85,9 @@ fn is_webp(octets: &[u8]) -> bool {
 }
 
 /// The media type of an image by its first octets, if they are those of a known format.
-fn image_type(octets: &[u8]) -> Option<&'static str> {
+fn image_type(octets: &[u8]) -> Option<&'static str>
+    ensures { IfSome result (λ media_type. has_octet comma media_type.now ≡ false) }
+{
     if octets.starts_with(b"\xFF\xD8\xFF") {
         Some("image/jpeg")
     } else if octets.starts_with(b"\x89PNG") {
@@ -94,7 +102,9 @@ fn image_type(octets: &[u8]) -> Option<&'static str> {
 }
 
 /// The media type of a value: the one that a value of TYPE names, or else that of its first octets.
-fn media_type_in(name: &str, types: &[ParamValue], octets: &[u8]) -> &'static str {
+fn media_type_in(name: &str, types: &[ParamValue], octets: &[u8]) -> &'static str
+    ensures { has_octet comma result.now ≡ false }
+{
     for value in types {
         if let Some(media_type) = media_type_of(name, value.text.as_str()) {
             return media_type;
@@ -120,8 +130,7 @@ pub(crate) fn data_uri(
     types: &[ParamValue],
     octets: &[u8],
 ) -> Result<String, NoMemory>
-    ensures { IfOk result (λ uri. (media : List ℕ) × (string_bytes uri
-        ≡ codes "data:" ++ media ++ codes ";base64," ++ encode_of standard octets.now)) }
+    ensures { IfOk result (λ uri. IsUriOf octets.now (string_bytes uri)) }
 {
     let mut uri = String::from_str(alloc, "data:")?;
     uri.push_str(media_type_in(name, types, octets))?;

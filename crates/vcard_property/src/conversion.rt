@@ -1,24 +1,27 @@
 //! Converts one logical line.
-ghost use Rattle.std.specs.Prelude.{◌≡◌, ◌++◌, ◌||◌, ℕ, List, true, IfOk, IfSome, codes};
-ghost use Rattle.std.specs.Option.{is_some};
+ghost use Rattle.std.specs.Prelude.{◌≡◌, ℕ, List, true, IfOk, IfSome};
+ghost use Rattle.import_text.specs.Encodings.{text_of};
 ghost use Rattle.vcard_lines.specs.declared.line.Line.{Line};
 ghost use Rattle.vcard_text.specs.Cards.{IsProperLine};
+ghost use Rattle.vcard_property.specs.Escapes.{SpellsSame, rewritten_value};
+ghost use Rattle.vcard_property.specs.Forms.{value_form};
 ghost use Rattle.vcard_property.specs.Kinds.{fits_kind};
 ghost use Rattle.vcard_property.specs.SameLines.{AreLine, is_same_in};
-ghost use Rattle.vcard_property.specs.Values.{HasSameValue, HasValueOf, KeepsValue, media_of};
-ghost use Rattle.vcard_property.specs.Values.{has_same_value, value_of};
-ghost use Rattle.base64.specs.Engines.{standard};
-ghost use Rattle.base64.specs.GeneralPurpose.{encode_of};
+ghost use Rattle.vcard_property.specs.Values.{HasKnownValue, HasValueOf, IsUriOf, KeepsValue};
+ghost use Rattle.vcard_property.specs.ValueTexts.{value_text};
 
 use crate::change_kind::ChangeKind;
 use crate::dates::has_fraction;
 use crate::decoding::decode;
+use crate::escapes::{ValueForm, with_escapes};
+use crate::forms::value_form;
 use crate::kept_texts::text_line;
 use crate::proper_line::proper_line;
 use crate::property::{Encoding, Property, read_property};
 use crate::property_line::{binary_line, is_date_name, line_of, named_line};
 use crate::same_line::read_same_line;
-use crate::values::{has_same_value, media_of};
+use crate::value_texts::value_text;
+use crate::values::{has_known_value, media_of};
 use crate::version::Version;
 use import_text::read_text;
 use std::alloc::Global;
@@ -45,14 +48,16 @@ fn kind_with(loss: Loss) -> ChangeKind
     }
 }
 
-/// Whether the property is a text with a control character that no value of vCard 4.0 may have. A
-/// line feed is escaped.
-fn has_control(property: &Property) -> bool {
-    let text = property.value.as_str();
-    matches!(property.encoding, Encoding::Plain)
-        && text
-            .chars()
-            .any(|c| c.is_control() && c != '\t' && c != '\n')
+/// Whether the text has a control character that no value of vCard 4.0 may have. A line feed is
+/// escaped.
+fn loses_controls(text: &str) -> bool {
+    text.chars()
+        .any(|c| c.is_control() && c != '\t' && c != '\n')
+}
+
+/// Whether the property is a text that has one.
+fn is_cleaned(property: &Property) -> bool {
+    matches!(property.encoding, Encoding::Plain) && loses_controls(property.value.as_str())
 }
 
 /// What became of a line of one name that now has the other. Its value may have lost something.
@@ -68,24 +73,33 @@ fn kind_of(old: &str, new: &str, loss: Loss) -> ChangeKind
     }
 }
 
-/// The proper line that a property becomes, with this value, and what became of it. `None` if its
-/// line isn't proper.
+/// The proper line that a property becomes, with this value of that form, and what became of it.
+/// `None` if its line isn't proper.
 fn line_with_value(
     alloc: Global,
     property: Property,
     value: &str,
+    form: ValueForm,
 ) -> Result<Option<(Line, ChangeKind)>, NoMemory>
     ensures proper { IfOk result (λ made. IfSome made (λ line.
         IsProperLine line.0 × (fits_kind line.1 line.0.name ≡ true))) }
-    ensures value { IfOk result (λ made. IfSome made (λ line. line.0.value ≡ value.now)) }
+    ensures value { IfOk result (λ made. IfSome made (λ line.
+        line.0.value ≡ rewritten_value form value.now)) }
+    ensures spells { IfOk result (λ made. IfSome made (λ line.
+        SpellsSame form value.now line.0.value)) }
 {
     let name = property.name.try_copy()?;
-    let value = String::from_str(alloc, value)?;
+    let loss = if loses_controls(value) {
+        Loss::Controls
+    } else {
+        Loss::Nothing
+    };
+    let value = with_escapes(alloc, value, form)?;
     let line = named_line(alloc, property, value)?;
     let Some(line) = proper_line(alloc, line)? else {
         return Ok(None);
     };
-    let kind = kind_of(name.as_str(), line.name.as_str(), Loss::Nothing);
+    let kind = kind_of(name.as_str(), line.name.as_str(), loss);
     Ok(Some((line, kind)))
 }
 
@@ -98,8 +112,8 @@ fn media_line(
 ) -> Result<Option<(Line, ChangeKind)>, NoMemory>
     ensures proper { IfOk result (λ made. IfSome made (λ line.
         IsProperLine line.0 × (fits_kind line.1 line.0.name ≡ true))) }
-    ensures value { IfOk result (λ made. IfSome made (λ line. (media : List ℕ) × (line.0.value
-        ≡ codes "data:" ++ media ++ codes ";base64," ++ encode_of standard octets.now))) }
+    ensures value { IfOk result (λ made. IfSome made (λ line.
+        IsUriOf octets.now line.0.value)) }
 {
     let name = property.name.try_copy()?;
     let line = binary_line(alloc, property, octets)?;
@@ -110,8 +124,8 @@ fn media_line(
     Ok(Some((line, kind)))
 }
 
-/// The proper line that a property becomes, with its value in the form of vCard 4.0, and what became
-/// of it. `None` if its line isn't proper.
+/// The proper line that a property becomes, with its value in the form of vCard 4.0, and what
+/// became of it. `None` if its line isn't proper.
 fn rewritten_line(
     alloc: Global,
     property: Property,
@@ -125,7 +139,7 @@ fn rewritten_line(
     decode(alloc, &mut property, octets)?;
     let name = property.name.try_copy()?;
     let had_fraction = is_date_name(name.as_str()) && has_fraction(property.value.as_str());
-    let had_control = has_control(&property);
+    let had_control = is_cleaned(&property);
     let line = line_of(alloc, property, version)?;
     let Some(line) = proper_line(alloc, line)? else {
         return Ok(None);
@@ -141,19 +155,29 @@ fn rewritten_line(
     Ok(Some((line, kind)))
 }
 
-/// What is after the first colon of a text.
-fn value_of(text: &str) -> &str
-    ensures { result.now ≡ value_of text.now }
+/// The proper line that a property becomes whose value is known from its octets, and what became of
+/// it. `None` if its line isn't proper.
+fn known_line(
+    alloc: Global,
+    property: Property,
+    text: &str,
+    octets: &[u8],
+    version: Version,
+) -> Result<Option<(Line, ChangeKind)>, NoMemory>
+    ensures proper { IfOk result (λ made. IfSome made (λ line.
+        IsProperLine line.0 × (fits_kind line.1 line.0.name ≡ true))) }
+    ensures value { text.now ≡ text_of octets.now → IfOk result (λ made. IfSome made (λ line.
+        line.0.value ≡ rewritten_value (value_form version octets.now) (value_text octets.now))) }
+    ensures spells { text.now ≡ text_of octets.now → IfOk result (λ made. IfSome made (λ line.
+        SpellsSame (value_form version octets.now) (value_text octets.now) line.0.value)) }
 {
-    match text.split_once(':') {
-        Some((_, value)) => value,
-        None => "",
-    }
+    let value = value_text(alloc, octets, text)?;
+    line_with_value(alloc, property, value.as_str(), value_form(version, octets))
 }
 
 /// The proper line that the text of these octets becomes as a property, and what became of it. A
-/// value that each version writes alike stays as it is, and so does a picture. `None` if the text is
-/// no property, or its line isn't proper.
+/// value that is known spells the same, and a picture stays. `None` if the text is no property, or
+/// its line isn't proper.
 fn property_line(
     alloc: Global,
     text: &str,
@@ -162,16 +186,16 @@ fn property_line(
 ) -> Result<Option<(Line, ChangeKind)>, NoMemory>
     ensures proper { IfOk result (λ made. IfSome made (λ line.
         IsProperLine line.0 × (fits_kind line.1 line.0.name ≡ true))) }
-    ensures value { (has_same_value text.now || is_some (media_of text.now)) ≡ true
-        → IfOk result (λ made. IfSome made (λ line. HasValueOf text.now line.0.value)) }
+    ensures value { text.now ≡ text_of octets.now → HasKnownValue octets.now
+        → IfOk result (λ made. IfSome made (λ line. HasValueOf version octets.now line.0.value)) }
 {
     let Some(property) = read_property(alloc, text, version)? else {
         return Ok(None);
     };
-    if has_same_value(text) {
-        return line_with_value(alloc, property, value_of(text));
+    if has_known_value(octets) {
+        return known_line(alloc, property, text, octets, version);
     }
-    if let Some(media) = media_of(alloc, text)? {
+    if let Some(media) = media_of(alloc, octets)? {
         return media_line(alloc, property, media.as_slice());
     }
     rewritten_line(alloc, property, octets, version)
@@ -196,10 +220,10 @@ pub fn convert_line(
     ensures stays { (line : Line) → AreLine octets.now line → is_same_in version line ≡ true
         → IfOk result (λ made. made.0 ≡ line) }
 
-    // A value that each version writes alike is in the line, and so is a picture, a sound or a key
-    // in base64; or the line keeps the whole text.
-    ensures keeps { HasSameValue octets.now
-        → IfOk result (λ made. KeepsValue octets.now made.0.value) }
+    // A value that is known is in the line as vCard 4.0 writes it, and so is a picture, a sound or
+    // a key in base64; or the line keeps the whole text.
+    ensures keeps { HasKnownValue octets.now
+        → IfOk result (λ made. KeepsValue version octets.now made.0.value) }
 {
     if let Some(line) = read_same_line(alloc, octets, version)? {
         return Ok((line, ChangeKind::Rewritten));

@@ -6,6 +6,7 @@ use crate::binary::decoded_base64;
 use crate::head::after_head;
 use crate::names::is_binary_name;
 use crate::property::{CharsetParam, Encoding, Property, read_property};
+use crate::value_texts::with_line_feeds;
 use crate::version::Version;
 use import_text::{is_encoded_as, read_charset, read_quoted_printable, read_text};
 use std::alloc::Global;
@@ -17,21 +18,6 @@ fn text_in(alloc: Global, octets: &[u8], charset: CharsetParam) -> Result<String
         CharsetParam::Known(charset) => read_charset(alloc, charset, octets),
         CharsetParam::Utf8 | CharsetParam::Unknown => read_text(alloc, octets),
     }
-}
-
-/// The text with a line feed for each line break: CRLF, and CR or LF alone.
-fn with_line_feeds(alloc: Global, text: &str) -> Result<String, NoMemory> {
-    let mut out = String::new(alloc);
-    let mut is_after_return = false;
-    for c in text.chars() {
-        if c == '\r' {
-            out.push('\n')?;
-        } else if c != '\n' || !is_after_return {
-            out.push(c)?;
-        }
-        is_after_return = c == '\r';
-    }
-    Ok(out)
 }
 
 /// The text that octets encode which were decoded.

@@ -8,6 +8,7 @@ mod conversion;
 mod dates;
 mod decoding;
 mod escapes;
+mod forms;
 mod geo;
 mod head;
 mod kept_texts;
@@ -21,6 +22,7 @@ mod proper_line;
 mod property;
 mod property_line;
 mod same_line;
+mod value_texts;
 mod values;
 mod version;
 

@@ -1,11 +1,10 @@
 //! The line of vCard 4.0 for a property of any version (RFC 6350, section 6 and appendix A).
-ghost use Rattle.std.specs.Prelude.{◌≡◌, ◌++◌, List, ℕ, IfOk, codes, string_bytes};
-ghost use Rattle.base64.specs.Engines.{standard};
-ghost use Rattle.base64.specs.GeneralPurpose.{encode_of};
+ghost use Rattle.std.specs.Prelude.{◌≡◌, IfOk, string_bytes};
+ghost use Rattle.vcard_property.specs.Values.{IsUriOf};
 
 use crate::binary::{data_uri, decoded_base64, is_format};
 use crate::dates::{basic_date, is_date};
-use crate::escapes::{ValueForm, with_escapes};
+use crate::escapes::{TextForm, ValueForm, with_escapes};
 use crate::geo::geo_value;
 use crate::line_parts::{make_param, make_value, with_carets};
 use crate::names::{extension_name, is_one_of};
@@ -41,7 +40,7 @@ const PLAIN_NAMES: [&str; 18] = [
 ];
 
 /// Whether a comma in a value of the name is a part of its text.
-fn escapes_commas(name: &str, version: Version, is_text: bool) -> bool {
+fn commas_are_text(name: &str, version: Version, is_text: bool) -> bool {
     match name {
         "BDAY" | "ANNIVERSARY" => is_text && version != Version::Fourth,
         "FN" | "NOTE" | "TITLE" | "ROLE" | "ORG" => version != Version::Fourth,
@@ -69,13 +68,16 @@ fn says_text(property: &Property) -> bool {
         .any(|param| is_text_param(param))
 }
 
+/// How the value is written.
 fn form_of(name: &str, property: &Property, version: Version) -> ValueForm {
     let is_text = says_text(property);
-    ValueForm {
-        is_plain: property.is_uri || (is_one_of(name, &PLAIN_NAMES) && !is_text),
-        escapes_commas: escapes_commas(name, version, is_text),
-        is_old: version == Version::Old,
+    if property.is_uri || (is_one_of(name, &PLAIN_NAMES) && !is_text) {
+        return ValueForm::Uri;
     }
+    ValueForm::Text(TextForm {
+        commas_are_text: commas_are_text(name, version, is_text),
+        is_old: version == Version::Old,
+    })
 }
 
 /// The value in the form of vCard 4.0.
@@ -199,8 +201,8 @@ fn without_value_type(alloc: Global, params: Items<Param>) -> Result<Items<Param
     Ok(others)
 }
 
-/// Says that the value is a text (RFC 6350, sections 6.2.5 and 6.2.6), if it should be a date and is
-/// none.
+/// Says that the value is a text (RFC 6350, sections 6.2.5 and 6.2.6), if it should be a date and
+/// is none.
 fn mark_text(alloc: Global, property: &mut Property) -> Result<(), NoMemory> {
     if !is_dateless(alloc, property)? {
         return Ok(());
@@ -248,8 +250,7 @@ pub(crate) fn binary_line(
     property: Property,
     octets: &[u8],
 ) -> Result<Line, NoMemory>
-    ensures { IfOk result (λ line. (media : List ℕ) × (line.value
-        ≡ codes "data:" ++ media ++ codes ";base64," ++ encode_of standard octets.now)) }
+    ensures { IfOk result (λ line. IsUriOf octets.now line.value) }
 {
     let mut property = property;
     let name = property.name.try_copy()?;

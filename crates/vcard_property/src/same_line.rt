@@ -1,5 +1,5 @@
 //! Lines that stay as they are, since each version of vCard writes them so.
-ghost use Rattle.std.specs.Prelude.{◌≡◌, ◌↔◌, IfOk, IfSome, IsTrue};
+ghost use Rattle.std.specs.Prelude.{◌≡◌, ◌↔◌, IfOk, IfSome, IsTrue, true};
 ghost use Rattle.vcard_property.specs.SameLines.{has_encoding, is_encoding};
 ghost use Rattle.vcard_text.specs.Cards.{IsProperLine, line_is_named, is_uid};
 ghost use Rattle.vcard_text.specs.Spelling.{has_no_params};
@@ -88,6 +88,7 @@ pub(crate) fn read_same_line(
 ) -> Result<Option<Line>, NoMemory>
     ensures line { IfOk result (λ line. line ≡ same_line version octets.now) }
     ensures spelled { IfOk result (λ line. IfSome line (AreLine octets.now)) }
+    ensures same { IfOk result (λ line. IfSome line (λ line. is_same_in version line ≡ true)) }
     ensures proper { IfOk result (λ line. IfSome line IsProperLine) }
 {
     let Ok(text) = str::from_utf8(octets) else {
@@ -109,6 +110,7 @@ pub fn read_uid_line(
 ) -> Result<Option<Line>, NoMemory>
     ensures line { IfOk result (λ line. line ≡ uid_line version octets.now) }
     ensures spelled { IfOk result (λ line. IfSome line (AreLine octets.now)) }
+    ensures same { IfOk result (λ line. IfSome line (λ line. is_same_in version line ≡ true)) }
     ensures legal { IfOk result (λ line. IfSome line IsUidLine) }
 {
     match read_same_line(alloc, octets, version)? {

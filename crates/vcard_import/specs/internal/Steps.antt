@@ -9,6 +9,7 @@ use Rattle.vcard_text.specs.FirstFaults.{is_group}
 use Rattle.vcard_text.specs.Making.{upper_lines}
 use Rattle.vcard_text.specs.MakingSteps.{check_lines_after}
 use Rattle.vcard_property.specs.SameLines.{AreLine}
+use Rattle.vcard_property.specs.declared.version.Version.{Version}
 use Rattle.vcard_import.specs.Conversions.{BecomeCard}
 use Rattle.vcard_import.specs.Labels.{is_joined}
 use Rattle.vcard_import.specs.LeftOut.{has_left_out}
@@ -53,8 +54,8 @@ pub record IsSeen (seen : Seen) (lines : List Line) : Type 0 where
   pub kind : seen.kind ≡ has_line_named (codes "KIND") lines
 
 -- the logical lines become the lines of `made`, which have no fault, with its changes
-pub record Makes (raws : List RawLine) (made : CardLines) : Type 0 where
-  pub become : BecomeCard raws made.lines made.changes
+pub record Makes (version : Version) (raws : List RawLine) (made : CardLines) : Type 0 where
+  pub become : BecomeCard version raws made.lines made.changes
   pub proper : AllByRecursion IsProperLine made.lines
   pub passed : ArePassed made.lines
   pub seen : IsSeen made.seen made.lines
@@ -66,7 +67,8 @@ has_joined changes = list_any is_joined changes
 -- The logical lines were read after others: they become the lines that were added. The first UID
 -- stays if none of them may be the card's; no line is left out or joined if none may be.
 pub record Extends (reading : Reading) (raws : List RawLine) (start end : CardLines) : Type 0 where
-  pub makes : (before : List RawLine) → Makes before start → Makes (before ++ raws) end
+  pub makes : (before : List RawLine) → Makes reading.version before start
+      → Makes reading.version (before ++ raws) end
   pub uid : reading.takes_uid ≡ false → found_uid end.lines ≡ found_uid start.lines
   pub members : reading.keeps_members ≡ false → has_line_named (codes "MEMBER") start.lines ≡ false
       → has_line_named (codes "MEMBER") end.lines ≡ false

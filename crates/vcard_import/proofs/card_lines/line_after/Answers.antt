@@ -8,6 +8,6 @@ returns-then-not-breaks_rule-clause-keeps c = λ same. inl (c.in_ok-line.ensures
 
 pub returns-clause-keeps : goal.returns-clause-keeps
 returns-clause-keeps c = λ same.
-    inl (subst (KeepsValue c.args.octets.now)
+    inl (subst (KeepsValue c.args.reading.version c.args.octets.now)
     (ap (λ (line : Line). line.value) (sym c.in_ok-extension_line.ensures.line))
     (c.in_ok-line.ensures.keeps same))

@@ -29,12 +29,15 @@ made : (c : goal.In_ok-push_raws) → WithUid (takes c.args.reading) c.args.raws
 made c = with_uid (others c.args.reading) (takes c.args.reading) c.args.raws.now c.args.uid.index
     c.index-raws-index.result c.args.uid.line
     c.new-made.result c.push_raws.new.self c.push.new.self c.push_raws-2.new.self
-    refl refl refl refl refl c.requires.within c.index-raws-index.is c.requires.legal
-    c.new-made.ensures.makes c.new-made.ensures.uid c.new-made.ensures.members
+    refl refl refl refl refl refl c.requires.within c.index-raws-index.is c.requires.legal
+    (c.new-made.ensures.makes c.args.reading.version) c.new-made.ensures.uid
+    c.new-made.ensures.members
     c.new-made.ensures.whole c.new-made.ensures.unjoined
-    (search rules) (λ p b. c.in_ok-push.ensures.extends (takes c.args.reading) p refl b (λ _. inl (inl (record {
+    (search rules) (λ p b. c.in_ok-push.ensures.extends (takes c.args.reading) p refl b (λ _. inl
+    (inl (record {
       line = c.args.uid.line;
       spelled = c.requires.spelled c.index-raws-index.result c.index-raws-index.is;
+      same = c.requires.same;
       value_is = refl;
     }))))
     c.in_ok-push.ensures.lines

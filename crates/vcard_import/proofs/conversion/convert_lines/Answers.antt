@@ -21,9 +21,12 @@ changes_are c = search rules
 raws_are : (c : goal.After-drop-raws-2) → c.in_ok-raws.raws.items ≡ card_raw_lines c.args.octets.now
 raws_are c = c.in_ok-raws.ensures.lines
 
-made : (c : goal.After-drop-raws-2) → Makes (card_raw_lines c.args.octets.now) c.in_ok-lines.field-0
-made c = subst (λ raws. Makes raws c.in_ok-lines.field-0) (c.as_slice.ensures.value
-    ∙ raws_are c) c.in_ok-lines.ensures.makes
+made : (c : goal.After-drop-raws-2) → Makes (version_of c.args.octets.now)
+    (card_raw_lines c.args.octets.now) c.in_ok-lines.field-0
+made c = subst (λ version. Makes version (card_raw_lines c.args.octets.now) c.in_ok-lines.field-0)
+    c.version_of-version.ensures
+    (subst (λ raws. Makes c.version_of-version.result raws c.in_ok-lines.field-0)
+    (c.as_slice.ensures.value ∙ raws_are c) c.in_ok-lines.ensures.makes)
 
 pub returns-clause-converted : goal.returns-clause-converted
 returns-clause-converted c = record {

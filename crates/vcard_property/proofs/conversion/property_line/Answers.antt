@@ -1,38 +1,40 @@
-use Rattle.std.proofs.Common.{◌≡◌, ◌∙◌, ◌++◌, ◌||◌, ℕ, List, rules, true, false, true≢false, codes}
+use Rattle.std.proofs.Common.{◌≡◌, ◌∙◌, ◌||◌, rules, true, false, true≢false}
 use Rattle.std.proofs.Common.{None, Some, ap, sym, refl, inl, inr}
 use Rattle.std.specs.Option.{is_some, option_map}
-use Rattle.base64.specs.Engines.{standard}
-use Rattle.base64.specs.GeneralPurpose.{encode_of}
-use Rattle.vcard_property.specs.Values.{HasValueOf, has_same_value, media_of}
-use Rattle.vcard_property.proofs.TextLemmas.{relaxed}
+use Rattle.vcard_property.specs.Escapes.{SpellsSame, rewritten_value}
+use Rattle.vcard_property.specs.Forms.{value_form}
+use Rattle.vcard_property.specs.ValueTexts.{value_text}
+use Rattle.vcard_property.specs.Values.{HasValueOf, IsUriOf, has_known_value, media_of}
+use Rattle.vcard_property.proofs.TextLemmas.{relaxed, relaxed_both}
 use Rattle.vcard_property.proofs.conversion.property_line.Goals as goal
 
-pub returns-then-has_same_value-clause-value : goal.returns-then-has_same_value-clause-value
-returns-then-has_same_value-clause-value c = λ _.
-    let same : has_same_value c.args.text.now ≡ true = search rules in
-    relaxed (λ line. line.0.value ≡ c.value_of.result.now)
-    (λ line. HasValueOf c.args.text.now line.0.value) c.line_with_value.result
-    (λ line value. inl (same, value ∙ c.value_of.ensures)) c.line_with_value.ensures.value
+pub returns-then-has_known_value-clause-value : goal.returns-then-has_known_value-clause-value
+returns-then-has_known_value-clause-value c = λ text _.
+    let known : has_known_value c.args.octets.now ≡ true = search rules in
+    let form = value_form c.args.version c.args.octets.now in
+    relaxed_both (λ line. line.0.value ≡ rewritten_value form (value_text c.args.octets.now))
+    (λ line. SpellsSame form (value_text c.args.octets.now) line.0.value)
+    (λ line. HasValueOf c.args.version c.args.octets.now line.0.value) c.known_line.result
+    (λ line value spells. inl (record { known = known; value_is = value; spells = spells }))
+    (c.known_line.ensures.value text) (c.known_line.ensures.spells text)
 
 pub returns-in-Some-2-clause-value : goal.returns-in-Some-2-clause-value
-returns-in-Some-2-clause-value c = λ _.
-    let found : media_of c.args.text.now ≡ Some c.as_slice.result.now = search rules in
-    relaxed (λ line. (media : List ℕ) × (line.0.value ≡ codes "data:" ++ media ++ codes ";base64,"
-    ++ encode_of standard c.as_slice.result.now))
-    (λ line. HasValueOf c.args.text.now line.0.value) c.media_line.result
+returns-in-Some-2-clause-value c = λ _ _.
+    let found : media_of c.args.octets.now ≡ Some c.as_slice.result.now = search rules in
+    relaxed (λ line. IsUriOf c.as_slice.result.now line.0.value)
+    (λ line. HasValueOf c.args.version c.args.octets.now line.0.value) c.media_line.result
     (λ line uri. inr (record {
       media = c.as_slice.result.now;
       found = found;
-      media_type = uri.0;
-      value_is = uri.1;
+      uri = uri;
     })) c.media_line.ensures.value
 
 pub returns-clause-value : goal.returns-clause-value
-returns-clause-value c = λ known.
-    let other : has_same_value c.args.text.now ≡ false = search rules in
+returns-clause-value c = λ _ known.
+    let other : has_known_value c.args.octets.now ≡ false = search rules in
     let absent : c.in_ok-media.field-0 ≡ None = search rules in
-    let none : media_of c.args.text.now ≡ None =
+    let none : media_of c.args.octets.now ≡ None =
     sym c.in_ok-media.ensures ∙ ap (option_map (λ octets. octets.items)) absent in
-    let neither : (has_same_value c.args.text.now || is_some (media_of c.args.text.now)) ≡ false =
-    rw (other, none) refl in
+    let neither : (has_known_value c.args.octets.now || is_some (media_of c.args.octets.now))
+    ≡ false = rw (other, none) refl in
     absurd (true≢false (sym known ∙ neither))

@@ -17,7 +17,8 @@ returns-clause-extends c = λ reading proper kind allowed keeps.
           rw (c.in_ok-push-2.ensures.ok, w.self-is, w.in_ok-push.ensures.ok)
           (pushed reading c.args.raw.now c.args.self.now _ c.args.line (search rules) (search rules)
           (search rules)
-          (λ before b. changed before c.args.raw.now c.args.self.now.lines c.args.self.now.changes
+          (λ before b. changed reading.version before c.args.raw.now c.args.self.now.lines
+          c.args.self.now.changes
           c.args.line (record { place = c.args.raw.now.place; kind = c.args.kind }) differs
           (λ _. c.args.raw.now.place) kind keeps b) proper allowed
           (none_more is_left_out c.args.self.now.changes (record {
@@ -33,6 +34,7 @@ returns-clause-extends c = λ reading proper kind allowed keeps.
           rw (c.in_ok-push-2.ensures.ok, w.self-is)
           (pushed reading c.args.raw.now c.args.self.now _ c.args.line (search rules) (search rules)
           (search rules)
-          (λ before b. kept before c.args.raw.now c.args.self.now.lines c.args.self.now.changes
+          (λ before b. kept reading.version before c.args.raw.now c.args.self.now.lines
+          c.args.self.now.changes
           c.args.line same b) proper allowed (λ none. none) (λ none. none))
     ]
