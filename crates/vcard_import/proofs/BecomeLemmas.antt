@@ -28,27 +28,27 @@ more version (first ∷ raws) raw line change last card changes (inr (inl k)) = 
 }))
 more version (first ∷ raws) raw line change last card changes (inr (inr (inr g))) =
     inr (inr (inr (record {
-  change = g.change;
-  more = g.more ++ change;
-  changes_are = ap (λ c. c ++ change) g.changes_are;
-  place = g.place;
-  may_go = g.may_go;
-  rest = more version raws raw line change last card g.more g.rest;
-})))
+      change = g.change;
+      more = g.more ++ change;
+      changes_are = ap (λ c. c ++ change) g.changes_are;
+      place = g.place;
+      may_go = g.may_go;
+      rest = more version raws raw line change last card g.more g.rest;
+    })))
 more version (first ∷ raws) raw line change last card changes (inr (inr (inl k))) =
     inr (inr (inl (record {
-  line = k.line;
-  others = k.others ++ line;
-  card_is = ap (λ c. c ++ line) k.card_is;
-  differs = k.differs;
-  change = k.change;
-  more = k.more ++ change;
-  changes_are = ap (λ c. c ++ change) k.changes_are;
-  place = k.place;
-  kind = k.kind;
-  keeps = k.keeps;
-  rest = more version raws raw line change last k.others k.more k.rest;
-})))
+      line = k.line;
+      others = k.others ++ line;
+      card_is = ap (λ c. c ++ line) k.card_is;
+      differs = k.differs;
+      change = k.change;
+      more = k.more ++ change;
+      changes_are = ap (λ c. c ++ change) k.changes_are;
+      place = k.place;
+      kind = k.kind;
+      keeps = k.keeps;
+      rest = more version raws raw line change last k.others k.more k.rest;
+    })))
 
 pub left_out : (version : Version) (raws : List RawLine) (raw : RawLine) (card : List Line)
     (changes : List Change)
