@@ -19,7 +19,7 @@ use vcard_text::NoMemory;
 pub enum Listing {
     /// A line for each book.
     Books,
-    /// The same, and at the end the number of books.
+    /// A line for each book, and at the end the number of books.
     Verified,
 }
 

@@ -151,7 +151,8 @@ fn run_guarded<S: BookStore + Drop, P: Endpoint, L, M: Host<S, P, L>, W: Output>
     serve_at(alloc, host, handler, address, limits, is_logged, writer)
 }
 
-/// The same with a site beside the service.
+/// Serves the books in the file and the site beside them, with the host's front before both, at the
+/// address behind a guard of a server with these names. The store is opened or created first.
 fn run_site<S: BookStore + Drop, P: Endpoint, L, M: Host<S, P, L>, W: Output>(
     alloc: Global,
     host: &mut M,
@@ -180,7 +181,8 @@ fn run_site<S: BookStore + Drop, P: Endpoint, L, M: Host<S, P, L>, W: Output>(
     serve_at(alloc, host, handler, address, limits, is_logged, writer)
 }
 
-/// The same with the site of a folder, whose files are read first.
+/// Serves the books in the file and the site of a folder, as `run_site` does. The files of the
+/// folder are read first.
 fn run_folder<S: BookStore + Drop, P: Endpoint, L, M: Host<S, P, L>, W: Output>(
     alloc: Global,
     host: &mut M,

@@ -10,7 +10,7 @@ use std::alloc::Global;
 use store_schema::OpenFault;
 use sync_core::{Fault, Refusal};
 
-/// The same order with its files exchanged, for a stop that is about the other one.
+/// The names of an order with its files exchanged, for a stop that is about the other file.
 fn about_other(names: OrderNames) -> OrderNames {
     let OrderNames {
         kind,

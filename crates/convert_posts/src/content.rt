@@ -31,7 +31,7 @@ const ENTRIES_MAX: u64 = 256;
 /// The most times that a name of a column is compared with one of which something is said.
 const COMPARED_MAX: u64 = 65_536;
 
-/// The same for names that both aren't of ASCII, whose case costs more.
+/// The most times that two names are compared that both aren't of ASCII, whose case costs more.
 const WIDE_COMPARED_MAX: u64 = 3_000;
 
 /// Why a later part of a file without a header isn't converted: by its own rows it may be cut into

@@ -82,7 +82,7 @@ fn keep_both(rt: &HostRuntime, file: &str, name: &str, names: &mut Vec<Text>) ->
     keep_log(rt, file, name, names)
 }
 
-/// The same. Returns the names that were used.
+/// Keeps the file and its log under this name, and returns the names that were used.
 fn keep_as(rt: &HostRuntime, file: &str, name: &str) -> Result<Items<Text>, Stop> {
     let mut names = Vec::new(rt.alloc());
     keep_both(rt, file, name, &mut names)?;

@@ -29,7 +29,7 @@ fn make_if_missing<S: BookStore>(
     }
 }
 
-/// The same for the book with this id.
+/// Creates the book with this id if the store hasn't got it, and adds its name then.
 fn make_with_id<S: BookStore>(
     alloc: Global,
     store: &mut S,
@@ -59,7 +59,7 @@ fn make_all<S: BookStore>(
     Ok(())
 }
 
-/// The same. Returns their names.
+/// Creates each of these books that the store hasn't, the oldest first, and returns their names.
 fn make_missing<S: BookStore>(
     alloc: Global,
     store: &mut S,

@@ -123,7 +123,7 @@ fn fresh_name(rt: &HostRuntime, backup: &str, file: &str) -> Result<String, NoMe
     Ok(first)
 }
 
-/// The same. After an error it removes what was made to be held.
+/// Makes the new file as `make_like_old` does. After an error it removes what was made to be held.
 fn make_or_forget<S: AdminStore + Drop, F: StoreFiles<S>>(
     rt: &HostRuntime,
     stores: &F,

@@ -24,7 +24,7 @@ pub(crate) enum Spelling {
     Place,
     /// A value of a parameter, with the escapes of RFC 6868, that stays one.
     Param,
-    /// The same, which becomes the value of a property.
+    /// A value of a parameter, with the escapes of RFC 6868, that becomes the value of a property.
     Label,
 }
 

@@ -322,8 +322,8 @@ fn lines_named(
     read_lines(alloc, raws, reading, false, name, labels)
 }
 
-/// The same. The name that an empty FN gets is known only when all lines are read, so a card that
-/// has no other FN is read again.
+/// The lines that the logical lines of a card become, and the changes, where an empty FN gets a
+/// name. That is known only when all lines are read, so a card that has no other FN is read again.
 fn lines_with_name(
     alloc: Global,
     raws: &[RawLine],
@@ -362,7 +362,8 @@ fn reading_of(version: Version, leaves_out: bool, joins: bool) -> Reading
     }
 }
 
-/// The same. If an address can't have its label, no label is joined.
+/// The lines that the logical lines of a card become, and the changes, where labels are joined to
+/// their addresses. If an address can't have its label, no label is joined.
 pub(crate) fn lines_of_card(
     alloc: Global,
     raws: &[RawLine],

@@ -97,7 +97,7 @@ fn name_of_lines(alloc: Global, lines: &[Line]) -> Result<String, NoMemory> {
     Ok(String::new(alloc))
 }
 
-/// The same as a value.
+/// The formatted name of a card without FN, as a value: its escapes are those of vCard 4.0.
 pub(crate) fn name_value(alloc: Global, lines: &[Line]) -> Result<String, NoMemory>
     ensures { IfOk result (λ name. AllInClass is_permitted (string_bytes name)) }
 {

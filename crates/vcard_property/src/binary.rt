@@ -40,7 +40,7 @@ pub(crate) fn decoded_octets(alloc: Global, text: &[u8]) -> Result<Option<Vec<u8
     }
 }
 
-/// The same of a text in UTF-8.
+/// The octets that the base64 of a text encodes. `None` if it is no base64.
 pub(crate) fn decoded_base64(alloc: Global, text: &str) -> Result<Option<Vec<u8>>, NoMemory>
     ensures { IfOk result (λ decoded.
         option_map (λ octets. octets.items) decoded ≡ base64_octets text.now) }
@@ -69,7 +69,7 @@ fn media_type(name: &str, word: &str) -> Option<&'static str>
     }
 }
 
-/// The same for a word that may be a whole media type, as image/jpeg.
+/// The media type for a word of TYPE, which may be a whole media type, as image/jpeg.
 fn media_type_of(name: &str, word: &str) -> Option<&'static str>
     ensures { IfSome result (λ media_type. has_octet comma media_type.now ≡ false) }
 {

@@ -8,9 +8,9 @@ pub enum ChangeKind {
     /// It is the same property in the form of vCard 4.0: its encoding, its escapes, its parameters
     /// or its value were rewritten.
     Rewritten,
-    /// The same, but a part of the value is lost: vCard 4.0 has no fraction of a second.
+    /// It was rewritten, and a part of the value is lost: vCard 4.0 has no fraction of a second.
     Shortened,
-    /// The same, but control characters of the value became spaces, or were dropped.
+    /// It was rewritten, and control characters of the value became spaces, or were dropped.
     Cleaned,
     /// vCard 4.0 has the property under another name.
     Renamed,

@@ -211,7 +211,7 @@ fn is_path(text: &str) -> bool
     text.as_bytes().starts_with(b"\\\\") || begins_with_drive(text.as_bytes())
 }
 
-/// The same for the path of a file, in which each backslash is one of the text.
+/// The value of vCard 4.0 for the path of a file, in which each backslash is one of the text.
 fn path_value(alloc: Global, value: &str, form: TextForm) -> Result<String, NoMemory>
     ensures { IfOk result (λ new. string_bytes new
         ≡ encode_utf8_all (flat_map unit_chars (flat_map (plain_units form) (chars value.now)))) }

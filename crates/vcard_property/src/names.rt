@@ -34,7 +34,7 @@ pub(crate) fn legal_name(alloc: Global, name: &str) -> Result<Option<Text>, NoMe
     Ok(Some(Text::new(legal)))
 }
 
-/// The same in upper case.
+/// The name as `legal_name` makes it, in upper case. `None` if it is empty.
 pub(crate) fn upper_name(alloc: Global, name: &str) -> Result<Option<Text>, NoMemory> {
     let Some(name) = legal_name(alloc, name)? else {
         return Ok(None);

@@ -82,8 +82,8 @@ fn read_value(alloc: Global, part: &str) -> Result<ParamValue, NoMemory> {
     }
 }
 
-/// The same as vCard 4.0 writes it. In an older version a caret is a character like any other; in
-/// vCard 4.0 it begins an escape (RFC 6868).
+/// A value without its quotes, as vCard 4.0 writes it. In an older version a caret is a character
+/// like any other; in vCard 4.0 it begins an escape (RFC 6868).
 fn read_value_of(alloc: Global, part: &str, version: Version) -> Result<ParamValue, NoMemory> {
     if version == Version::Fourth {
         return read_value(alloc, part);

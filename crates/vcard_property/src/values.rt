@@ -55,7 +55,8 @@ fn is_named_as_other(line: &[u8]) -> bool
         .any(|name| has_other_form(name))
 }
 
-/// The same for names whose values may need backslashes before commas.
+/// Whether the name of a line, or its group, is one whose values may need backslashes before
+/// commas.
 fn is_named_as_text(line: &[u8]) -> bool
     ensures { result ≡ is_named_so may_lack_backslash line.now }
 {
