@@ -12,6 +12,16 @@
 //!
 //! Each law of a hub assumes that the store matches the state before, and that its premise holds
 //! afterwards.
+//!
+//! A run of the service is a list of commands from a state of the books, each with its reply and
+//! the state after it: those of the command's call, or a fault, which changes nothing. A request is
+//! one command of the run; or none, if no command is read from it, and then its reply says why. A
+//! store matches a state if it has the state's limits, and the rows of its histories.
+//!
+//! A guard refuses a request without a Host or with one that doesn't name the server, and one that
+//! may change a book if a page of another site sends it or if it has a precondition (`guard`). A
+//! request is for a file of the site by its target; the site's reply is the file, or 405 if the
+//! method isn't GET (`site_reply`).
 ghost use Rattle.book_http.specs.OctetPromise.{ServiceStep};
 ghost use Rattle.book_http.specs.ServedFronts.{FrontedSiteStep, FrontedSitesAreOneRun};
 ghost use Rattle.book_http.specs.ServedFronts.{FrontedStep, ServedFrontsAreOneRun};

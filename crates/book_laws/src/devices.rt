@@ -129,8 +129,9 @@ pub fn quiet_books_sync_fully()
     ensures devices { QuietDevicesCatchUp }
 {}
 
-/// A consistent device stays consistent after any list of calls, on its own book and on others,
-/// whatever the limits (`specs/RunLaws.antt`).
+/// A consistent device stays consistent after any list of the thirteen calls of a store (`Call`),
+/// on its own book and on others, whatever the limits. A refused call changes nothing
+/// (`specs/RunLaws.antt`).
 pub fn devices_stay_consistent_over_calls()
     ensures { CallsKeepDevicesConsistent }
 {}

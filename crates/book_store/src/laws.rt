@@ -1,4 +1,13 @@
 //! Laws of stores over tables.
+//!
+//! The rows of well-formed books (`AreWellFormed`) can be read: no number is negative, each UID is
+//! legal, and the text of each card is canonical. They don't contradict each other: ids and names
+//! of books are unique, so are UIDs and keys in a book, and each row belongs to a book. And they
+//! keep the invariants of every store (`IsWellFormed`): names and keys are legal, and the ids of n
+//! books are 1 to n; in a book the counts add up to its number and to its live cards, no horizon
+//! and no number of a row or an import is above that number, no two rows have the same number,
+//! tombstones are above the horizon, and a live card is under its own UID; and the limits of books,
+//! changes and tombstones are kept.
 ghost use Rattle.book_model.specs.Books.{Books};
 ghost use Rattle.book_model.specs.Bounds.{Bounds};
 ghost use Rattle.book_resync.specs.ResyncLaws.{HasLegalCards};
@@ -18,9 +27,9 @@ use sqlite::Alter;
 use vcard_text::laws::{card_is_computed, spelled_is_card};
 
 /// The rows of well-formed books cause no fault in a call that reads, if the limits allow fewer
-/// than 2^63 books, fewer than 2^63 changes of each, and fewer than 2^63 - 1 of all together. The
-/// rows of well-formed books can be read, don't contradict each other, and keep the invariants of
-/// every store. A fault may still come from outside, or for lack of memory.
+/// than 2^63 books, fewer than 2^63 changes of each, and fewer than 2^63 - 1 of all together
+/// (`AreFaultless`, which the clauses of those calls ask for). A fault may still come from outside,
+/// or for lack of memory.
 pub fn well_formed_rows_cause_no_fault()
     ensures { (limits : Bounds) (rows : TableRows)
         → limits.books_max * limits.changes_max < 9223372036854775807
@@ -29,10 +38,8 @@ pub fn well_formed_rows_cause_no_fault()
 {}
 
 /// The rows of well-formed books accept changes, if the limits allow fewer than 2^63 - 1 books,
-/// fewer than 2^63 changes of each, and fewer than 2^63 - 1 of all together. The rows of
-/// well-formed books can be read, don't contradict each other, and keep the invariants of every
-/// store. A change of such rows fails with `Store` only from outside, while SQLite has ids for new
-/// rows (`HaveFreeIds`).
+/// fewer than 2^63 changes of each, and fewer than 2^63 - 1 of all together. A change of such rows
+/// fails with `Store` only from outside, while the engine has ids for new rows (`HaveFreeIds`).
 pub fn well_formed_rows_accept_changes()
     ensures { (limits : Bounds) (rows : TableRows)
         → limits.books_max * limits.changes_max < 9223372036854775807

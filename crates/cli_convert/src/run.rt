@@ -1,4 +1,10 @@
 //! Runs the order.
+//!
+//! The text of a file is cut into pieces: cards, other texts, and white space. A table has a row
+//! for each contact. The fate of a piece or a row is what became of it (`Fate` and `RowFate` of
+//! `card_conversion`): its card was written, which is called carried; or it is white space, or a
+//! row without a value; or it has the UID of an earlier card, which it repeats; or it is refused.
+//! The summary counts the written ones, those of them that were changed, and the refused ones.
 ghost use Rattle.std.specs.Prelude.{◌≡◌, ◌⊎◌, ◌+◌, ◌<◌, IfOk, IsTrue, is_some, length};
 ghost use Rattle.cli_convert.specs.Endings.{EndsConversion, Prints, prints_rows};
 
@@ -231,13 +237,13 @@ fn convert<F: Files, W: Write, E: Write>(
 
 /// Converts the cards or the contacts of files, in order. Writes their cards as rows to standard
 /// output, as rows to files, or as one file for each card; and the report to `errors`, and to a new
-/// file if one is wanted. Nothing is written before each file was opened, and it is known what it
-/// has.
+/// file if one is wanted.
 ///
 /// Returns the exit status of the program: 0 if all was carried, 1 if something wasn't, or a photo
 /// that was to be written beside its card, and 3 if the conversion stopped: a file, a folder,
-/// standard output or standard error can't be used, or there is no memory. What becomes of files, a
-/// folder and standard error is only tested.
+/// standard output or standard error can't be used, or there is no memory. It is only tested what
+/// becomes of files, a folder and standard error, and of standard output if the conversion stopped,
+/// and that nothing is written before each file was opened.
 pub fn run_convert<F: Files, W: Write, E: Write + Drop>(
     alloc: Global,
     files: &F,
@@ -251,8 +257,9 @@ pub fn run_convert<F: Files, W: Write, E: Write + Drop>(
     // that was carried, and nothing else. They are read back as these cards, of which no two have
     // one UID. The cards are those of as many lists of pieces or rows as files are given, and each
     // piece or row has its fate after all before it; no clause says that these are the files' own.
-    // The status is that of the summary of the fates. With `photos` it may also be 1 where that
-    // says 0: no clause says when a photo is lost.
+    // The status is 0 if the summary counts none as refused, and otherwise 1. With `photos` it may
+    // also be 1 where that says 0: no clause says when a photo is lost. That a row which counts as
+    // a repeat is the same contact as the earlier one is only tested.
     ensures printed { result < 3 → IsTrue (prints_rows wanted.entry)
         → EndsConversion (is_some wanted.entry.photos) (length wanted.entry.more.now + 1)
         (W.contents rows.old.writer) (W.contents rows.new.writer) result }

@@ -101,9 +101,9 @@ pub fn write_report(alloc: Global, page: &Page) -> Result<Vec<u8>, NoMemory>
     ensures text { IfOk result (λ text. text.items ≡ report_text page.now) }
 
     // The text of a well-formed page is read back as the same page. In such a page each card is
-    // under its own UID, the versions and the numbers of the token are within bounds, and the
-    // token's mark is in order. The pages of reports of well-formed books are such
-    // (`report_pages_are_well_formed`).
+    // under its own UID, and has a version above 0 and below 10^13; the token's book, `at` and
+    // `base` are below 10^13, and `at` is at most `base`. The pages of reports of well-formed books
+    // are such (`report_pages_are_well_formed`).
     ensures read_back { IfOk result
         (λ text. IsWellFormedPage page.now → IsTextOfPage text.items page.now) }
 {

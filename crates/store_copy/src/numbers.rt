@@ -52,7 +52,8 @@ fn pairs_above(number: u64) -> u64
 }
 
 /// The number of pairs of a resync after which each book's number is above the numbers that the
-/// books have now; at least 1.
+/// books have now; at least 1. A book's number is the number of its changes. A pair is two of them:
+/// it creates a card and removes it, or the other way round.
 pub fn restarting_pairs(rows: &StoredRows) -> u64
     // A pair takes two numbers: each book's number is below what the pairs take. A negative one
     // counts as 0.

@@ -227,10 +227,11 @@ pub fn fault_of_leftover<S: Start>(alloc: Global, left: &mut Leftover<FileFrom<S
 /// opens, since they hold no database. `left` is what is left of them: a store in it is rolled back
 /// and read.
 ///
-/// If no store was opened over the files, the fault is `NotOurs`. Otherwise it is the fault of
-/// `check_first_schema` for the tables in them, also `NotOurs` if they list no schema, and
-/// `Damaged` if the tables pass: then rows break the declarations. Any call may instead return
-/// `Memory` when out of memory, or `Store` on another error of the database.
+/// If no store was opened over the files, the fault is `NotOurs`. Otherwise it says what the tables
+/// in them are: `Damaged` if they are those of schema 1 with the schema number 1, as rows then
+/// break the declarations; `OtherSchema` if they are those of schema 1 or 2 with another number
+/// than 1; and else `NotOurs`, as where no schema is listed. Any call may instead return `Memory`
+/// when out of memory, or `Store` on another error of the database.
 pub fn fault_of_first_leftover<S: Start>(
     alloc: Global,
     left: &mut Leftover<FileFrom<S>>,
