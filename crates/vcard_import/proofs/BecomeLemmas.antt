@@ -24,6 +24,7 @@ more version (first ∷ raws) raw line change last card changes (inr (inl k)) = 
   others = k.others ++ line;
   card_is = ap (λ c. c ++ line) k.card_is;
   same = k.same;
+  keeps = k.keeps;
   rest = more version raws raw line change last k.others changes k.rest;
 }))
 more version (first ∷ raws) raw line change last card changes (inr (inr (inr g))) =
@@ -60,15 +61,17 @@ left_out version raws raw card changes d b =
     (more version raws raw [] [] (inl (d, (refl, refl))) card changes b))
 
 pub kept : (version : Version) (raws : List RawLine) (raw : RawLine) (card : List Line)
-    (changes : List Change) (line : Line) → AreLine raw.octets line → BecomeCard version raws card changes
+    (changes : List Change) (line : Line) → AreLine raw.octets line
+    → KeepsKnownValue version raw.octets line → BecomeCard version raws card changes
     → BecomeCard version (raws ++ raw ∷ []) (card ++ line ∷ []) changes
-kept version raws raw card changes line same b =
+kept version raws raw card changes line same keeps b =
     subst (λ c. BecomeCard version (raws ++ raw ∷ []) (card ++ line ∷ []) c) (append-nil changes)
     (more version raws raw (line ∷ []) [] (inr (inl (record {
       line = line;
       others = [];
       card_is = refl;
       same = same;
+      keeps = keeps;
       rest = (refl, refl);
     }))) card changes b)
 

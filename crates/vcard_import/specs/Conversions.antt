@@ -33,14 +33,6 @@ has_encodings lines = list_any has_encoding lines
 
 -- ---- the logical lines
 
--- The first line of the card is the one that the octets spell. The rest holds for the other lines.
-pub record IsKept (octets : List ℕ) (Rest : List Line → Type 0) (card : List Line) : Type 0 where
-  pub line : Line
-  pub others : List Line
-  pub card_is : card ≡ line ∷ others
-  pub same : AreLine octets line
-  pub rest : Rest others
-
 -- what the octets hold is a value of nothing but white space
 pub record IsBlank (version : Version) (octets : List ℕ) : Type 0 where
   pub value : List ℕ
@@ -53,6 +45,17 @@ pub record IsBlank (version : Version) (octets : List ℕ) : Type 0 where
 abbrev pub KeepsKnownValue : Version → List ℕ → Line → Type 0
 KeepsKnownValue version octets line =
     HasKnownValue octets → KeepsValue version octets line.value ⊎ IsBlank version octets
+
+-- The first line of the card is the one that the octets spell, with the value that they have. The
+-- rest holds for the other lines.
+pub record IsKept (version : Version) (octets : List ℕ) (Rest : List Line → Type 0)
+    (card : List Line) : Type 0 where
+  pub line : Line
+  pub others : List Line
+  pub card_is : card ≡ line ∷ others
+  pub same : AreLine octets line
+  pub keeps : KeepsKnownValue version octets line
+  pub rest : Rest others
 
 -- The first line of the card isn't what the octets of the logical line spell, and the first change
 -- is at the place of that logical line, of a kind that fits the line. A value that is known is
@@ -89,7 +92,7 @@ abbrev pub BecomeCard : Version → List RawLine → List Line → List Change �
 BecomeCard version [] card changes = (card ≡ []) × (changes ≡ [])
 BecomeCard version (raw ∷ raws) card changes =
     ((is_delimiter raw.octets ≡ true) × BecomeCard version raws card changes)
-    ⊎ (IsKept raw.octets (λ others. BecomeCard version raws others changes) card
+    ⊎ (IsKept version raw.octets (λ others. BecomeCard version raws others changes) card
     ⊎ (IsChanged version raw (λ others more. BecomeCard version raws others more) card changes
     ⊎ IsGone raw (λ more. BecomeCard version raws card more) changes))
 

@@ -8,7 +8,7 @@ use Rattle.std.specs.Option.{is_some}
 use Rattle.std.specs.Str.{str_eq_ignore_ascii_case}
 use Rattle.base64.specs.Engines.{standard}
 use Rattle.base64.specs.GeneralPurpose.{encode_of}
-use Rattle.base_types.specs.Octets.{backslash, comma, dot, quote, semicolon}
+use Rattle.base_types.specs.Octets.{backslash, colon, comma, dot, quote, semicolon}
 use Rattle.import_text.specs.Encodings.{text_of}
 use Rattle.import_text.specs.RawLines.{head}
 use Rattle.vcard_lines.specs.Grammar.{is_name_octet}
@@ -61,13 +61,13 @@ has_plain_value line = not (says names_quoted line) && not (has_octet backslash 
 
 -- ---- the line
 
--- The name is made of letters, digits and hyphens, and is none of those whose values have another
--- form in vCard 4.0. The head has no double quote. How the value is encoded is clear. Its form is
--- clear too, or no character of it is escaped.
+-- The line has a colon. The name is made of letters, digits and hyphens, and is none of those
+-- whose values have another form in vCard 4.0. The head has no double quote. How the value is
+-- encoded is clear. Its form is clear too, or no character of it is escaped.
 abbrev pub has_known_value : List ℕ → Bool
-has_known_value line = is_plain_name (written_name line) && not (is_named_so has_other_form line)
-    && not (has_octet quote (head line)) && has_clear_encoding line
-    && (has_clear_form line || has_plain_value line)
+has_known_value line = has_octet colon line && is_plain_name (written_name line)
+    && not (is_named_so has_other_form line) && not (has_octet quote (head line))
+    && has_clear_encoding line && (has_clear_form line || has_plain_value line)
 
 -- ---- pictures
 

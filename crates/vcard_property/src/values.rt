@@ -80,7 +80,8 @@ fn has_plain_value(line: &[u8]) -> bool
 pub(crate) fn has_known_value(line: &[u8]) -> bool
     ensures { result ≡ has_known_value line.now }
 {
-    is_plain_name(written_name(line))
+    has_octet(line, b':')
+        && is_plain_name(written_name(line))
         && !is_named_as_other(line)
         && !has_octet(head(line), b'"')
         && has_clear_encoding(line)

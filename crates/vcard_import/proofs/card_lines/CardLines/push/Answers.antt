@@ -36,5 +36,5 @@ returns-clause-extends c = λ reading proper kind allowed keeps.
           (search rules)
           (λ before b. kept reading.version before c.args.raw.now c.args.self.now.lines
           c.args.self.now.changes
-          c.args.line same b) proper allowed (λ none. none) (λ none. none))
+          c.args.line same keeps b) proper allowed (λ none. none) (λ none. none))
     ]
