@@ -2,16 +2,18 @@
 use Rattle.std.proofs.Common.{◌≡◌, ◌↔◌, List, ℕ, find, Option, Some, None, Ok, refl, sym, ap, subst}
 use Rattle.std.proofs.Common.{◌∙◌, IfSome}
 use Rattle.std.specs.Option.{option_map, option_and_then}
+use Rattle.sqlite.specs.Effect.{Database}
 use Rattle.sqlite.specs.Recovery.{Image}
 use Rattle.book_model.specs.Books.{Books, live_at, stored_in_row}
 use Rattle.book_model.specs.declared.answers.Stored.{Stored}
 use Rattle.book_model.proofs.BasicLemmas.{same_Some_at}
 use Rattle.book_resync.specs.ResyncLaws.{HasLegalCards}
+use Rattle.store_check.specs.OpenResults.{max_limits}
 use Rattle.store_rows.proofs.HeldRows.{books_held}
 use Rattle.store_rows.proofs.KeyedEntries.{found_has}
 use Rattle.store_rows.proofs.RowLemmas.{get-books_of, get-members_in}
-use Rattle.store_rows.specs.SoundTables.{AreSoundRows, IsReadableMember}
-use Rattle.store_rows.specs.TableBooks.{books_of, model_row, row_book}
+use Rattle.store_rows.specs.SoundTables.{AreSoundRows, HoldsWellFormed, IsReadableMember}
+use Rattle.store_rows.specs.TableBooks.{books_in, books_of, model_row, row_book}
 use Rattle.store_rows.specs.TableRows.{TableRows}
 use Rattle.store_rows.specs.Values.{IsCanonical, lines_or_none, text_card}
 use Rattle.store_tables.proofs.KeyedRows.{all_has}
@@ -71,9 +73,14 @@ module _ (computed : (text : List ℕ) (lines : List Line) → Spells text lines
           let same : row_book rows b ≡ book = same_Some_at _ book (rw some at is) in
           legal_member rows b uid stored sound (ap (λ k. live_at k uid) same ∙ live)
 
-  -- the books of a file that an opening takes
+  -- the books of rows that an opening accepts
+  pub accepted_cards : (db : Database) → HoldsWellFormed max_limits db
+      → HasLegalCards (books_in db.trees)
+  accepted_cards db rows =
+      subst HasLegalCards (sym (books_held db rows.rows rows.holds rows.well_formed.sound))
+      (legal_rows rows.rows rows.well_formed.sound)
+
+  -- the books of a file that holds a store
   pub legal_cards : (image : Image) (books : Books) → HoldsStore image books → HasLegalCards books
   legal_cards image books holds =
-      let rows = holds.well_formed in
-      subst HasLegalCards (sym (books_held _ rows.rows rows.holds rows.well_formed.sound)
-      ∙ holds.books_are) (legal_rows rows.rows rows.well_formed.sound)
+      subst HasLegalCards holds.books_are (accepted_cards _ holds.well_formed)

@@ -14,12 +14,15 @@ ghost use Rattle.book_resync.specs.ResyncLaws.{HasLegalCards};
 ghost use Rattle.book_store.specs.Crashes.{StoresSurviveCrashes};
 ghost use Rattle.book_store.specs.Restarts.{HoldsStore};
 ghost use Rattle.book_store.specs.StoreViews.{StoredTrees};
+ghost use Rattle.sqlite.specs.Effect.{Database};
 ghost use Rattle.sqlite.specs.Files.{HoldsDatabase};
 ghost use Rattle.sqlite.specs.Recovery.{Image};
 ghost use Rattle.sqlite.specs.Tree.{Trees};
+ghost use Rattle.store_check.specs.OpenResults.{max_limits};
 ghost use Rattle.store_lookups.specs.ChangeFaults.{AcceptChanges};
 ghost use Rattle.store_lookups.specs.StoreFaults.{AreFaultless};
-ghost use Rattle.store_rows.specs.SoundTables.{AreWellFormed};
+ghost use Rattle.store_rows.specs.SoundTables.{AreWellFormed, HoldsWellFormed};
+ghost use Rattle.store_rows.specs.TableBooks.{books_in};
 ghost use Rattle.store_rows.specs.TableRows.{TableRows};
 ghost use Rattle.std.specs.Prelude.{◌<◌, ◌*◌, ◌^◌};
 
@@ -61,10 +64,15 @@ pub fn left_stores_open()
         → (stored : StoredTrees trees) → HoldsStore image stored.books }
 {}
 
-/// A text can spell each live card of a file that holds a store, as the life of a store asks before
-/// a resync. So it is of each file that an opening takes, whoever wrote it.
+/// A text can spell each live card of a file that holds a store, whoever wrote it, as the life of a
+/// store asks before a resync.
+/// - `files`: it is so of files that hold a store.
+/// - `openings`: it is so of the rows that an opening accepts.
 pub fn stored_cards_are_legal()
-    ensures { (image : Image) (books : Books) → HoldsStore image books → HasLegalCards books }
+    ensures files { (image : Image) (books : Books) → HoldsStore image books
+        → HasLegalCards books }
+    ensures openings { (db : Database) → HoldsWellFormed max_limits db
+        → HasLegalCards (books_in db.trees) }
 {
     card_is_computed();
     spelled_is_card();

@@ -119,6 +119,8 @@ impl<S: Start> SqlStore<FileStore<FileFrom<S>>> {
         start: S,
     ) -> Result<FileBooksFrom<S>, FileRefusal<S>>
         ensures calls { OpensFilled path.now result (F.log files.old) (F.log files.new) }
+        ensures found { IfOk result (λ store. IsOpenOnHonestDisk (file_state store.conn)
+            → FindsIn (F.image files.old path.now) (file_state store.conn)) }
         ensures opens { (books : Books) → HoldsStore (F.image files.old path.now) books
             → IfOk result (λ store. IsOpenOnHonestDisk (file_state store.conn)
             → stored_books (file_state store.conn) ≡ books) }

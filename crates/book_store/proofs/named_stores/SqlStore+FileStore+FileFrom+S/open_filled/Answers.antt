@@ -1,11 +1,19 @@
 use Rattle.std.proofs.Common.{◌≡◌, IfErr, IfOk, List, subst, ℕ}
 use Rattle.sqlite.specs.Files.{file_state}
 use Rattle.sqlite.specs.Recovery.{Image}
+use Rattle.sqlite.specs.Start.{FindsIn}
 use Rattle.store_lookups.specs.StoredBooks.{IsOpenOnHonestDisk, stored_books}
 use Rattle.book_model.specs.Books.{Books}
 use Rattle.book_store.specs.Restarts.{HasPathCause, HoldsStore, declared_over}
 use Rattle.book_store.proofs.PathLemmas.{unless_empty}
 use Rattle.book_store.proofs.named_stores.SqlStore+FileStore+FileFrom+S.open_filled.Goals as goal
+
+pub returns-in-Ok-false-clause-found : goal.returns-in-Ok-false-clause-found
+returns-in-Ok-false-clause-found g c =
+    subst (λ (image : List ℕ → Image). IfOk c.open_in.result (λ store.
+    IsOpenOnHonestDisk (file_state store.conn)
+    → FindsIn (image c.args.path.now) (file_state store.conn)))
+    c.is_empty_without_log.ensures.same c.open_in.ensures.found
 
 pub returns-in-Ok-false-clause-opens : goal.returns-in-Ok-false-clause-opens
 returns-in-Ok-false-clause-opens g c =
