@@ -256,7 +256,8 @@ module _ {S L C : Type 0} (log : S → SocketLog L C) where
       (logged (ReadsClock (Ok start)) (log polling.system))
 
   -- The system polled, gave these events, and read the clock. Then the sockets that linger were
-  -- looked at, and those whose time was over were given up.
+  -- looked at, and those whose time was over were given up. A socket that is closed while the clock
+  -- fails counts from this time.
   pub record PollsUntil (until : Option ℕ) (events : List Event) (now : ℕ) (old new : Polling S C)
       : Type 0 where
     pub start : ℕ
@@ -266,6 +267,7 @@ module _ {S L C : Type 0} (log : S → SocketLog L C) where
     pub serves : ServesSlots room_octets now (map event_subject events)
         old.lingerers.slots.items new.lingerers.slots.items
         (logged (ReadsClock (Ok now)) (polled until old start (Ok tt) events)) (log new.system)
+    pub waited : new.waited_at ≡ now
 
   -- the clock, the poll, or the clock after the poll failed
   abbrev pub FailsACall : Option ℕ → Polling S C → SocketLog L C → Type 0
@@ -280,6 +282,7 @@ module _ {S L C : Type 0} (log : S → SocketLog L C) where
   pub record FailsToPoll (until : Option ℕ) (old new : Polling S C) : Type 0 where
     pub fails : FailsACall until old (log new.system)
     pub kept : new.lingerers.slots.items ≡ old.lingerers.slots.items
+    pub waited : new.waited_at ≡ old.waited_at
 
   -- the places and the listener that the events of the poll report, and no others
   pub record WaitsUntil (until : Option ℕ) (ready : List Bool) (listener : Bool) (now : ℕ)
