@@ -1,5 +1,5 @@
 import random,subprocess,base64,os,sys,filecmp
-new,old="/work/land2/crates/contacts/out/contacts","/tmp/contacts-old"
+new,old="/tmp/prog","/work/lives/crates/contacts/out/contacts"
 R=random.Random(int(sys.argv[1]))
 names="FN N TEL EMAIL URL ADR ORG TITLE ROLE NOTE NICKNAME PHOTO LOGO SOUND KEY BDAY ANNIVERSARY X-ANNIVERSARY REV GEO LABEL AGENT CATEGORIES IMPP X-ABLABEL X-ADDRESSBOOKSERVER-KIND KIND MEMBER UID RELATED X-FOO X_BAR TZ PRODID SORT-STRING CLASS MAILER NAME SOURCE fn tel Photo item1.TEL item2.EMAIL item1.X-ABLabel HOME.PHOTO photo.TEL geo.NOTE b.KEY".split()
 params=["HOME","WORK","TYPE=home","TYPE=work,voice","TYPE=\"home,cell\"","PREF","PREF=1","ENCODING=b","ENCODING=B","ENCODING=BASE64","BASE64","B","b"," B ","ENCODING=QUOTED-PRINTABLE","QUOTED-PRINTABLE","CHARSET=UTF-8","charset=utf-8","CHARSET=ISO-8859-1","CHARSET=windows-1251","CHARSET=Big5","VALUE=uri","VALUE=URL","VALUE=text","VALUE=date","LANGUAGE=de","X-A=\"1:2;3\"","X-B=^n","TYPE=JPEG","JPEG","TYPE=jpeg","MEDIATYPE=image/png","ENCODING=8BIT","ENCODING=7bit","TYPE=","=x","TYPE=B","ALTID=1","SORT-AS=\"a,b\"","LABEL=\"x\\ny\""]
