@@ -32,12 +32,19 @@ use sync_core::Limits;
 pub struct FileHost<F> {
     rt: HostRuntime,
     front: F,
+    /// Whether finishing a creation failed, so that no file is used any more. After a sync that
+    /// failed, what the system has of the file may not be on the disk, and it need not say so again.
+    has_failed: bool,
 }
 
 impl<F> FileHost<F> {
     /// The host of the program that has this handle of the system. Its server has this front.
     pub fn new(rt: HostRuntime, front: F) -> FileHost<F> {
-        FileHost { rt, front }
+        FileHost {
+            rt,
+            front,
+            has_failed: false,
+        }
     }
 }
 
@@ -63,9 +70,10 @@ fn limits() -> Limits
 }
 
 /// Creates the store in a file whose creation was stopped: it has no tables, and perhaps only a
-/// part of its first page. Any other file stays as it is.
-fn finish_creation(rt: &HostRuntime, file: &str) {
-    let _refused = SqlStore::create(rt, file, limits());
+/// part of its first page. Any other file stays as it is. Returns whether the file can't be used,
+/// as after a failure of the disk.
+fn finish_creation(rt: &HostRuntime, file: &str) -> bool {
+    matches!(SqlStore::create(rt, file, limits()), Err(OpenFault::Store))
 }
 
 impl<F: Front + Copy> Host<FileBooks, SocketEndpoint, TcpListener> for FileHost<F> {
@@ -82,12 +90,15 @@ impl<F: Front + Copy> Host<FileBooks, SocketEndpoint, TcpListener> for FileHost<
     fn create(&mut self, file: &str) -> Result<FileBooks, OpenFault>
         ensures limits { IfOk result (λ store. store.limits ≡ standard_limits) }
     {
+        if self.has_failed {
+            return Err(OpenFault::Store);
+        }
         SqlStore::create(&self.rt, file, limits())
     }
 
     fn is_vacant(&mut self, file: &str) -> bool {
-        if may_be_unfinished(&self.rt, file) {
-            finish_creation(&self.rt, file);
+        if may_be_unfinished(&self.rt, file) && finish_creation(&self.rt, file) {
+            self.has_failed = true;
         }
         match fs::metadata(&self.rt, file) {
             Ok(metadata) => metadata.is_file() && metadata.len() == 0,
@@ -98,6 +109,9 @@ impl<F: Front + Copy> Host<FileBooks, SocketEndpoint, TcpListener> for FileHost<
     fn open(&mut self, file: &str) -> Result<FileBooks, OpenFault>
         ensures limits { IfOk result (λ store. store.limits ≡ standard_limits) }
     {
+        if self.has_failed {
+            return Err(OpenFault::Store);
+        }
         SqlStore::open(&self.rt, file, limits())
     }
 
