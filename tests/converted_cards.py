@@ -57,6 +57,13 @@ CARDS = [
         ["line 5: kept as X-UNREADABLE", "line 6: TEL rewritten", "line 1: FN added"],
     ),
     of_ann(
+        "base64 of a text of two spaces: nothing would be left of the value, so the line is kept",
+        "3.0",
+        ["NOTE;ENCODING=b:ICA="],
+        ["X-UNREADABLE:NOTE\\;ENCODING=b:ICA="],
+        ["line 5: kept as X-UNREADABLE"],
+    ),
+    of_ann(
         "in a text that is kept another control character is a space, and a tab beside it stays",
         "3.0",
         ["no\x01\tproperty"],

@@ -1,11 +1,9 @@
 -- How a card carries a cell: which line has its text, or which change reports it (RFC 6350,
--- sections 3.3 and 5; RFC 6868).
-use Rattle.std.specs.Prelude.{ℕ, ◌≡◌, ◌⊎◌, Bool, true, false, ◌||◌, ◌&&◌, ◌==◌, List, [], ◌∷◌}
-use Rattle.std.specs.Prelude.{◌++◌, codes, bytes_eq, flat_map, map, get_or, Option, Some, None}
-use Rattle.std.specs.Prelude.{if◌then◌else◌}
+-- sections 3.3 and 5).
+use Rattle.std.specs.Prelude.{ℕ, ◌≡◌, ◌⊎◌, Bool, true, false, ◌||◌, ◌&&◌, List, [], ◌++◌, codes}
+use Rattle.std.specs.Prelude.{bytes_eq, map, get_or, Option, Some, None}
 use Rattle.std.specs.List.{list_any, Contains}
-use Rattle.std.specs.Str.{chars, encode_utf8_all, str_to_ascii_lowercase}
-use Rattle.base_types.specs.Octets.{line_feed, quote}
+use Rattle.std.specs.Str.{str_to_ascii_lowercase}
 use Rattle.vcard_lines.specs.declared.line.Line.{Line}
 use Rattle.vcard_lines.specs.declared.line.Param.{Param}
 use Rattle.vcard_lines.specs.TextValues.{escaped_value, components}
@@ -15,21 +13,10 @@ use Rattle.vcard_property.specs.declared.change_kind.ChangeKind.TheVariants.{Rew
 use Rattle.contact_columns.specs.Cells.{is_void}
 use Rattle.contact_columns.specs.Components.{component_of}
 use Rattle.contact_columns.specs.declared.columns.Column.{Column}
-use Rattle.contact_csv.specs.Labels.{label_types}
+use Rattle.contact_values.specs.Carets.{caret_text}
+use Rattle.contact_values.specs.Labels.{label_types}
 
 -- ---- the text of a line
-
-abbrev pub caret : ℕ
-caret = 94
-
--- how RFC 6868 writes a character in a parameter's value
-abbrev pub caret_char : ℕ → List ℕ
-caret_char c =
-    if c == caret then codes "^^"
-    else (if c == line_feed then codes "^n" else (if c == quote then codes "^'" else c ∷ []))
-
-abbrev pub caret_text : List ℕ → List ℕ
-caret_text text = encode_utf8_all (flat_map caret_char (chars text))
 
 abbrev pub param_has : List ℕ → Param → Bool
 param_has text param = list_any (λ value. bytes_eq value.text text) param.values

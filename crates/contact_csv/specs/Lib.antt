@@ -1,6 +1,5 @@
 pub mod Carrying
 pub mod Contacts
-pub mod Labels
 pub mod RowFaults
 pub mod RowUids
 pub mod internal

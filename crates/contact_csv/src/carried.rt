@@ -3,14 +3,14 @@ ghost use Rattle.std.specs.Prelude.{◌≡◌, ◌<◌, ◌++◌, [], ℕ, List,
 ghost use Rattle.std.specs.Prelude.{bytes_eq, codes, get_or, length, map, string_bytes};
 ghost use Rattle.std.specs.List.{list_any};
 ghost use Rattle.vcard_lines.specs.TextValues.{components};
-ghost use Rattle.contact_csv.specs.Carrying.{caret_text, param_has, has_text, is_held, IsPartHeld};
+ghost use Rattle.contact_csv.specs.Carrying.{param_has, has_text, is_held, IsPartHeld};
 ghost use Rattle.contact_csv.specs.Carrying.{ArePartsHeld, IsComponentPart};
 ghost use Rattle.contact_csv.specs.Carrying.{has_types, IsLabel, IsLabelHeld};
 ghost use Rattle.contact_csv.specs.Carrying.{is_component_held, is_date_name, is_date_column};
+ghost use Rattle.contact_values.specs.Carets.{caret_text};
 
-use crate::labels::label_types;
-use crate::lines::caret_text;
 use contact_columns::is_void;
+use contact_values::{caret_text, label_types};
 use std::alloc::Global;
 use vcard_text::{Line, NoMemory, Param, ParamValue, components, escape};
 

@@ -8,14 +8,10 @@ ghost use Rattle.contact_columns.specs.Cells.{cell_text};
 ghost use Rattle.contact_csv.specs.Contacts.{IsContact, IsRefused};
 ghost use Rattle.contact_csv.specs.RowUids.{row_uid};
 
-use crate::exchange::push_shown_addresses;
 use crate::keeping::{Kept, extra_column, keep_row};
-use crate::names::push_missing_name;
-use crate::row_fault::are_void;
-use crate::row_lines::RowLines;
 use crate::uid::chosen_uid;
-use crate::whole_names::push_slot_lines;
 use contact_columns::{ContactColumns, cell_text, row_field};
+use contact_values::draft_lines;
 use csv::ByteRecord;
 use std::alloc::Global;
 use vcard_import::Conversion;
@@ -32,23 +28,26 @@ pub(crate) fn row_cells(alloc: Global, row: &ByteRecord) -> Result<Items<Text>, 
     Ok(cells)
 }
 
-/// The lines that the cells become, and which of them should hold which cell. None if no cell has a
-/// value.
-fn draft_lines(
+/// The lines of the contact of a row whose cells have these texts, and the changes.
+fn lines_of_cells(
     alloc: Global,
     columns: &ContactColumns,
+    row: &ByteRecord,
     cells: &[Text],
-) -> Result<RowLines, NoMemory> {
-    let mut made = RowLines::new(alloc, cells.len(), columns.dates)?;
-    if are_void(cells) {
-        return Ok(made);
-    }
-    for slot in &columns.slots {
-        push_slot_lines(alloc, &mut made, columns.columns.as_slice(), slot, cells)?;
-    }
-    push_shown_addresses(alloc, &mut made, columns.columns.as_slice(), cells)?;
-    push_missing_name(alloc, &mut made)?;
-    Ok(made)
+    may_own: bool,
+) -> Result<Kept, NoMemory>
+    requires { cells.now ≡ map cell_text (fields_of row.now) }
+    ensures contact { IfOk result (λ made. IsContact columns.now.columns (fields_of row.now)
+        made.lines made.changes) }
+    ensures computed { IfOk result (λ made. may_own ≡ false
+        → uid_of made.lines ≡ row_uid columns.now.columns (map cell_text (fields_of row.now))) }
+    ensures upper { IfOk result (λ made. upper_lines made.lines ≡ made.lines) }
+{
+    let extra = extra_column(alloc)?;
+    let names = columns.columns.as_slice();
+    let uid = chosen_uid(alloc, names, &extra, cells, may_own)?;
+    let draft = draft_lines(alloc, columns, cells)?;
+    keep_row(alloc, names, &extra, uid, row, cells, draft)
 }
 
 /// The lines of the row's contact, and the changes.
@@ -65,12 +64,7 @@ fn contact_lines(
     ensures upper { IfOk result (λ made. upper_lines made.lines ≡ made.lines) }
 {
     let cells = row_cells(alloc, row)?;
-    let texts = cells.as_slice();
-    let draft = draft_lines(alloc, columns, texts)?;
-    let extra = extra_column(alloc)?;
-    let names = columns.columns.as_slice();
-    let uid = chosen_uid(alloc, names, &extra, texts, may_own)?;
-    keep_row(alloc, names, &extra, uid, row, texts, draft)
+    lines_of_cells(alloc, columns, row, cells.as_slice(), may_own)
 }
 
 /// Converts a row of a file of contacts to a card of vCard 4.0.

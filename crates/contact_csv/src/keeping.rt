@@ -13,10 +13,9 @@ ghost use Rattle.contact_csv.specs.internal.Keeping.{KeepsCell, Keeps, ReportsOn
 use crate::carried::{
     holds_component, holds_components, holds_label, holds_parts, holds_text, is_date_text, is_dated,
 };
-use crate::row_lines::RowLines;
-use crate::structured::JOINER;
 use crate::uid::is_uid_column;
 use contact_columns::{Column, component_of, is_void, row_field};
+use contact_values::{JOINER, RowLines};
 use csv::ByteRecord;
 use std::alloc::Global;
 use vcard_import::{Change, ChangeKind};

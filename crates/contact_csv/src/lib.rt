@@ -4,21 +4,12 @@
 
 mod carried;
 mod conversion;
-mod entries;
-mod exchange;
 mod fault;
 mod keeping;
-mod labels;
-mod lines;
-mod names;
 mod owners;
 mod row_fault;
-mod row_lines;
 mod rows;
-mod structured;
 mod uid;
-mod values;
-mod whole_names;
 
 pub use contact_columns::{
     AboveLine, Column, ContactColumns, DateOrder, Header, find_header, read_columns,

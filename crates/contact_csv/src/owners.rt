@@ -7,7 +7,7 @@ use base_types::TextMap;
 use contact_columns::{Column, ContactColumns};
 use csv::ByteRecord;
 use std::alloc::Global;
-use vcard_text::NoMemory;
+use vcard_text::{NoMemory, Text};
 
 /// The UIDs that rows had of their own, each with the UID of the row's cells. So two rows that have
 /// the same one are known to be the same row twice, or two.
@@ -23,6 +23,21 @@ fn has_uids(columns: &[Column]) -> bool {
     columns
         .iter()
         .any(|column| is_uid_column(column) || is_id_column(column))
+}
+
+/// The UID that a row with these cells has of its own, and that of its cells. None if it has none
+/// of its own.
+fn uids_of_cells(
+    alloc: Global,
+    columns: &[Column],
+    cells: &[Text],
+) -> Result<Option<(String, String)>, NoMemory> {
+    let extra = extra_column(alloc)?;
+    let Some(own) = own_uid(alloc, columns, &extra, cells)? else {
+        return Ok(None);
+    };
+    let whole = row_uid(alloc, columns, &extra, cells)?;
+    Ok(Some((own, whole)))
 }
 
 impl Owners {
@@ -46,12 +61,14 @@ impl Owners {
             return Ok(false);
         }
         let cells = row_cells(alloc, row)?;
-        let extra = extra_column(alloc)?;
-        let names = columns.columns.as_slice();
-        let Some(own) = own_uid(alloc, names, &extra, cells.as_slice())? else {
-            return Ok(false);
-        };
-        let whole = row_uid(alloc, names, &extra, cells.as_slice())?;
+        match uids_of_cells(alloc, columns.columns.as_slice(), cells.as_slice())? {
+            Some((own, whole)) => self.note(own, whole),
+            None => Ok(false),
+        }
+    }
+
+    /// Whether no earlier row with other cells has the UID. Notes the row.
+    fn note(&mut self, own: String, whole: String) -> Result<bool, NoMemory> {
         if let Some(first) = self.uids.get(own.as_str()) {
             return Ok(first.as_str() == whole.as_str());
         }

@@ -3,12 +3,13 @@ ghost use Rattle.std.specs.Prelude.{◌≡◌, [], IfSome, IsTrue, get_or, map, 
 ghost use Rattle.std.specs.List.{list_all};
 ghost use Rattle.std.specs.Str.{str_eq_ignore_ascii_case, trim};
 ghost use Rattle.csv.specs.Records.{fields_of};
-ghost use Rattle.contact_columns.specs.Cells.{cell_text, is_void};
+ghost use Rattle.contact_columns.specs.Cells.{cell_text};
 ghost use Rattle.contact_csv.specs.Contacts.{IsFaulty};
 ghost use Rattle.contact_csv.specs.RowFaults.{has_column, has_names, has_nul, has_width};
 ghost use Rattle.contact_csv.specs.RowFaults.{is_broken, is_name_of};
 
 use contact_columns::{Column, is_void, row_field};
+use contact_values::are_void;
 use csv::ByteRecord;
 use vcard_text::{CardFault, Text};
 
@@ -53,13 +54,6 @@ fn nul_place(row: &ByteRecord) -> Option<usize>
         }
     }
     None
-}
-
-/// Whether no cell has a value.
-pub(crate) fn are_void(cells: &[Text]) -> bool
-    ensures { result ≡ list_all is_void cells.now }
-{
-    cells.iter().all(|cell| is_void(cell.as_str()))
 }
 
 /// Whether the row has as many cells as the header.

@@ -5,8 +5,8 @@ use Rattle.import_text.specs.declared.raw_line.RawLine.{RawLine}
 use Rattle.vcard_lines.specs.declared.line.Line.{Line}
 use Rattle.vcard_import.specs.declared.change.Change.{Change}
 use Rattle.vcard_property.specs.SameLines.{AreLine}
-use Rattle.vcard_property.specs.declared.version.Version.{Version}
-use Rattle.vcard_import.specs.Conversions.{BecomeCard, KeepsKnownValue}
+use Rattle.vcard_values.specs.declared.version.Version.{Version}
+use Rattle.vcard_import.specs.Conversions.{BecomeCard, IsMadeOf}
 use Rattle.vcard_import.specs.Delimiters.{is_delimiter}
 use Rattle.vcard_import.specs.Labels.{fits}
 use Rattle.vcard_import.specs.LeftOut.{may_go}
@@ -24,7 +24,7 @@ more version (first ∷ raws) raw line change last card changes (inr (inl k)) = 
   others = k.others ++ line;
   card_is = ap (λ c. c ++ line) k.card_is;
   same = k.same;
-  keeps = k.keeps;
+  made = k.made;
   rest = more version raws raw line change last k.others changes k.rest;
 }))
 more version (first ∷ raws) raw line change last card changes (inr (inr (inr g))) =
@@ -47,7 +47,7 @@ more version (first ∷ raws) raw line change last card changes (inr (inr (inl k
       changes_are = ap (λ c. c ++ change) k.changes_are;
       place = k.place;
       kind = k.kind;
-      keeps = k.keeps;
+      made = k.made;
       rest = more version raws raw line change last k.others k.more k.rest;
     })))
 
@@ -62,25 +62,25 @@ left_out version raws raw card changes d b =
 
 pub kept : (version : Version) (raws : List RawLine) (raw : RawLine) (card : List Line)
     (changes : List Change) (line : Line) → AreLine raw.octets line
-    → KeepsKnownValue version raw.octets line → BecomeCard version raws card changes
+    → IsMadeOf version raw.octets line → BecomeCard version raws card changes
     → BecomeCard version (raws ++ raw ∷ []) (card ++ line ∷ []) changes
-kept version raws raw card changes line same keeps b =
+kept version raws raw card changes line same made b =
     subst (λ c. BecomeCard version (raws ++ raw ∷ []) (card ++ line ∷ []) c) (append-nil changes)
     (more version raws raw (line ∷ []) [] (inr (inl (record {
       line = line;
       others = [];
       card_is = refl;
       same = same;
-      keeps = keeps;
+      made = made;
       rest = (refl, refl);
     }))) card changes b)
 
 pub changed : (version : Version) (raws : List RawLine) (raw : RawLine) (card : List Line)
     (changes : List Change) (line : Line) (change : Change) → (AreLine raw.octets line → ⊥) → change.place ≡ raw.place
-    → fits change.kind line ≡ true → KeepsKnownValue version raw.octets line
+    → fits change.kind line ≡ true → IsMadeOf version raw.octets line
     → BecomeCard version raws card changes
     → BecomeCard version (raws ++ raw ∷ []) (card ++ line ∷ []) (changes ++ change ∷ [])
-changed version raws raw card changes line change differs place kind keeps b =
+changed version raws raw card changes line change differs place kind made b =
     more version raws raw (line ∷ []) (change ∷ [])
     (inr (inr (inl (record {
       line = line;
@@ -92,7 +92,7 @@ changed version raws raw card changes line change differs place kind keeps b =
       changes_are = refl;
       place = place;
       kind = kind;
-      keeps = keeps;
+      made = made;
       rest = (refl, refl);
     })))) card changes b
 

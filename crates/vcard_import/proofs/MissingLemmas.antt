@@ -30,7 +30,8 @@ use Rattle.vcard_text.specs.Scanning.{fault_if, ok_unless, body_line_fault, card
 use Rattle.vcard_lines.specs.declared.fault.CardFault.TheVariants.{BadUid, Twice, NoName, NoUid}
 use Rattle.vcard_lines.specs.declared.fault.CardFault.TheVariants.{MemberOutsideGroup}
 use Rattle.vcard_property.specs.Lines.{plain_line}
-use Rattle.vcard_property.proofs.ProperLemmas.{of-append, plain_is_proper}
+use Rattle.vcard_values.proofs.ControlLemmas.{of-append}
+use Rattle.vcard_property.proofs.ProperLemmas.{plain_is_proper}
 use Rattle.vcard_import.specs.DerivedUid.{derived_uid, derived_uuid}
 use Rattle.vcard_import.specs.Conversions.{missing_line, missing_lines}
 use Rattle.vcard_import.specs.internal.Steps.{AreFaultless, ArePassed, found_uid, has_stray_members}

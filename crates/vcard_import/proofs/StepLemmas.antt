@@ -13,7 +13,7 @@ use Rattle.vcard_text.specs.MakingSteps.{card_line_fault, check_lines_after}
 use Rattle.vcard_text.specs.Scanning.{ok_unless}
 use Rattle.vcard_lines.specs.ParseSteps.{◌>>=◌}
 use Rattle.vcard_property.specs.Lines.{IsUidLine}
-use Rattle.vcard_property.specs.declared.version.Version.{Version}
+use Rattle.vcard_values.specs.declared.version.Version.{Version}
 use Rattle.vcard_import.specs.Delimiters.{is_delimiter}
 use Rattle.vcard_import.specs.declared.card_lines.CardLines.{CardLines}
 use Rattle.vcard_import.specs.declared.rules.Reading.{Reading}

@@ -5,7 +5,7 @@ use Rattle.std.proofs.lemmas.List.{at_drop_all, at_drop_more}
 use Rattle.import_text.specs.declared.raw_line.RawLine.{RawLine}
 use Rattle.vcard_lines.specs.declared.line.Line.{Line}
 use Rattle.vcard_property.specs.SameLines.{uid_line}
-use Rattle.vcard_property.specs.declared.version.Version.{Version}
+use Rattle.vcard_values.specs.declared.version.Version.{Version}
 use Rattle.vcard_import.specs.Delimiters.{begins_card}
 use Rattle.vcard_import.specs.FirstUid.{first_uid_after, or_line}
 

@@ -137,18 +137,18 @@ module _ (end : List ℕ) (ends : is_word_line (codes "END:VCARD") end ≡ true)
 -- ---- the piece
 
 -- Within a card that isn't in another is `deeper outside`.
-after_begin : (line : List ℕ) (lines : List (List ℕ)) → piece_len outside (line ∷ lines)
-    ≡ octets_after (next_step outside line) line (λ next. piece_len next lines)
+after_begin : (line : List ℕ) (lines : List (List ℕ)) → piece_len false outside (line ∷ lines)
+    ≡ octets_after (next_step outside line) line (λ next. piece_len false next lines)
 unfolding piece_len
 after_begin line lines = refl
 
-after_inner : (line : List ℕ) (lines : List (List ℕ)) → piece_len (deeper outside) (line ∷ lines)
-    ≡ octets_after (next_step (deeper outside) line) line (λ next. piece_len next lines)
+after_inner : (line : List ℕ) (lines : List (List ℕ)) → piece_len false (deeper outside) (line ∷ lines)
+    ≡ octets_after (next_step (deeper outside) line) line (λ next. piece_len false next lines)
 unfolding piece_len
 after_inner line lines = refl
 
 begin_len : (begin : List ℕ) (lines : List (List ℕ)) → begins_card begin ≡ true
-    → piece_len outside (begin ∷ lines) ≡ length begin + piece_len (deeper outside) lines
+    → piece_len false outside (begin ∷ lines) ≡ length begin + piece_len false (deeper outside) lines
 begin_len begin lines e = after_begin begin lines ∙ rw e refl
 
 none_of : (a b c d f : Bool) → not (a || b || c || d || f) ≡ true → (a ≡ false) × (b ≡ false)
@@ -161,7 +161,7 @@ none_of false false false false true e = cc
 none_of false false false false false e = (refl, refl, refl, refl, refl)
 
 inner_len : (line : List ℕ) (lines : List (List ℕ)) → is_inner line ≡ true
-    → piece_len (deeper outside) (line ∷ lines) ≡ length line + piece_len (deeper outside) lines
+    → piece_len false (deeper outside) (line ∷ lines) ≡ length line + piece_len false (deeper outside) lines
 inner_len line lines e =
     let n = none_of (begins_card line) (is_word_line (codes "AGENT:BEGIN:VCARD") line)
     (is_word_line (codes "END:VCARD") line) (ends_and_begins line)
@@ -169,12 +169,12 @@ inner_len line lines e =
     after_inner line lines ∙ rw (n.0, n.1, n.2, n.3, n.4) refl
 
 end_len : (end : List ℕ) (lines : List (List ℕ)) → is_word_line (codes "END:VCARD") end ≡ true
-    → piece_len (deeper outside) (end ∷ lines) ≡ length end
+    → piece_len false (deeper outside) (end ∷ lines) ≡ length end
 end_len end lines e = after_inner end lines ∙ rw (begins_none end e, no_agent end e, e) refl
 
 body_len : (body : List (List ℕ)) (end : List ℕ) (more : List (List ℕ))
     → list_all is_inner body ≡ true → is_word_line (codes "END:VCARD") end ≡ true
-    → piece_len (deeper outside) ((body ++ end ∷ []) ++ more) ≡ count (body ++ end ∷ [])
+    → piece_len false (deeper outside) ((body ++ end ∷ []) ++ more) ≡ count (body ++ end ∷ [])
 body_len [] end more e f = end_len end more f ∙ last (length end)
   where
     last : (n : ℕ) → n ≡ n + 0
@@ -189,10 +189,10 @@ card_is_piece card rest w =
     let lines : whole_lines (card ++ rest) ≡ (w.begin ∷ w.body ++ w.end ∷ []) ++ whole_lines rest =
     rw (w.feed) (lines_append w.front rest)
     ∙ ap (λ lines. lines ++ whole_lines rest) (ap whole_lines (sym w.feed) ∙ w.lines) in
-    let len : piece_len outside (whole_lines (card ++ rest)) ≡ length card =
-    ap (piece_len outside) lines
+    let len : piece_len false outside (whole_lines (card ++ rest)) ≡ length card =
+    ap (piece_len false outside) lines
     ∙ begin_len w.begin ((w.body ++ w.end ∷ []) ++ whole_lines rest) w.begins
     ∙ ap (λ n. length w.begin + n) (body_len w.body w.end (whole_lines rest) w.inner w.ends)
     ∙ ap count (sym w.lines)
     ∙ lines_count card in
-    take_at card rest (piece_len outside (whole_lines (card ++ rest))) (sym len)
+    take_at card rest (piece_len false outside (whole_lines (card ++ rest))) (sym len)

@@ -1,20 +1,21 @@
 -- Which card the logical lines of another program's card become, and which changes are reported.
--- What a changed line becomes is defined only as far as its value goes.
+-- What a logical line becomes by itself is in NewLines.antt of vcard_property.
 use Rattle.std.specs.Prelude.{ℕ, ◌≡◌, Bool, true, false, List, [], ◌∷◌, ◌++◌, map, codes, Some, ◌⊎◌}
-use Rattle.std.specs.Prelude.{filter, if◌then◌else◌}
+use Rattle.std.specs.Prelude.{filter, if◌then◌else◌, ◌||◌}
 use Rattle.std.specs.List.{list_any}
 use Rattle.std.specs.Str.{trim}
 use Rattle.import_text.specs.RawLines.{raw_lines, is_encoded_as}
 use Rattle.import_text.specs.declared.raw_line.RawLine.{RawLine}
 use Rattle.vcard_lines.specs.declared.line.Line.{Line}
-use Rattle.vcard_text.specs.Cards.{has_line_named, uid_of}
+use Rattle.vcard_text.specs.Cards.{has_line_named, line_is_named, uid_of}
 use Rattle.vcard_text.specs.Making.{upper_lines, AreTooLongCardLines}
 use Rattle.vcard_text.specs.Spelling.{without_bom}
-use Rattle.vcard_property.specs.Lines.{plain_line}
+use Rattle.vcard_property.specs.Labels.{GotLabel}
+use Rattle.vcard_property.specs.Lines.{extension_line, plain_line}
+use Rattle.vcard_property.specs.NewLines.{Becomes, KeepsText}
 use Rattle.vcard_property.specs.SameLines.{AreLine, has_encoding}
-use Rattle.vcard_property.specs.Values.{HasKnownValue, KeepsValue}
 use Rattle.vcard_property.specs.declared.change_kind.ChangeKind.TheVariants.{Added}
-use Rattle.vcard_property.specs.declared.version.Version.{Version}
+use Rattle.vcard_values.specs.declared.version.Version.{Version}
 use Rattle.vcard_import.specs.Delimiters.{is_delimiter}
 use Rattle.vcard_import.specs.DerivedUid.{derived_uid}
 use Rattle.vcard_import.specs.Ends.{without_end}
@@ -33,28 +34,47 @@ has_encodings lines = list_any has_encoding lines
 
 -- ---- the logical lines
 
--- what the octets hold is a value of nothing but white space
-pub record IsBlank (version : Version) (octets : List ℕ) : Type 0 where
-  pub value : List ℕ
-  pub kept : KeepsValue version octets value
-  pub blank : trim value ≡ []
+-- A card has no line of this name in its lines, has it at most once, or only if it is a group.
+abbrev pub may_be_aside : Line → Bool
+may_be_aside line = line_is_named (codes "BEGIN") line || line_is_named (codes "END") line
+    || line_is_named (codes "VERSION") line || line_is_named (codes "UID") line
+    || line_is_named (codes "KIND") line || line_is_named (codes "MEMBER") line
 
--- If the value of the logical line is known, or it is a picture, a sound or a key in base64, the
--- line of the card has it: as vCard 4.0 writes it, as a `data:` URI or in its text. Only a blank
--- one, as that of an FN without a name, may be replaced.
-abbrev pub KeepsKnownValue : Version → List ℕ → Line → Type 0
-KeepsKnownValue version octets line =
-    HasKnownValue octets → KeepsValue version octets line.value ⊎ IsBlank version octets
+-- the new line is one that the card may not have, with X- before its name
+pub record IsAside (line new : Line) : Type 0 where
+  pub may_be_aside : may_be_aside line ≡ true
+  pub new_is : new ≡ extension_line line
 
--- The first line of the card is the one that the octets spell, with the value that they have. The
--- rest holds for the other lines.
+-- the line is an FN of nothing but white space, and the new one is an FN
+pub record GotName (line new : Line) : Type 0 where
+  pub named : line_is_named (codes "FN") line ≡ true
+  pub blank : trim line.value ≡ []
+  pub new_named : new.name ≡ codes "FN"
+
+-- The new line is the line, the line that is kept aside, the address with a label, or an FN with a
+-- name for one without it.
+abbrev pub IsPlaced : Line → Line → Type 0
+IsPlaced line new = (new ≡ line) ⊎ (IsAside line new ⊎ (GotLabel line new ⊎ GotName line new))
+
+-- the line is what the octets become by themselves, as the card has it
+pub record IsLineOf (version : Version) (octets : List ℕ) (new : Line) : Type 0 where
+  pub line : Line
+  pub becomes : Becomes version octets line
+  pub placed : IsPlaced line new
+
+-- The line is that of the octets, or it keeps their text, as of a card within the card.
+abbrev pub IsMadeOf : Version → List ℕ → Line → Type 0
+IsMadeOf version octets line = IsLineOf version octets line ⊎ KeepsText (codes "X-AGENT") octets line
+
+-- The first line of the card is the one that the octets spell, and is made of them. The rest holds
+-- for the other lines.
 pub record IsKept (version : Version) (octets : List ℕ) (Rest : List Line → Type 0)
     (card : List Line) : Type 0 where
   pub line : Line
   pub others : List Line
   pub card_is : card ≡ line ∷ others
   pub same : AreLine octets line
-  pub keeps : KeepsKnownValue version octets line
+  pub made : IsMadeOf version octets line
   pub rest : Rest others
 
 -- The first line of the card isn't what the octets of the logical line spell, and the first change
@@ -71,7 +91,7 @@ pub record IsChanged (version : Version) (raw : RawLine) (Rest : List Line → L
   pub changes_are : changes ≡ change ∷ more
   pub place : change.place ≡ raw.place
   pub kind : fits change.kind line ≡ true
-  pub keeps : KeepsKnownValue version raw.octets line
+  pub made : IsMadeOf version raw.octets line
   pub rest : Rest others more
 
 -- The logical line is a label, a picture or a sound without a line of its own. The first change is

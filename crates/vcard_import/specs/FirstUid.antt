@@ -4,7 +4,7 @@ use Rattle.std.specs.Prelude.{if◌then◌else◌}
 use Rattle.import_text.specs.declared.raw_line.RawLine.{RawLine}
 use Rattle.vcard_lines.specs.declared.line.Line.{Line}
 use Rattle.vcard_property.specs.SameLines.{uid_line}
-use Rattle.vcard_property.specs.declared.version.Version.{Version}
+use Rattle.vcard_values.specs.declared.version.Version.{Version}
 use Rattle.vcard_import.specs.Delimiters.{begins_card}
 
 -- the line if there is one, and otherwise the other

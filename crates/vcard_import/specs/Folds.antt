@@ -12,8 +12,8 @@ use Rattle.import_text.specs.RawLines.{continues, is_encoded_as, raw_lines}
 use Rattle.import_text.specs.declared.lines.Folding.{Folding}
 use Rattle.import_text.specs.declared.lines.Folding.TheVariants.{KeepsSpace, DropsSpace}
 use Rattle.import_text.specs.declared.raw_line.RawLine.{RawLine}
-use Rattle.vcard_property.specs.declared.version.Version.{Version}
-use Rattle.vcard_property.specs.declared.version.Version.TheVariants.{Old, Third, Fourth}
+use Rattle.vcard_values.specs.declared.version.Version.{Version}
+use Rattle.vcard_values.specs.declared.version.Version.TheVariants.{Old, Third, Fourth}
 use Rattle.vcard_import.specs.Versions.{version_of}
 use Rattle.vcard_import.specs.declared.folds.PhysicalLine.{PhysicalLine}
 

@@ -11,6 +11,7 @@ use Rattle.vcard_property.specs.declared.change_kind.ChangeKind.TheVariants.{Kep
 use Rattle.vcard_property.specs.declared.change_kind.ChangeKind.TheVariants.{Added, Joined, LeftOut}
 use Rattle.vcard_property.specs.declared.change_kind.ChangeKind.TheVariants.{Labelled, Shortened}
 use Rattle.vcard_property.specs.declared.change_kind.ChangeKind.TheVariants.{Cleaned}
+use Rattle.vcard_values.specs.Forms.{is_property}
 use Rattle.vcard_import.specs.declared.change.Change.{Change}
 
 -- the head of the logical line has the name of a property with pictures or sounds
@@ -27,7 +28,7 @@ may_go Renamed raw = false
 may_go KeptAside raw = false
 may_go Unreadable raw = false
 may_go Added raw = false
-may_go Joined raw = is_encoded_as (codes "LABEL") raw.octets
+may_go Joined raw = is_property (codes "LABEL") raw.octets
 may_go LeftOut raw = is_media raw
 may_go Labelled raw = false
 

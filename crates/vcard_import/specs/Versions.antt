@@ -4,8 +4,8 @@ use Rattle.std.specs.Prelude.{Some, None, if◌then◌else◌}
 use Rattle.std.specs.List.{slice_split}
 use Rattle.base_types.specs.Octets.{line_feed}
 use Rattle.import_text.specs.RawLines.{begins_with_word}
-use Rattle.vcard_property.specs.declared.version.Version.{Version}
-use Rattle.vcard_property.specs.declared.version.Version.TheVariants.{Old, Third, Fourth}
+use Rattle.vcard_values.specs.declared.version.Version.{Version}
+use Rattle.vcard_values.specs.declared.version.Version.TheVariants.{Old, Third, Fourth}
 
 -- the first physical line that begins with VERSION:, in any case
 abbrev pub version_line : List ℕ → Option (List ℕ)

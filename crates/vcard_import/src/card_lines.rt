@@ -4,10 +4,10 @@ ghost use Rattle.std.specs.Prelude.{◌<◌, codes, length, None};
 ghost use Rattle.vcard_lines.specs.declared.line.Line.{Line};
 ghost use Rattle.vcard_text.specs.Cards.{IsProperLine, has_line_named};
 ghost use Rattle.vcard_property.specs.Lines.{IsUidLine};
+ghost use Rattle.vcard_property.specs.NewLines.{KeepsText};
 ghost use Rattle.vcard_property.specs.SameLines.{is_same_in};
-ghost use Rattle.vcard_property.specs.declared.version.Version.{Version};
-ghost use Rattle.vcard_property.specs.Values.{HasKnownValue, KeepsValue};
-ghost use Rattle.vcard_import.specs.Conversions.{KeepsKnownValue};
+ghost use Rattle.vcard_values.specs.declared.version.Version.{Version};
+ghost use Rattle.vcard_import.specs.Conversions.{IsLineOf, IsMadeOf};
 ghost use Rattle.vcard_import.specs.FirstUid.{first_uid};
 ghost use Rattle.vcard_import.specs.Labels.{HaveAddresses, fits, says_joined};
 ghost use Rattle.vcard_import.specs.LeftOut.{has_left_out, may_go, says_left_out};
@@ -37,30 +37,8 @@ pub(crate) struct CardLines {
     pub(crate) seen: Seen,
 }
 
-/// The line for the octets of a logical line, with its label if it is an address that gets one, and
-/// what became of it.
-fn labelled_line(
-    alloc: Global,
-    octets: &[u8],
-    version: Version,
-    label: Option<&Labelling>,
-) -> Result<(Line, ChangeKind), NoMemory>
-    ensures proper { IfOk result (λ made. IsProperLine made.0) }
-    ensures kind { IfOk result (λ made. fits made.1 made.0 ≡ true) }
-    ensures keeps { HasKnownValue octets.now
-        → IfOk result (λ made. KeepsValue version octets.now made.0.value) }
-{
-    let (line, kind) = convert_line(alloc, octets, version)?;
-    if let Some(Labelling::Gets(text)) = label {
-        if let Some(labelled) = with_label(alloc, &line, text.as_str())? {
-            return Ok((labelled, ChangeKind::Labelled));
-        }
-    }
-    Ok((line, kind))
-}
-
 /// The line for the octets of a logical line after the others, and what became of it. An empty FN
-/// gets the name.
+/// gets the name, a line that the card can't have gets X- before its own, and an address its label.
 fn line_after(
     alloc: Global,
     seen: Seen,
@@ -72,24 +50,28 @@ fn line_after(
     ensures proper { IfOk result (λ made. IsProperLine made.0) }
     ensures kind { IfOk result (λ made. fits made.1 made.0 ≡ true) }
     ensures allowed { IfOk result (λ made. breaks_rule seen reading made.0 ≡ false) }
-    ensures keeps { IfOk result (λ made.
-        KeepsKnownValue reading.version octets.now made.0) }
+    ensures made { IfOk result (λ made. IsLineOf reading.version octets.now made.0) }
 {
-    let (line, kind) = labelled_line(alloc, octets, reading.version, label)?;
+    let (line, kind) = convert_line(alloc, octets, reading.version)?;
     if !name.is_empty() && is_empty_name(&line) {
         return Ok((text_line(alloc, "FN", name)?, ChangeKind::Rewritten));
     }
-    if !breaks_rule(seen, &line, reading) {
-        return Ok((line, kind));
+    if breaks_rule(seen, &line, reading) {
+        return Ok((extension_line(alloc, line)?, ChangeKind::KeptAside));
     }
-    Ok((extension_line(alloc, line)?, ChangeKind::KeptAside))
+    if let Some(Labelling::Gets(text)) = label {
+        if let Some(labelled) = with_label(alloc, &line, text.as_str())? {
+            return Ok((labelled, ChangeKind::Labelled));
+        }
+    }
+    Ok((line, kind))
 }
 
 /// The line for a logical line of a card within the card, which is the value of an AGENT.
 fn nested_line(alloc: Global, octets: &[u8]) -> Result<Line, NoMemory>
     ensures proper { IfOk result IsProperLine }
     ensures name { IfOk result (λ line. line.name ≡ codes "X-AGENT") }
-    ensures keeps { (version : Version) → IfOk result (KeepsKnownValue version octets.now) }
+    ensures text { IfOk result (KeepsText (codes "X-AGENT") octets.now) }
 {
     let text = read_text(alloc, octets)?;
     text_line(alloc, "X-AGENT", text.as_str())
@@ -143,7 +125,7 @@ impl CardLines {
     ) -> Result<(), NoMemory>
         ensures extends { OnOk result ((reading : Reading) → IsProperLine line
             → fits kind line ≡ true → breaks_rule self.old.seen reading line ≡ false
-            → KeepsKnownValue reading.version raw.now.octets line
+            → IsMadeOf reading.version raw.now.octets line
             → Extends reading (raw.now ∷ []) self.old self.new) }
         ensures lines { OnOk result (self.new.lines ≡ self.old.lines ++ line ∷ []) }
     {

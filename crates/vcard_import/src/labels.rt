@@ -1,12 +1,13 @@
 //! Which label of a card belongs to which of its addresses.
 ghost use Rattle.std.specs.Prelude.{◌≡◌, codes};
-ghost use Rattle.import_text.specs.RawLines.{is_encoded_as};
+ghost use Rattle.vcard_values.specs.Forms.{is_property};
 
 use crate::card_lines::depths;
-use import_text::{RawLine, is_encoded_as};
+use import_text::RawLine;
 use std::alloc::Global;
 use vcard_property::{AddressLine, AddressTypes, OtherParts, Version, read_address};
 use vcard_text::{NoMemory, Text};
+use vcard_values::is_property;
 
 /// The most labels with a group or with parameters that get an address. Each is looked for among
 /// all addresses.
@@ -30,11 +31,11 @@ struct Found {
     line: AddressLine,
 }
 
-/// Whether the head of the logical line has the word LABEL.
+/// Whether the logical line is a LABEL, perhaps with a group.
 pub(crate) fn is_label(raw: &RawLine) -> bool
-    ensures { result ≡ is_encoded_as (codes "LABEL") raw.now.octets }
+    ensures { result ≡ is_property (codes "LABEL") raw.now.octets }
 {
-    is_encoded_as(raw.octets.as_slice(), b"LABEL")
+    is_property(raw.octets.as_slice(), b"LABEL")
 }
 
 /// The addresses and the labels of a card, but for those of the cards in it.

@@ -1,8 +1,10 @@
 //! The formatted name of a card that has none, from its other properties.
-ghost use Rattle.std.specs.Prelude.{◌≡◌, [], true, IfOk, string_bytes};
+ghost use Rattle.std.specs.Prelude.{◌≡◌, [], true, IfOk, codes, string_bytes};
 ghost use Rattle.std.specs.Str.{trim};
 ghost use Rattle.vcard_lines.specs.Grammar.{AllInClass, is_permitted};
+ghost use Rattle.vcard_text.specs.Cards.{line_is_named};
 
+use crate::rules::is_named;
 use std::alloc::Global;
 use vcard_property::text_value;
 use vcard_text::{Line, NoMemory, components};
@@ -107,9 +109,10 @@ pub(crate) fn name_value(alloc: Global, lines: &[Line]) -> Result<String, NoMemo
 
 /// Whether the line is an FN that has no name.
 pub(crate) fn is_empty_name(line: &Line) -> bool
-    ensures { result ≡ true → trim line.now.value ≡ [] }
+    ensures named { result ≡ true → line_is_named (codes "FN") line.now ≡ true }
+    ensures blank { result ≡ true → trim line.now.value ≡ [] }
 {
-    line.name.as_str() == "FN" && line.value.as_str().trim().is_empty()
+    is_named(line, "FN") && line.value.as_str().trim().is_empty()
 }
 
 /// The formatted name for the empty FN lines of a card, if it has no other FN. Empty if it needs

@@ -1,9 +1,4 @@
 pub mod ProperLemmas
 pub mod SameLemmas
-pub mod ControlLemmas
-pub mod MediaLemmas
-pub mod TextLemmas
-pub mod EscapeLemmas
-pub mod ReadBackLemmas
-pub mod KeptLemmas
-pub mod BreakLemmas
+pub mod MadeLemmas
+pub mod NameLemmas

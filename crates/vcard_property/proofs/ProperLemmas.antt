@@ -22,6 +22,7 @@ use Rattle.vcard_lines.proofs.FrontLemmas.{name_is_ascii, of_class, all_of_class
 use Rattle.vcard_lines.proofs.LegalPartLemmas.{legal_from_test, legal_to_test}
 use Rattle.vcard_text.specs.Cards.{IsProperLine}
 use Rattle.vcard_property.specs.Lines.{plain_line, extension_line}
+use Rattle.vcard_values.proofs.ControlLemmas.{of-append}
 use Rattle.vcard_property.specs.internal.ProperTests.{has_upper_name, has_proper_parts}
 
 -- ---- upper case
@@ -57,11 +58,6 @@ names_permitted [] a = tt
 names_permitted (b ∷ w) a = (name_permitted b a.0, names_permitted w a.1)
 
 module _ (class : ℕ → Bool) where
-  pub of-append : (a b : List ℕ) → AllInClass class a → AllInClass class b
-      → AllInClass class (a ++ b)
-  of-append [] b x y = y
-  of-append (c ∷ a) b x y = (x.0, of-append a b x.1 y)
-
   of_front : (a b : List ℕ) → AllInClass class (a ++ b) → AllInClass class a
   of_front [] b x = tt
   of_front (c ∷ a) b x = (x.0, of_front a b x.1)

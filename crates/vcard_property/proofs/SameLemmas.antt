@@ -7,7 +7,7 @@ use Rattle.vcard_lines.specs.declared.line.Line.{Line}
 use Rattle.vcard_lines.specs.Parsing.{parse_line}
 use Rattle.vcard_lines.proofs.LineLemmas.{line_found}
 use Rattle.vcard_text.specs.Cards.{IsProperLine}
-use Rattle.vcard_property.specs.declared.version.Version.{Version}
+use Rattle.vcard_values.specs.declared.version.Version.{Version}
 use Rattle.vcard_property.specs.SameLines.{AreLine, is_same_in, line_if, same_line}
 use Rattle.vcard_property.proofs.ProperLemmas.{spelled_is_proper}
 

@@ -1,6 +1,6 @@
 -- Labels of addresses. In vCard 4.0 a label is a parameter of its address (RFC 6350, section
 -- 6.3.1).
-use Rattle.std.specs.Prelude.{Bool, ◌&&◌, codes}
+use Rattle.std.specs.Prelude.{◌≡◌, Bool, true, ◌&&◌, [], ◌∷◌, ◌++◌, codes}
 use Rattle.std.specs.List.{list_any}
 use Rattle.std.specs.Str.{str_eq_ignore_ascii_case}
 use Rattle.vcard_lines.specs.declared.line.Line.{Line}
@@ -18,3 +18,19 @@ has_label line = list_any is_label line.params
 -- the line is an address with a label
 abbrev pub is_labelled : Line → Bool
 is_labelled line = line_is_named (codes "ADR") line && has_label line
+
+-- the line with one more parameter, after the others
+abbrev pub with_param : Param → Line → Line
+with_param param line = record {
+  group = line.group;
+  name = line.name;
+  params = line.params ++ param ∷ [];
+  value = line.value;
+}
+
+-- the new line is the address with a label, otherwise unchanged
+pub record GotLabel (line new : Line) : Type 0 where
+  pub label : Param
+  pub is_label : is_label label ≡ true
+  pub address : line_is_named (codes "ADR") line ≡ true
+  pub new_is : new ≡ with_param label line

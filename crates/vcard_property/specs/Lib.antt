@@ -1,11 +1,8 @@
-pub mod Escapes
-pub mod Forms
-pub mod KeptTexts
 pub mod Kinds
 pub mod Labels
 pub mod Lines
-pub mod Media
+pub mod Contents
+pub mod Names
+pub mod NewLines
 pub mod SameLines
-pub mod ValueTexts
-pub mod Values
 pub mod internal

@@ -1,5 +1,5 @@
 -- The octets that spell a line, and the lines that vCard 2.1 or 3.0 writes as vCard 4.0 does.
-use Rattle.std.specs.Prelude.{ℕ, ◌≡◌, Bool, true, ◌&&◌, ◌||◌, ◌==◌, not, List, codes, Option, Some}
+use Rattle.std.specs.Prelude.{ℕ, ◌≡◌, Bool, true, ◌&&◌, ◌||◌, not, List, codes, Option, Some}
 use Rattle.std.specs.Prelude.{None, Result, Ok, Err, if◌then◌else◌}
 use Rattle.std.specs.List.{list_any}
 use Rattle.std.specs.Str.{IsUtf8, is_utf8, str_eq_ignore_ascii_case}
@@ -10,16 +10,14 @@ use Rattle.vcard_lines.specs.declared.line.Param.{Param}
 use Rattle.vcard_lines.specs.Parsing.{parse_line}
 use Rattle.vcard_text.specs.Cards.{line_is_named, is_uid}
 use Rattle.vcard_text.specs.Spelling.{has_no_params}
-use Rattle.vcard_property.specs.declared.version.Version.{Version}
-use Rattle.vcard_property.specs.declared.version.Version.TheVariants.{Old, Third, Fourth}
+use Rattle.vcard_values.specs.Cuts.{has_octet}
+use Rattle.vcard_values.specs.declared.version.Version.{Version}
+use Rattle.vcard_values.specs.declared.version.Version.TheVariants.{Old, Third, Fourth}
 
 -- the octets are UTF-8 and spell the line
 pub record AreLine (octets : List ℕ) (line : Line) : Type 0 where
   pub utf8 : IsUtf8 octets
   pub spelled : parse_line octets ≡ Ok line
-
-abbrev pub has_octet : ℕ → List ℕ → Bool
-has_octet octet value = list_any (λ other. other == octet) value
 
 -- A UID, or a text without a comma. Before vCard 4.0 a comma in these texts needs no backslash.
 abbrev pub is_plain_text : Line → Bool

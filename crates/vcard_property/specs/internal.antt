@@ -1,4 +1,1 @@
-pub mod BreakLoop
 pub mod ProperTests
-pub mod RewriteLoop
-pub mod UriNames

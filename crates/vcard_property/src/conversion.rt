@@ -1,31 +1,34 @@
 //! Converts one logical line.
-ghost use Rattle.std.specs.Prelude.{◌≡◌, ℕ, List, true, IfOk, IfSome};
+ghost use Rattle.std.specs.Prelude.{◌≡◌, ℕ, List, true, false, IfOk, IfSome};
 ghost use Rattle.import_text.specs.Encodings.{text_of};
 ghost use Rattle.vcard_lines.specs.declared.line.Line.{Line};
 ghost use Rattle.vcard_text.specs.Cards.{IsProperLine};
-ghost use Rattle.vcard_property.specs.Escapes.{SpellsSame, rewritten_value};
-ghost use Rattle.vcard_property.specs.Forms.{value_form};
+ghost use Rattle.vcard_values.specs.Escapes.{SpellsSame, rewritten_value};
+ghost use Rattle.vcard_values.specs.Forms.{value_form};
 ghost use Rattle.vcard_property.specs.Kinds.{fits_kind};
 ghost use Rattle.vcard_property.specs.SameLines.{AreLine, is_same_in};
-ghost use Rattle.vcard_property.specs.Values.{HasKnownValue, HasValueOf, IsUriOf, KeepsValue};
-ghost use Rattle.vcard_property.specs.ValueTexts.{value_text};
+ghost use Rattle.vcard_values.specs.Values.{HasKnownValue, HasValueOf, IsUriOf};
+ghost use Rattle.vcard_property.specs.Contents.{is_emptied, is_known};
+ghost use Rattle.vcard_property.specs.Names.{HasNameOf, has_clear_name};
+ghost use Rattle.vcard_property.specs.NewLines.{Becomes};
+ghost use Rattle.vcard_values.specs.ValueTexts.{value_text};
 
 use crate::change_kind::ChangeKind;
-use crate::dates::has_fraction;
+use crate::content::is_emptied;
 use crate::decoding::decode;
-use crate::escapes::{ValueForm, with_escapes};
-use crate::forms::value_form;
-use crate::kept_texts::text_line;
-use crate::proper_line::proper_line;
+use crate::kept_line::text_line;
+use crate::new_names::renamed_line;
+use crate::proper_line::is_proper_line;
 use crate::property::{Encoding, Property, read_property};
-use crate::property_line::{binary_line, is_date_name, line_of, named_line};
+use crate::property_line::{binary_line, is_date_name, line_of, text_line_of};
 use crate::same_line::read_same_line;
-use crate::value_texts::value_text;
-use crate::values::{has_known_value, media_of};
-use crate::version::Version;
 use import_text::read_text;
 use std::alloc::Global;
 use vcard_text::{Line, NoMemory};
+use vcard_values::{
+    ValueForm, Version, has_fraction, has_known_value, media_of, value_form, value_text,
+    with_escapes,
+};
 
 /// What the value of a line lost.
 #[derive(Clone, Copy)]
@@ -73,77 +76,103 @@ fn kind_of(old: &str, new: &str, loss: Loss) -> ChangeKind
     }
 }
 
-/// The proper line that a property becomes, with this value of that form, and what became of it.
-/// `None` if its line isn't proper.
+/// The line under the name that vCard 4.0 has for it, with the group of its octets, and what became
+/// of it. `None` if it isn't proper. Whether the value is a URI is taken from the octets if they are
+/// clear.
+fn named_line(
+    alloc: Global,
+    line: Line,
+    octets: &[u8],
+    is_uri: bool,
+    loss: Loss,
+) -> Result<Option<(Line, ChangeKind)>, NoMemory>
+    ensures proper { IfOk result (λ made. IfSome made (λ line.
+        IsProperLine line.0 × (fits_kind line.1 line.0.name ≡ true))) }
+    ensures named { has_clear_name octets.now ≡ true
+        → IfOk result (λ made. IfSome made (λ line. HasNameOf octets.now line.0)) }
+    ensures value { IfOk result (λ made. IfSome made (λ new. new.0.value ≡ line.value)) }
+{
+    let old = line.name.try_copy()?;
+    let line = renamed_line(alloc, line, octets, is_uri)?;
+    if !is_proper_line(alloc, &line)? {
+        return Ok(None);
+    }
+    let kind = kind_of(old.as_str(), line.name.as_str(), loss);
+    Ok(Some((line, kind)))
+}
+
+/// The proper line that a property of these octets becomes, with this value of that form, and what
+/// became of it. `None` if its line isn't proper.
 fn line_with_value(
     alloc: Global,
     property: Property,
+    octets: &[u8],
     value: &str,
     form: ValueForm,
 ) -> Result<Option<(Line, ChangeKind)>, NoMemory>
     ensures proper { IfOk result (λ made. IfSome made (λ line.
         IsProperLine line.0 × (fits_kind line.1 line.0.name ≡ true))) }
+    ensures named { has_clear_name octets.now ≡ true
+        → IfOk result (λ made. IfSome made (λ line. HasNameOf octets.now line.0)) }
     ensures value { IfOk result (λ made. IfSome made (λ line.
         line.0.value ≡ rewritten_value form value.now)) }
     ensures spells { IfOk result (λ made. IfSome made (λ line.
         SpellsSame form value.now line.0.value)) }
 {
-    let name = property.name.try_copy()?;
+    let is_uri = property.is_uri;
     let loss = if loses_controls(value) {
         Loss::Controls
     } else {
         Loss::Nothing
     };
     let value = with_escapes(alloc, value, form)?;
-    let line = named_line(alloc, property, value)?;
-    let Some(line) = proper_line(alloc, line)? else {
-        return Ok(None);
-    };
-    let kind = kind_of(name.as_str(), line.name.as_str(), loss);
-    Ok(Some((line, kind)))
+    let line = text_line_of(alloc, property, value)?;
+    named_line(alloc, line, octets, is_uri, loss)
 }
 
-/// The proper line that a picture, a sound or a key becomes, as a `data:` URI of these octets, and
-/// what became of it. `None` if its line isn't proper.
+/// The proper line that a picture, a sound or a key of these octets becomes, as a `data:` URI of
+/// the media, and what became of it. `None` if its line isn't proper.
 fn media_line(
     alloc: Global,
     property: Property,
     octets: &[u8],
+    media: &[u8],
 ) -> Result<Option<(Line, ChangeKind)>, NoMemory>
     ensures proper { IfOk result (λ made. IfSome made (λ line.
         IsProperLine line.0 × (fits_kind line.1 line.0.name ≡ true))) }
+    ensures named { has_clear_name octets.now ≡ true
+        → IfOk result (λ made. IfSome made (λ line. HasNameOf octets.now line.0)) }
     ensures value { IfOk result (λ made. IfSome made (λ line.
-        IsUriOf octets.now line.0.value)) }
+        IsUriOf media.now line.0.value)) }
 {
-    let name = property.name.try_copy()?;
-    let line = binary_line(alloc, property, octets)?;
-    let Some(line) = proper_line(alloc, line)? else {
-        return Ok(None);
-    };
-    let kind = kind_of(name.as_str(), line.name.as_str(), Loss::Nothing);
-    Ok(Some((line, kind)))
+    let is_uri = property.is_uri;
+    let line = binary_line(alloc, property, media)?;
+    named_line(alloc, line, octets, is_uri, Loss::Nothing)
 }
 
-/// The proper line that a property becomes, with its value in the form of vCard 4.0, and what
-/// became of it. `None` if its line isn't proper.
+/// The proper line that a property of these octets becomes, with its value in the form of vCard
+/// 4.0, and what became of it. `None` if its line isn't proper, or has nothing of a value that had
+/// something.
 fn rewritten_line(
     alloc: Global,
     property: Property,
     octets: &[u8],
     version: Version,
 ) -> Result<Option<(Line, ChangeKind)>, NoMemory>
-    ensures { IfOk result (λ made. IfSome made (λ line.
+    ensures proper { IfOk result (λ made. IfSome made (λ line.
         IsProperLine line.0 × (fits_kind line.1 line.0.name ≡ true))) }
+    ensures named { has_clear_name octets.now ≡ true
+        → IfOk result (λ made. IfSome made (λ line. HasNameOf octets.now line.0)) }
+    ensures content { IfOk result (λ made. IfSome made (λ line.
+        is_emptied octets.now line.0 ≡ false)) }
 {
     let mut property = property;
     decode(alloc, &mut property, octets)?;
-    let name = property.name.try_copy()?;
-    let had_fraction = is_date_name(name.as_str()) && has_fraction(property.value.as_str());
+    let is_uri = property.is_uri;
+    let had_fraction = is_date_name(property.name.as_str())
+        && has_fraction(property.value.as_str());
     let had_control = is_cleaned(&property);
     let line = line_of(alloc, property, version)?;
-    let Some(line) = proper_line(alloc, line)? else {
-        return Ok(None);
-    };
     let loss = if had_fraction && !has_fraction(line.value.as_str()) {
         Loss::Fraction
     } else if had_control {
@@ -151,7 +180,12 @@ fn rewritten_line(
     } else {
         Loss::Nothing
     };
-    let kind = kind_of(name.as_str(), line.name.as_str(), loss);
+    let Some((line, kind)) = named_line(alloc, line, octets, is_uri, loss)? else {
+        return Ok(None);
+    };
+    if is_emptied(octets, &line) {
+        return Ok(None);
+    }
     Ok(Some((line, kind)))
 }
 
@@ -166,18 +200,21 @@ fn known_line(
 ) -> Result<Option<(Line, ChangeKind)>, NoMemory>
     ensures proper { IfOk result (λ made. IfSome made (λ line.
         IsProperLine line.0 × (fits_kind line.1 line.0.name ≡ true))) }
+    ensures named { has_clear_name octets.now ≡ true
+        → IfOk result (λ made. IfSome made (λ line. HasNameOf octets.now line.0)) }
     ensures value { text.now ≡ text_of octets.now → IfOk result (λ made. IfSome made (λ line.
         line.0.value ≡ rewritten_value (value_form version octets.now) (value_text octets.now))) }
     ensures spells { text.now ≡ text_of octets.now → IfOk result (λ made. IfSome made (λ line.
         SpellsSame (value_form version octets.now) (value_text octets.now) line.0.value)) }
 {
     let value = value_text(alloc, octets, text)?;
-    line_with_value(alloc, property, value.as_str(), value_form(version, octets))
+    let form = value_form(version, octets);
+    line_with_value(alloc, property, octets, value.as_str(), form)
 }
 
 /// The proper line that the text of these octets becomes as a property, and what became of it. A
-/// value that is known spells the same, and a picture stays. `None` if the text is no property, or
-/// its line isn't proper.
+/// value that is known spells the same, a picture stays, and no other value is emptied. `None` if
+/// the text is no property, or its line isn't such a proper line.
 fn property_line(
     alloc: Global,
     text: &str,
@@ -186,8 +223,12 @@ fn property_line(
 ) -> Result<Option<(Line, ChangeKind)>, NoMemory>
     ensures proper { IfOk result (λ made. IfSome made (λ line.
         IsProperLine line.0 × (fits_kind line.1 line.0.name ≡ true))) }
+    ensures named { has_clear_name octets.now ≡ true
+        → IfOk result (λ made. IfSome made (λ line. HasNameOf octets.now line.0)) }
     ensures value { text.now ≡ text_of octets.now → HasKnownValue octets.now
         → IfOk result (λ made. IfSome made (λ line. HasValueOf version octets.now line.0.value)) }
+    ensures content { is_known octets.now ≡ false
+        → IfOk result (λ made. IfSome made (λ line. is_emptied octets.now line.0 ≡ false)) }
 {
     let Some(property) = read_property(alloc, text, version)? else {
         return Ok(None);
@@ -196,7 +237,7 @@ fn property_line(
         return known_line(alloc, property, text, octets, version);
     }
     if let Some(media) = media_of(alloc, octets)? {
-        return media_line(alloc, property, media.as_slice());
+        return media_line(alloc, property, octets, media.as_slice());
     }
     rewritten_line(alloc, property, octets, version)
 }
@@ -220,10 +261,10 @@ pub fn convert_line(
     ensures stays { (line : Line) → AreLine octets.now line → is_same_in version line ≡ true
         → IfOk result (λ made. made.0 ≡ line) }
 
-    // A value that is known is in the line as vCard 4.0 writes it, and so is a picture, a sound or
-    // a key in base64; or the line keeps the whole text.
-    ensures keeps { HasKnownValue octets.now
-        → IfOk result (λ made. KeepsValue version octets.now made.0.value) }
+    // Any other line has the name, the group and the value of the logical line as vCard 4.0 writes
+    // them, where they are clear, and no other value is emptied; or it keeps the whole text as
+    // X-UNREADABLE.
+    ensures becomes { IfOk result (λ made. Becomes version octets.now made.0) }
 {
     if let Some(line) = read_same_line(alloc, octets, version)? {
         return Ok((line, ChangeKind::Rewritten));

@@ -2,15 +2,13 @@
 ghost use Rattle.std.specs.Prelude.{◌≡◌, true, codes, IfOk, IfSome};
 ghost use Rattle.import_text.specs.RawLines.{is_encoded_as};
 
-use crate::binary::decoded_base64;
 use crate::head::after_head;
 use crate::names::is_binary_name;
 use crate::property::{CharsetParam, Encoding, Property, read_property};
-use crate::value_texts::with_line_feeds;
-use crate::version::Version;
 use import_text::{is_encoded_as, read_charset, read_quoted_printable, read_text};
 use std::alloc::Global;
 use vcard_text::{NoMemory, Text};
+use vcard_values::{Version, decoded_base64, with_line_feeds};
 
 /// The text of octets. Those of a character set that isn't known are read as if it weren't named.
 fn text_in(alloc: Global, octets: &[u8], charset: CharsetParam) -> Result<String, NoMemory> {

@@ -2,17 +2,17 @@
 //! its address (RFC 6350, section 6.3.1).
 ghost use Rattle.std.specs.Prelude.{◌≡◌, IfOk, IfSome, true};
 ghost use Rattle.vcard_text.specs.Cards.{IsProperLine};
-ghost use Rattle.vcard_property.specs.Labels.{has_label, is_label, is_labelled};
+ghost use Rattle.vcard_property.specs.Labels.{GotLabel, has_label, is_label, is_labelled};
 
 use crate::decoding::decode;
 use crate::proper_line::is_proper_line;
 use crate::property::{Property, read_property};
 use crate::property_line::{is_text_param, label_param, label_text};
 use crate::same_line::is_named;
-use crate::version::Version;
 use import_text::{is_encoded_as, read_text};
 use std::alloc::Global;
 use vcard_text::{Items, Line, NoMemory, Param, Part, Text};
+use vcard_values::Version;
 
 /// The types of an address, as far as a label has to have the same.
 #[derive(Clone, Copy)]
@@ -64,7 +64,7 @@ fn types_of(property: &Property) -> AddressTypes {
 }
 
 /// Whether the parameter is LABEL.
-fn is_label(param: &Param) -> bool
+pub(crate) fn is_label(param: &Param) -> bool
     ensures { result ≡ is_label param.now }
 {
     param.name.as_str().eq_ignore_ascii_case("LABEL")
@@ -141,8 +141,7 @@ fn is_labelled(line: &Line) -> bool
 pub fn with_label(alloc: Global, line: &Line, label: &str) -> Result<Option<Line>, NoMemory>
     ensures proper { IfOk result (λ made. IfSome made IsProperLine) }
     ensures labelled { IfOk result (λ made. IfSome made (λ line. is_labelled line ≡ true)) }
-    ensures value { IfOk result (λ made. IfSome made (λ labelled.
-        labelled.value ≡ line.now.value)) }
+    ensures label { IfOk result (λ made. IfSome made (GotLabel line.now)) }
 {
     let mut labelled = line.try_copy()?;
     labelled.params.push(label_param(alloc, label)?)?;

@@ -2,36 +2,29 @@
 //! its parameters, its encoding and its value.
 #![tactic(auto)]
 
-mod binary;
 mod change_kind;
+mod content;
 mod conversion;
-mod dates;
 mod decoding;
-mod escapes;
-mod forms;
-mod geo;
 mod head;
-mod kept_texts;
+mod kept_line;
 mod labels;
 mod line_parts;
-mod media;
 mod names;
+mod new_names;
 mod omitted_year;
 mod params;
 mod proper_line;
 mod property;
 mod property_line;
 mod same_line;
-mod value_texts;
-mod values;
-mod version;
+mod written_names;
 
 pub use change_kind::ChangeKind;
 pub use conversion::convert_line;
 pub use decoding::unknown_charset;
-pub use kept_texts::{text_line, text_value};
+pub use kept_line::text_line;
 pub use labels::{AddressLine, AddressTypes, OtherParts, read_address, with_label};
-pub use media::media_octets;
 pub use proper_line::{extension_line, is_proper_line, plain_line, with_upper_name};
 pub use same_line::{are_line, has_encoding, read_uid_line};
-pub use version::Version;
+pub use vcard_values::{Version, media_octets, text_value};

@@ -1,11 +1,11 @@
 //! Dates without a year, as iOS writes them in vCard 3.0: the year is 1604 or any other, and the
 //! parameter `X-APPLE-OMIT-YEAR` says which. Other programs write a year of zeros.
 
-use crate::dates::{basic_date, has_basic_date};
 use crate::property::Property;
 use std::alloc::Global;
 use std::mem;
 use vcard_text::{Items, NoMemory, Param, Text};
+use vcard_values::{basic_date, has_basic_date};
 
 /// Whether the parameter gives the year that is none.
 fn is_omitted_year(param: &Param) -> bool {

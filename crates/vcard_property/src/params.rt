@@ -4,10 +4,10 @@ use crate::head::split_parts;
 use crate::line_parts::{make_value, with_carets};
 use crate::names::legal_name;
 use crate::property::{CharsetParam, Encoding, Property};
-use crate::version::Version;
 use import_text::charset_named;
 use std::alloc::Global;
 use vcard_text::{Items, NoMemory, Param, ParamValue, Text};
+use vcard_values::Version;
 
 fn is_word(text: &str, word: &str) -> bool {
     text.eq_ignore_ascii_case(word)

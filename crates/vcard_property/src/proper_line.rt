@@ -1,6 +1,6 @@
 //! Lines that are proper by themselves: their names are in upper case, and their parts match the
 //! grammar (RFC 6350, section 3.3).
-ghost use Rattle.std.specs.Prelude.{◌≡◌, ◌↔◌, IfOk, IfSome, IsTrue, string_bytes};
+ghost use Rattle.std.specs.Prelude.{◌≡◌, ◌↔◌, IfOk, IsTrue, string_bytes};
 ghost use Rattle.std.specs.Str.{str_to_ascii_uppercase};
 ghost use Rattle.vcard_lines.specs.Grammar.{AllInClass, IsName, is_permitted};
 ghost use Rattle.vcard_text.specs.Cards.{IsProperLine};
@@ -62,19 +62,6 @@ pub fn is_proper_line(alloc: Global, line: &Line) -> Result<bool, NoMemory>
         return Ok(false);
     }
     Ok(has_proper_parts(line))
-}
-
-/// The line with its name in upper case, if it is then a proper one. The only `Err` is out of
-/// memory.
-pub(crate) fn proper_line(alloc: Global, line: Line) -> Result<Option<Line>, NoMemory>
-    ensures proper { IfOk result (λ proper. IfSome proper IsProperLine) }
-    ensures line { IfOk result (λ proper. IfSome proper (λ proper. proper ≡ upper_line line)) }
-{
-    let line = with_upper_name(line);
-    if is_proper_line(alloc, &line)? {
-        return Ok(Some(line));
-    }
-    Ok(None)
 }
 
 /// A line without group and parameters. The only `Err` is out of memory.

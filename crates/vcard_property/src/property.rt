@@ -3,10 +3,10 @@
 use crate::head::{split_group, split_line, split_parts};
 use crate::names::{legal_name, upper_name};
 use crate::params::read_param;
-use crate::version::Version;
 use import_text::Charset;
 use std::alloc::Global;
 use vcard_text::{Items, NoMemory, Param, ParamValue, Text};
+use vcard_values::Version;
 
 /// How a value is encoded.
 #[derive(Clone, Copy)]

@@ -1,21 +1,20 @@
 //! The line of vCard 4.0 for a property of any version (RFC 6350, section 6 and appendix A).
-ghost use Rattle.std.specs.Prelude.{◌≡◌, IfOk, string_bytes};
-ghost use Rattle.vcard_property.specs.Values.{IsUriOf};
+ghost use Rattle.std.specs.Prelude.{◌≡◌, IfOk, string_bytes, true};
+ghost use Rattle.vcard_property.specs.Labels.{is_label};
+ghost use Rattle.vcard_values.specs.Values.{IsUriOf};
 
-use crate::binary::{data_uri, decoded_base64, is_format};
-use crate::dates::{basic_date, is_date};
-use crate::escapes::{TextForm, ValueForm, with_escapes};
-use crate::geo::geo_value;
 use crate::line_parts::{make_param, make_value, with_carets};
-use crate::names::{extension_name, is_one_of};
+use crate::names::is_one_of;
 use crate::omitted_year::omit_year;
 use crate::params::all_params;
 use crate::property::{Encoding, Property};
-use crate::version::Version;
-use import_text::begins_with_word;
 use std::alloc::Global;
 use std::mem;
 use vcard_text::{Items, Line, NoMemory, Param, ParamValue, Part, Text, unescape};
+use vcard_values::{
+    TextForm, ValueForm, Version, basic_date, data_uri, decoded_base64, geo_value, is_date,
+    is_format, with_escapes,
+};
 
 /// The properties whose values aren't texts, so that nothing is escaped in them.
 const PLAIN_NAMES: [&str; 18] = [
@@ -103,26 +102,6 @@ pub(crate) fn is_date_name(name: &str) -> bool {
     is_one_of(name, &DATE_NAMES)
 }
 
-/// Whether the value is an address within an Exchange server, which nobody else can write to. It
-/// gives way to the one of SMTP.
-fn is_exchange_address(value: &str) -> bool {
-    begins_with_word(value.as_bytes(), b"/O=")
-}
-
-/// The name that vCard 4.0 has for the property.
-fn name_of(alloc: Global, name: &str, value: &str, is_uri: bool) -> Result<Text, NoMemory> {
-    match name {
-        "X-ADDRESSBOOKSERVER-KIND" => Text::copy_of(alloc, "KIND"),
-        "X-ADDRESSBOOKSERVER-MEMBER" => Text::copy_of(alloc, "MEMBER"),
-        "AGENT" if is_uri => Text::copy_of(alloc, "RELATED"),
-        "EMAIL" if is_exchange_address(value) => extension_name(alloc, name),
-        "AGENT" | "CLASS" | "MAILER" | "NAME" | "PROFILE" | "SORT-STRING" => {
-            extension_name(alloc, name)
-        }
-        _ => Text::copy_of(alloc, name),
-    }
-}
-
 /// The values of TYPE that don't name the format of a value.
 fn without_formats(
     alloc: Global,
@@ -138,13 +117,13 @@ fn without_formats(
     Ok(others)
 }
 
-/// The line of a property under a name, with a value.
-fn line_with(alloc: Global, property: Property, name: Text, value: String) -> Result<Line, NoMemory>
+/// The line of a property with a value, under the name that the property has.
+pub(crate) fn line_with(alloc: Global, property: Property, value: String) -> Result<Line, NoMemory>
     ensures { IfOk result (λ line. line.value ≡ string_bytes value) }
 {
     let Property {
         group,
-        name: _,
+        name,
         types,
         is_preferred,
         params,
@@ -213,19 +192,17 @@ fn mark_text(alloc: Global, property: &mut Property) -> Result<(), NoMemory> {
     Ok(())
 }
 
-/// The line of a property with a value, under the name that vCard 4.0 has for it.
-pub(crate) fn named_line(alloc: Global, property: Property, value: String) -> Result<Line, NoMemory>
+/// The line of a property with this text or URI.
+pub(crate) fn text_line_of(
+    alloc: Global,
+    property: Property,
+    value: String,
+) -> Result<Line, NoMemory>
     ensures { IfOk result (λ line. line.value ≡ string_bytes value) }
 {
     let mut property = property;
     add_agent(alloc, &mut property)?;
-    let name = name_of(
-        alloc,
-        property.name.as_str(),
-        value.as_str(),
-        property.is_uri,
-    )?;
-    line_with(alloc, property, name, value)
+    line_with(alloc, property, value)
 }
 
 /// The line of a text or a URI.
@@ -234,7 +211,7 @@ fn text_or_uri_line(alloc: Global, property: Property, version: Version) -> Resu
     omit_year_of_date(alloc, &mut property)?;
     mark_text(alloc, &mut property)?;
     let value = text_value(alloc, &property, version)?;
-    named_line(alloc, property, value)
+    text_line_of(alloc, property, value)
 }
 
 /// Leaves out of the types those that name the format of the value.
@@ -256,7 +233,7 @@ pub(crate) fn binary_line(
     let name = property.name.try_copy()?;
     let uri = data_uri(alloc, name.as_str(), property.types.as_slice(), octets)?;
     drop_formats(alloc, &mut property, name.as_str())?;
-    line_with(alloc, property, name, uri)
+    line_with(alloc, property, uri)
 }
 
 /// The text of a label, as the value of a parameter.
@@ -271,7 +248,9 @@ pub(crate) fn label_text(
 }
 
 /// The parameter LABEL with the text.
-pub(crate) fn label_param(alloc: Global, text: &str) -> Result<Param, NoMemory> {
+pub(crate) fn label_param(alloc: Global, text: &str) -> Result<Param, NoMemory>
+    ensures { IfOk result (λ param. is_label param ≡ true) }
+{
     let mut values = Items::new(alloc);
     values.push(make_value(alloc, text, true)?)?;
     let name = Text::copy_of(alloc, "LABEL")?;
@@ -284,18 +263,19 @@ fn add_label(alloc: Global, property: &mut Property, version: Version) -> Result
     Ok(())
 }
 
-/// The line of a LABEL: an ADR without components, and the label as its parameter.
+/// The line of a LABEL, which is an ADR in vCard 4.0: one without components, and the label as its
+/// parameter.
 fn label_line(alloc: Global, property: Property, version: Version) -> Result<Line, NoMemory> {
     let mut property = property;
     add_label(alloc, &mut property, version)?;
-    let name = Text::copy_of(alloc, "ADR")?;
     let value = String::from_str(alloc, ";;;;;;")?;
-    line_with(alloc, property, name, value)
+    line_with(alloc, property, value)
 }
 
-/// The octets of a binary value: base64 that isn't that of a text.
+/// The octets of a binary value: base64 that isn't that of a text. A label is never binary.
 fn binary_octets(alloc: Global, property: &Property) -> Result<Option<Vec<u8>>, NoMemory> {
     match property.encoding {
+        Encoding::Base64 if property.name.as_str() == "LABEL" => Ok(None),
         Encoding::Base64 => decoded_base64(alloc, property.value.as_str()),
         Encoding::Plain | Encoding::QuotedPrintable => Ok(None),
     }
@@ -335,8 +315,8 @@ fn plain_line_of(alloc: Global, property: Property, version: Version) -> Result<
     text_or_uri_line(alloc, property, version)
 }
 
-/// The line of vCard 4.0 for a property. A value that isn't the base64 that its encoding says stays
-/// as it is, and so does its encoding.
+/// The line of a property, under the name that it has. A value that isn't the base64 that its
+/// encoding says stays as it is, and so does its encoding.
 pub(crate) fn line_of(
     alloc: Global,
     property: Property,

@@ -4,19 +4,13 @@ ghost use Rattle.vcard_property.specs.SameLines.{has_encoding, is_encoding};
 ghost use Rattle.vcard_text.specs.Cards.{IsProperLine, line_is_named, is_uid};
 ghost use Rattle.vcard_text.specs.Spelling.{has_no_params};
 ghost use Rattle.vcard_property.specs.Lines.{IsUidLine};
-ghost use Rattle.vcard_property.specs.SameLines.{AreLine, has_octet, is_plain_text};
+ghost use Rattle.vcard_property.specs.SameLines.{AreLine, is_plain_text};
 ghost use Rattle.vcard_property.specs.SameLines.{is_same_in_all, is_same_in, same_line, uid_line};
 
-use crate::version::Version;
 use std::alloc::Global;
 use vcard_lines::read_line;
 use vcard_text::{CardFault, Line, NoMemory, Param, Part, UID_OCTETS_MAX};
-
-pub(crate) fn has_octet(value: &[u8], octet: u8) -> bool
-    ensures { result ≡ has_octet octet value.now }
-{
-    value.iter().any(|other| *other == octet)
-}
+use vcard_values::{Version, has_octet};
 
 /// Whether the line has the name.
 pub(crate) fn is_named(line: &Line, name: &str) -> bool

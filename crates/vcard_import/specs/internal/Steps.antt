@@ -9,7 +9,7 @@ use Rattle.vcard_text.specs.FirstFaults.{is_group}
 use Rattle.vcard_text.specs.Making.{upper_lines}
 use Rattle.vcard_text.specs.MakingSteps.{check_lines_after}
 use Rattle.vcard_property.specs.SameLines.{AreLine}
-use Rattle.vcard_property.specs.declared.version.Version.{Version}
+use Rattle.vcard_values.specs.declared.version.Version.{Version}
 use Rattle.vcard_import.specs.Conversions.{BecomeCard}
 use Rattle.vcard_import.specs.Labels.{is_joined}
 use Rattle.vcard_import.specs.LeftOut.{has_left_out}

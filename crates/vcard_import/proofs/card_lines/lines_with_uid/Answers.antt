@@ -33,13 +33,14 @@ made c = with_uid (others c.args.reading) (takes c.args.reading) c.args.raws.now
     (c.new-made.ensures.makes c.args.reading.version) c.new-made.ensures.uid
     c.new-made.ensures.members
     c.new-made.ensures.whole c.new-made.ensures.unjoined
-    (search rules) (λ p b. c.in_ok-push.ensures.extends (takes c.args.reading) p refl b (λ _. inl
-    (inl (record {
+    (search rules) (λ p b. c.in_ok-push.ensures.extends (takes c.args.reading) p refl b (inl (record {
       line = c.args.uid.line;
-      spelled = c.requires.spelled c.index-raws-index.result c.index-raws-index.is;
-      same = c.requires.same;
-      value_is = refl;
-    }))))
+      becomes = inl (record {
+        spelled = c.requires.spelled c.index-raws-index.result c.index-raws-index.is;
+        same = c.requires.same;
+      });
+      placed = inl refl;
+    })))
     c.in_ok-push.ensures.lines
     (subst (λ raws. Extends (others c.args.reading) raws c.push.new.self c.push_raws-2.new.self)
     (take_rest c.args.raws.now (c.args.uid.index + 1)) c.in_ok-push_raws.ensures)

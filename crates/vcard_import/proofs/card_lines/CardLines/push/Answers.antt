@@ -10,7 +10,7 @@ use Rattle.vcard_import.proofs.card_lines.CardLines.push.Goals.{then-not-branch+
 use Rattle.vcard_import.proofs.card_lines.CardLines.push.Goals.{else-not-branch}
 
 pub returns-clause-extends : goal.returns-clause-extends
-returns-clause-extends c = λ reading proper kind allowed keeps.
+returns-clause-extends c = λ reading proper kind allowed made.
     elim c.if-not-branch.branch [
       | then-not-branch+in_ok-push w ↦
           let differs : AreLine c.args.raw.now.octets c.args.line → ⊥ = search rules in
@@ -20,7 +20,7 @@ returns-clause-extends c = λ reading proper kind allowed keeps.
           (λ before b. changed reading.version before c.args.raw.now c.args.self.now.lines
           c.args.self.now.changes
           c.args.line (record { place = c.args.raw.now.place; kind = c.args.kind }) differs
-          (λ _. c.args.raw.now.place) kind keeps b) proper allowed
+          (λ _. c.args.raw.now.place) kind made b) proper allowed
           (none_more is_left_out c.args.self.now.changes (record {
             place = c.args.raw.now.place;
             kind = c.args.kind;
@@ -36,5 +36,5 @@ returns-clause-extends c = λ reading proper kind allowed keeps.
           (search rules)
           (λ before b. kept reading.version before c.args.raw.now c.args.self.now.lines
           c.args.self.now.changes
-          c.args.line same keeps b) proper allowed (λ none. none) (λ none. none))
+          c.args.line same made b) proper allowed (λ none. none) (λ none. none))
     ]

@@ -1,7 +1,8 @@
-use Rattle.std.proofs.Common.{◌≡◌, ◌∙◌, rules, true, false, sym, ap, subst}
+use Rattle.std.proofs.Common.{◌≡◌, ◌∙◌, rules, true, false, sym, ap, subst, inl, inr, codes}
 use Rattle.std.proofs.lemmas.Result.{on_ok_weaker}
+use Rattle.vcard_property.specs.NewLines.{KeepsText}
 use Rattle.vcard_property.specs.declared.change_kind.ChangeKind.TheVariants.{KeptAside}
-use Rattle.vcard_import.specs.Conversions.{KeepsKnownValue}
+use Rattle.vcard_import.specs.Conversions.{IsLineOf}
 use Rattle.vcard_import.specs.Delimiters.{is_delimiter}
 use Rattle.vcard_import.specs.Labels.{fits}
 use Rattle.vcard_import.specs.internal.Steps.{breaks_rule}
@@ -13,12 +14,11 @@ returns-then-is_nested c =
     let kind : fits KeptAside c.in_ok-line.line ≡ true = search rules in
     let allowed : breaks_rule c.args.self.now.seen c.args.reading c.in_ok-line.line ≡ false =
     search rules in
-    let keeps : KeepsKnownValue c.args.reading.version c.args.raw.now.octets c.in_ok-line.line =
-    subst (λ octets. KeepsKnownValue c.args.reading.version octets c.in_ok-line.line)
-    c.as_slice-octets.ensures
-    (c.in_ok-line.ensures.keeps c.args.reading.version) in
+    let text : KeepsText (codes "X-AGENT") c.args.raw.now.octets c.in_ok-line.line =
+    subst (λ octets. KeepsText (codes "X-AGENT") octets c.in_ok-line.line)
+    c.as_slice-octets.ensures c.in_ok-line.ensures.text in
     on_ok_weaker c.push.result (λ extends. extends c.args.reading c.in_ok-line.ensures.proper kind
-    allowed keeps) c.push.ensures.extends
+    allowed (inr text)) c.push.ensures.extends
 
 pub returns-then-is_delimiter : goal.returns-then-is_delimiter
 returns-then-is_delimiter c = skipped c.args.reading c.args.raw.now c.args.self.now
@@ -27,9 +27,9 @@ returns-then-is_delimiter c = skipped c.args.reading c.args.raw.now c.args.self.
 
 pub returns : goal.returns
 returns c =
-    let keeps : KeepsKnownValue c.args.reading.version c.args.raw.now.octets c.in_ok-line-2.line =
-    subst (λ octets. KeepsKnownValue c.args.reading.version octets c.in_ok-line-2.line)
+    let made : IsLineOf c.args.reading.version c.args.raw.now.octets c.in_ok-line-2.line =
+    subst (λ octets. IsLineOf c.args.reading.version octets c.in_ok-line-2.line)
     c.as_slice-octets.ensures
-    c.in_ok-line-2.ensures.keeps in
+    c.in_ok-line-2.ensures.made in
     on_ok_weaker c.push-2.result (λ extends. extends c.args.reading c.in_ok-line-2.ensures.proper
-    c.in_ok-line-2.ensures.kind c.in_ok-line-2.ensures.allowed keeps) c.push-2.ensures.extends
+    c.in_ok-line-2.ensures.kind c.in_ok-line-2.ensures.allowed (inl made)) c.push-2.ensures.extends

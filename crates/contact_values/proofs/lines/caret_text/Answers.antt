@@ -1,0 +1,24 @@
+use Rattle.std.proofs.Common.{◌≡◌, ◌++◌, flat_map, chars, ap, sym, ◌∙◌}
+use Rattle.std.specs.Str.{encode_utf8_all}
+use Rattle.std.proofs.lemmas.Str.{Chars-Drains, encodes-chars}
+use Rattle.contact_values.specs.Carets.{caret_char}
+use Rattle.contact_values.proofs.TextLemmas.{one_more_written}
+use Rattle.contact_values.proofs.lines.caret_text.Goals as goal
+
+pub loop-c-preserved : goal.loop-c-preserved
+loop-c-preserved c = record {
+  can = tt;
+  ends = tt;
+  so_far = c.in_ok-push_caret.ensures
+      ∙ ap (λ octets. octets ++ encode_utf8_all (caret_char c.in-Some.c)) c.loop-c.invariant.so_far
+      ∙ one_more_written caret_char c.loop-c.yielded c.in-Some.c;
+}
+
+pub returns : goal.returns
+returns c =
+    let all : c.loop-c.yielded ≡ chars c.args.text.now =
+    Chars-Drains (chars c.args.text.now) c.loop-c.yielded c.into_iter-c-iterator.result
+    (encodes-chars c.args.text.now c.utf8.text ∙ sym c.chars-c-items.ensures.rest
+    ∙ ap (λ s. s.rest.now) (sym c.into_iter-c-iterator.ensures.into_iter_gives))
+    (c.next.new.self, (c.loop-c.c-iterator, c.loop-c.yielded_by, c.in-None.ensures.steps)) in
+    c.loop-c.invariant.so_far ∙ ap (λ cs. encode_utf8_all (flat_map caret_char cs)) all

@@ -1,0 +1,2 @@
+pub mod Carets
+pub mod Labels

@@ -1,0 +1,3 @@
+pub mod BreakLoop
+pub mod RewriteLoop
+pub mod UriNames
