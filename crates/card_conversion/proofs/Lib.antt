@@ -1,5 +1,6 @@
 mod AboveLemmas
 mod ExportLemmas
+mod CutLemmas
 mod FileLemmas
 mod LineLemmas
 mod MediaLemmas

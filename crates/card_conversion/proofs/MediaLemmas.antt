@@ -4,7 +4,7 @@ use Rattle.std.proofs.Common.{ap, subst}
 use Rattle.std.specs.Prelude.{get_or}
 use Rattle.std.proofs.lemmas.List.{take_more}
 use Rattle.import_text.specs.declared.raw_line.RawLine.{RawLine}
-use Rattle.vcard_property.specs.Media.{media_octets}
+use Rattle.vcard_values.specs.Media.{media_octets}
 use Rattle.card_conversion.specs.Media.{PutsLine, PutsLines}
 use Rattle.card_conversion.specs.declared.media_sink.MediaDelivery.{MediaDelivery}
 

@@ -25,11 +25,13 @@ use Rattle.card_conversion.specs.Courses.{ConvertsPieces, counts_of}
 use Rattle.std.proofs.lemmas.Grind.{fold-append}
 use Rattle.card_conversion.specs.Deliveries.{HasUids, WritesInTurn}
 use Rattle.card_conversion.specs.Fates.{Entry, HaveFates, IsFate, cards_of, cards_of_fate}
-use Rattle.card_conversion.specs.Fates.{octets_of, uids_of, uids_of_fate}
+use Rattle.card_conversion.specs.Fates.{octets_of, pieces_of, uids_of, uids_of_fate}
 use Rattle.card_conversion.specs.Moved.{own_uid}
 use Rattle.vcard_import.specs.declared.conversion.Conversion.{Conversion}
-use Rattle.card_conversion.specs.internal.PieceReaders.{HasEnded, left_of}
+use Rattle.card_conversion.specs.internal.PieceReaders.{AreCutFrom, HasEnded, IsCutFrom, left_of}
 use Rattle.card_conversion.specs.internal.States.{Progress, TakesPiece}
+use Rattle.std.proofs.lemmas.List.{map-append}
+use Rattle.card_conversion.proofs.CutLemmas.{all_cut, nothing_cut, one_more_cut}
 use Rattle.import_text.proofs.FillLemmas.{consumes_more}
 
 abbrev entry_of : List ℕ → Fate → Entry
@@ -247,6 +249,7 @@ module _ {A : Type 0} (writes : List Line → A → A → Type 0) where
     entries = converts.entries;
     accounts = record {
       whole = converts.whole;
+      cut = converts.cut;
       fates = converts.part.fates;
       distinct = apart_each [] converts.entries converts.part.fates;
       cards = each_card [] converts.entries converts.part.fates;
@@ -264,6 +267,7 @@ module _ {A : Type 0} (writes : List Line → A → A → Type 0) where
     begun pieces map summary left ended known counts = record {
       entries = [];
       passed = left;
+      cut = nothing_cut input (left_of remaining pieces) left;
       ended = ended;
       fates = tt;
       known = subst (HasUids map) (sym (append-nil uids)) known;
@@ -275,13 +279,14 @@ module _ {A : Type 0} (writes : List Line → A → A → Type 0) where
         finite.FinMap text_cmp (Unit {0})) (octets : List ℕ) (fate : Fate) (summary more : Summary)
         → Progress writes remaining input uids start before now old map summary
         → Consumes (left_of remaining old) (left_of remaining found) []
+        → IsCutFrom (left_of remaining found) octets
         → Consumes (left_of remaining found) (left_of remaining new) octets
         → HasEnded remaining new
         → TakesPiece writes octets map after now then fate
         → more ≡ counted summary fate
         → Progress writes remaining input uids start before then new after more
-    one_piece now then old found new map after octets fate summary more p nothing passes ended takes
-        counts =
+    one_piece now then old found new map after octets fate summary more p nothing cut passes ended
+        takes counts =
         let taken = takes (uids ++ uids_of p.entries) p.known in
         record {
           entries = p.entries ++ entry_of octets fate ∷ [];
@@ -291,6 +296,10 @@ module _ {A : Type 0} (writes : List Line → A → A → Type 0) where
               (octets_of p.entries) octets p.passed
               (consumes_more (left_of remaining old) (left_of remaining found)
               (left_of remaining new) [] octets nothing passes));
+          cut = subst (λ pieces. AreCutFrom input pieces (left_of remaining new))
+              (sym (map-append (λ (e : Entry). e.octets) p.entries (entry_of octets fate ∷ [])))
+              (one_more_cut input (left_of remaining old) (left_of remaining found)
+              (left_of remaining new) (pieces_of p.entries) octets p.cut nothing cut passes);
           ended = ended;
           fates = more_fates uids p.entries octets fate p.fates taken.0;
           known = subst (λ all. HasUids after (uids ++ all)) (sym (more_uids p.entries octets fate))
@@ -316,5 +325,7 @@ module _ {A : Type 0} (writes : List Line → A → A → Type 0) where
     entries = p.entries;
     whole = whole_read input (left_of remaining old) (left_of remaining found) (octets_of p.entries)
         p.passed nothing at_end;
+    cut = all_cut input (left_of remaining old) (left_of remaining found) (pieces_of p.entries)
+        p.cut nothing at_end;
     part = record { fates = p.fates; known = p.known; written = p.written; counts = p.counts };
   }

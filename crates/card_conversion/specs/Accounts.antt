@@ -7,16 +7,19 @@ use Rattle.csv_cards.specs.Writing.{csv_text}
 use Rattle.csv_cards.specs.declared.form.Form.TheVariants.{Cards}
 use Rattle.vcard_lines.specs.declared.line.Line.{Line}
 use Rattle.vcard_text.specs.Cards.{IsCard, uid_of}
-use Rattle.card_conversion.specs.Fates.{Entry, HaveFates, cards_of, octets_of}
+use Rattle.card_conversion.specs.Cuts.{AreCutOff}
+use Rattle.card_conversion.specs.Fates.{Entry, HaveFates, cards_of, octets_of, pieces_of}
 use Rattle.card_conversion.specs.Counts.{summary_of}
 use Rattle.card_conversion.specs.declared.ledger.Summary.{Summary}
 use Rattle.card_conversion.specs.Deliveries.{WritesInTurn}
 
--- The pieces are all octets of the input, in order, and each has its fate. The cards that were
--- written have different UIDs, and each keeps the rules of a card. The summary counts the pieces.
+-- The pieces are all octets of the input, in order, each as it is cut off what the ones before it
+-- left, and each has its fate. The cards that were written have different UIDs, and each keeps the
+-- rules of a card. The summary counts the pieces.
 pub record AccountsFor (input : Option (List ℕ)) (entries : List Entry) (summary : Summary) : Type 0
   where
     pub whole : IfSome input (λ octets. octets ≡ octets_of entries)
+    pub cut : IfSome input (λ octets. AreCutOff octets (pieces_of entries) [])
     pub fates : HaveFates [] entries
     pub distinct : AllPairs (λ a b. a ≢ b) (map uid_of (cards_of entries))
     pub cards : AllByRecursion IsCard (cards_of entries)

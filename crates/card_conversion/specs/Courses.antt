@@ -10,6 +10,7 @@ use Rattle.card_conversion.specs.ContactAccounts.{ReadsInTurn}
 use Rattle.card_conversion.specs.ContactFates as contacts
 use Rattle.card_conversion.specs.Counts as pieces
 use Rattle.card_conversion.specs.Counts.{nothing_counted}
+use Rattle.card_conversion.specs.Cuts.{AreCutOff}
 use Rattle.card_conversion.specs.Deliveries.{HasUids, WritesInTurn}
 use Rattle.card_conversion.specs.Fates.{Entry}
 use Rattle.card_conversion.specs.Fates as fates
@@ -62,12 +63,13 @@ pub record ConvertsPart {A : Type 0} (writes : List Line → A → A → Type 0)
   pub counts : counts_of new ≡ counted (counts_of old) part
 
 -- The input was converted piece by piece, after cards with these UIDs. The pieces are all octets of
--- the input, in order.
+-- the input, in order, each as it is cut off what the ones before it left.
 pub record ConvertsPieces {A : Type 0} (writes : List Line → A → A → Type 0)
     (input : Option (List ℕ)) (uids : List (List ℕ)) (old new : Course) (before after : A) : Type 0
   where
     pub entries : List Entry
     pub whole : IfSome input (λ octets. octets ≡ fates.octets_of entries)
+    pub cut : IfSome input (λ octets. AreCutOff octets (fates.pieces_of entries) [])
     pub part : ConvertsPart writes (of_pieces entries) uids old new before after
 
 -- Some texts were converted piece by piece, after cards with these UIDs. Which texts isn't said.

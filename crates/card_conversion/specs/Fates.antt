@@ -1,7 +1,7 @@
 -- What becomes of the pieces of a file that is converted.
 use Rattle.std.specs.Prelude.{ℕ, ◌≡◌, ◌≤◌, ◌⊎◌, ◌||◌, ◌&&◌, ◌==◌}
 use Rattle.std.specs.Prelude.{Bool, true, false, List, [], ◌∷◌, ◌++◌}
-use Rattle.std.specs.Prelude.{count_by, length, flat_map, codes, drop, nat_lt, not, take_while}
+use Rattle.std.specs.Prelude.{count_by, length, flat_map, map, codes, drop, nat_lt, not, take_while}
 use Rattle.std.specs.List.{Contains, list_all}
 use Rattle.import_text.specs.RawLines.{begins_with_word}
 use Rattle.base_types.specs.Octets.{carriage_return, line_feed, semicolon, space, tab}
@@ -113,6 +113,10 @@ cards_of_fate (Moved made) = made.card ∷ []
 pub record Entry : Type 0 where
   pub octets : List ℕ
   pub fate : Fate
+
+-- the pieces
+abbrev pub pieces_of : List Entry → List (List ℕ)
+pieces_of entries = map (λ entry. entry.octets) entries
 
 -- the octets of the pieces
 abbrev pub octets_of : List Entry → List ℕ

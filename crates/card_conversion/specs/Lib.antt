@@ -2,6 +2,7 @@ pub mod AboveLines
 pub mod Accounts
 pub mod Counts
 pub mod Courses
+pub mod Cuts
 pub mod Deliveries
 pub mod Fates
 pub mod LineEnds

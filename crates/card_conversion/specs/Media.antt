@@ -5,7 +5,7 @@ use Rattle.import_text.specs.declared.raw_line.RawLine.{RawLine}
 use Rattle.vcard_text.specs.Cards.{uid_of}
 use Rattle.vcard_import.specs.Conversions.{left_out_lines}
 use Rattle.vcard_import.specs.declared.change.Change.{Change}
-use Rattle.vcard_property.specs.Media.{media_octets}
+use Rattle.vcard_values.specs.Media.{media_octets}
 use Rattle.card_conversion.specs.declared.fate.Fate.{Fate}
 use Rattle.card_conversion.specs.declared.fate.Fate.TheVariants.{Blank, Other, Long, Overfull}
 use Rattle.card_conversion.specs.declared.fate.Fate.TheVariants.{Refused, Repeated, Crowded}

@@ -1,7 +1,7 @@
 //! Gives the pictures and sounds that a card is carried without to their sink.
 ghost use Rattle.std.specs.Prelude.{IfOk};
 ghost use Rattle.vcard_text.specs.Cards.{uid_of};
-ghost use Rattle.vcard_property.specs.Media.{media_octets};
+ghost use Rattle.vcard_values.specs.Media.{media_octets};
 ghost use Rattle.card_conversion.specs.Media.{AreRefused, Puts, PutsLine, PutsLines, PutsMedia};
 ghost use Rattle.card_conversion.specs.Media.{PutsOfFate};
 

@@ -1,10 +1,12 @@
 //! Reads a file piece by piece: cards, and what is between them.
-ghost use Rattle.std.specs.Prelude.{◌≡◌, ◌≤◌, [], None, IfOk, IfSome, OnOk, length, take};
+ghost use Rattle.import_text.specs.PieceLaws.{has_line_end};
+ghost use Rattle.std.specs.Prelude.{◌≡◌, ◌≤◌, ◌||◌, nat_le, [], None, IfOk, IfSome, OnOk, length, take};
 ghost use Rattle.std.specs.Io.KnownBytes.{Consumes, IsAtEnd};
-ghost use Rattle.card_conversion.specs.internal.PieceReaders.{HasEnded, left_of, unread_of};
+ghost use Rattle.card_conversion.specs.internal.PieceReaders.{HasEnded, IsCutFrom, left_of, unread_of};
 
 use crate::chunks::read_chunk;
 use crate::fault::ConversionFault;
+use import_text::laws::pieces_stay;
 use import_text::{joined, split_text};
 use std::alloc::Global;
 use std::io::Read;
@@ -17,6 +19,13 @@ pub(crate) const PIECE_OCTETS_MAX: usize = 8_388_608;
 
 /// The most reads for one piece. Each but the last doubles the octets that are kept.
 const READS_MAX: u32 = 64;
+
+/// Whether a line ends in the octets.
+fn has_line_end(octets: &[u8]) -> bool
+    ensures { result ≡ has_line_end octets.now }
+{
+    octets.iter().any(|octet| *octet == b'\n')
+}
 
 /// A reader and the octets that were read from it but not passed yet. It keeps one piece and at
 /// most as much again.
@@ -71,9 +80,24 @@ impl<R: Read + Drop> PieceReader<R> {
         Ok(())
     }
 
+    /// Whether the first piece of the unread octets, after which these come, is that of all that is
+    /// left, or so many octets were looked at that it is taken for it. Whether a line begins a card
+    /// is known when the line has ended, so a piece is whole if a line after it has ended.
+    fn is_whole(&self, rest: &[u8]) -> bool
+        ensures { result ≡ (self.now.is_at_end || has_line_end rest.now
+            || nat_le 8388608 (length (unread_of self.now))) }
+    {
+        if self.is_at_end {
+            return true;
+        }
+        if has_line_end(rest) {
+            return true;
+        }
+        self.unread().len() >= PIECE_OCTETS_MAX
+    }
+
     /// Reads until the first piece is whole, and returns its length; `None` at the end of the
-    /// input. Whether a line begins a card is known when the line has ended, so a piece is whole if
-    /// a line after it has ended.
+    /// input.
     #[tactic(auto, using(crate::proofs::PieceLemmas::nothing_read, crate::proofs::PieceLemmas::no_more, crate::proofs::PieceLemmas::ends))]
     pub(crate) fn find_piece(&mut self, alloc: Global) -> Result<Option<usize>, ConversionFault>
         requires { HasEnded R.remaining self.old }
@@ -82,16 +106,20 @@ impl<R: Read + Drop> PieceReader<R> {
         ensures ended { OnOk result (HasEnded R.remaining self.new) }
         ensures within { IfOk result (λ found.
             IfSome found (λ len. len ≤ length (unread_of self.new))) }
+        ensures cut { IfOk result (λ found. IfSome found (λ len.
+            IsCutFrom (left_of R.remaining self.new) (take len (unread_of self.new)))) }
         ensures none { IfOk result (λ found. found ≡ None
             → IsAtEnd (left_of R.remaining self.new)) }
     {
+        // A law: octets that come later don't change a piece after which a line has ended.
+        pieces_stay();
+
         for _more in 0..READS_MAX {
             if self.is_at_end && self.unread().is_empty() {
                 return Ok(None);
             }
             let (piece, rest) = split_text(self.unread());
-            let is_whole = self.is_at_end || rest.contains(&b'\n');
-            if is_whole || self.unread().len() >= PIECE_OCTETS_MAX {
+            if self.is_whole(rest) {
                 return Ok(Some(piece.len()));
             }
             self.read_more(alloc)?;

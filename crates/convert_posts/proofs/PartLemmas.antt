@@ -1,5 +1,5 @@
 -- What a part is, by how it was made.
-use Rattle.std.proofs.Common.{◌≡◌, ◌≤◌, ℕ, Bool, List, Some, length, take}
+use Rattle.std.proofs.Common.{◌≡◌, ◌≤◌, ℕ, Bool, List, None, Some, length, take}
 use Rattle.card_conversion.specs.LineEnds.{with_line_feeds}
 use Rattle.card_conversion.specs.declared.ledger.Summary.{Summary}
 use Rattle.convert_posts.specs.Parts.{IsOfPieces, IsPart, of_cards, of_export}
@@ -18,9 +18,8 @@ module _ (body : List ℕ) (taken : ℕ) (summary : Summary) (rows : List CardRo
     converted = of_cards returns kind (rw (taken_is, counts, cards) pieces);
   }
 
-  pub export_is_part : (text : List ℕ) → part.kind ≡ Rows → IsOfPieces (Some text) summary rows
-      → IsPart body part
-  export_is_part text kind pieces = record {
+  pub export_is_part : part.kind ≡ Rows → IsOfPieces None summary rows → IsPart body part
+  export_is_part kind pieces = record {
     within = rw taken_is within;
-    converted = of_export text kind (rw (counts, cards) pieces);
+    converted = of_export kind (rw (counts, cards) pieces);
   }

@@ -1,5 +1,5 @@
 -- The rows of cards that were written one after another.
-use Rattle.std.proofs.Common.{◌≡◌, ◌≢◌, ◌∙◌, ◌∷◌, ◌++◌, [], ℕ, List, Option, Some, refl, sym, ap}
+use Rattle.std.proofs.Common.{◌≡◌, ◌≢◌, ◌∙◌, ◌∷◌, ◌++◌, [], ℕ, List, Option, None, refl, sym, ap}
 use Rattle.std.proofs.Common.{subst, map, append_assoc, append-nil}
 use Rattle.std.proofs.lemmas.List.{map-append}
 use Rattle.std.specs.List.{AllByRecursion, AllPairs}
@@ -12,7 +12,6 @@ use Rattle.card_conversion.specs.Courses.{AllHaveFates, ConvertsPart, ConvertsPi
 use Rattle.card_conversion.specs.Courses.{HaveFates, Part, cards_of, cards_of_all, counts_of}
 use Rattle.card_conversion.specs.Courses.{of_pieces, of_rows}
 use Rattle.card_conversion.specs.Deliveries.{WritesInTurn}
-use Rattle.card_conversion.specs.Fates.{octets_of}
 use Rattle.card_conversion.specs.declared.course.Course.{Course}
 use Rattle.contact_columns.specs.declared.columns.Column.{Column}
 use Rattle.convert_posts.specs.Parts.{AddsRow, AreRowsOf, IsOfContacts, IsOfPieces, card_text}
@@ -74,6 +73,7 @@ module _ {A : Type 0} (rows_of : A → List CardRow) where
     converts.entries,
     record {
       whole = converts.whole;
+      cut = converts.cut;
       fates = converts.part.fates;
       distinct = apart_in_one are_apart (of_pieces converts.entries) converts.part.fates;
       cards = cards_of_one are_cards (of_pieces converts.entries) converts.part.fates;
@@ -83,16 +83,14 @@ module _ {A : Type 0} (rows_of : A → List CardRow) where
     rows_are (cards_of (of_pieces converts.entries)) a b none converts.part.written,
   )
 
-  -- the same of texts, which are together the octets of the pieces
+  -- the same of texts, of which it isn't known which they are
   pub texts_done : (first course : Course) (a b : A) → AreCards → AreApart
       → counts_of first ≡ nothing_counted → rows_of a ≡ []
       → ConvertsTexts row_step [] first course a b
-      → (text : List ℕ) × IsOfPieces (Some text) (counts_of course) (rows_of b)
-  texts_done first course a b are_cards are_apart nothing none (entries, part) = (
-    octets_of entries,
-    pieces_done (Some (octets_of entries)) first course a b are_cards are_apart nothing none
-        (record { entries = entries; whole = refl; part = part }),
-  )
+      → IsOfPieces None (counts_of course) (rows_of b)
+  texts_done first course a b are_cards are_apart nothing none (entries, part) =
+      pieces_done None first course a b are_cards are_apart nothing none
+      (record { entries = entries; whole = tt; cut = tt; part = part })
 
   pub rows_done : (columns : List Column) (entries : List contacts.RowEntry) (first course : Course)
       (a b : A) → AreCards → AreApart → counts_of first ≡ nothing_counted → rows_of a ≡ []

@@ -1,5 +1,5 @@
 -- What became of a part of a file.
-use Rattle.std.specs.Prelude.{ℕ, Bool, ◌≡◌, ◌≢◌, ◌≤◌, List, [], ◌∷◌, ◌++◌, Option, Some}
+use Rattle.std.specs.Prelude.{ℕ, Bool, ◌≡◌, ◌≢◌, ◌≤◌, List, [], ◌∷◌, ◌++◌, Option, None, Some}
 use Rattle.std.specs.Prelude.{length, map, take}
 use Rattle.std.specs.List.{AllByRecursion, AllPairs}
 use Rattle.card_conversion.specs.Accounts.{AccountsFor}
@@ -71,14 +71,14 @@ pub record IsPassed (part : Part) : Type 0 where
   pub rows : part.rows ≡ []
 
 -- What became of the octets that were taken: the rows are those of cards that a conversion wrote.
--- Of vCards it converted exactly these octets, of which perhaps each carriage return ends a line.
+-- Of vCards it converted exactly these octets, of which perhaps each carriage return ends a line; of
+-- the texts in rows it isn't known which.
 -- Or nothing was taken; or one card or row, which isn't carried.
 pub data AreConverted (body : List ℕ) (part : Part) : Type 0 where
   of_cards : (returns : Bool) → part.kind ≡ Cards
       → IsOfPieces (Some (with_line_feeds returns (take part.taken body))) part.summary part.rows
       → AreConverted body part
-  of_export : (text : List ℕ) → part.kind ≡ Rows
-      → IsOfPieces (Some text) part.summary part.rows → AreConverted body part
+  of_export : part.kind ≡ Rows → IsOfPieces None part.summary part.rows → AreConverted body part
   of_contacts : part.kind ≡ Contacts → IsOfContacts part.summary part.rows
       → AreConverted body part
   of_open : IsOpen part → AreConverted body part

@@ -1,5 +1,5 @@
 //! Converts the text of a part.
-ghost use Rattle.std.specs.Prelude.{ℕ, List, Some, IfOk, IfSome};
+ghost use Rattle.std.specs.Prelude.{None, IfOk, IfSome};
 ghost use Rattle.contact_csv.specs.Contacts.{IsReady};
 ghost use Rattle.convert_posts.specs.Parts.{IsOfContacts, IsOfPieces};
 
@@ -78,7 +78,7 @@ pub(crate) fn convert_exports<R: Read + Drop>(
     starts: &[u64],
 ) -> Result<Option<Converted>, NoMemory>
     ensures { IfOk result (λ done. IfSome done (λ it.
-        (text : List ℕ) × IsOfPieces (Some text) it.summary it.rows)) }
+        IsOfPieces None it.summary it.rows)) }
 {
     written_cards_differ();
     let mut rows = RowList::new(alloc, origin, starts);

@@ -3,6 +3,8 @@ pub mod HeadLemmas
 pub mod CharsetLemmas
 pub mod RawLineLemmas
 pub mod PieceLemmas
+pub mod InsideLemmas
+pub mod StayLemmas
 pub mod SplitLemmas
 pub mod UnitLemmas
 pub mod WordLemmas

@@ -4,7 +4,7 @@ use Rattle.std.proofs.Common.{length, take, drop, not, cond, refl, sym, ap, ◌�
 use Rattle.std.proofs.lemmas.List.Sums.{take_while-cons}
 use Rattle.std.proofs.lemmas.List.{length-take-le, length-drop, drop-drop, drop_all}
 use Rattle.base_types.specs.Octets.{line_feed}
-use Rattle.import_text.specs.Pieces.{first_line, whole_lines, put_octet, next_step, octets_after}
+use Rattle.import_text.specs.Pieces.{first_line, whole_lines, put_octet, step_in, octets_after}
 use Rattle.import_text.specs.Pieces.{piece_len}
 use Rattle.import_text.specs.internal.LineLens.{line_len}
 use Rattle.import_text.specs.declared.pieces.Nesting.{Nesting}
@@ -37,11 +37,11 @@ first_other : (octet : ℕ) (octets : List ℕ) → (octet == line_feed) ≡ fal
 first_other octet octets e = take_while-cons (λ o. not (o == line_feed)) octet octets
     ∙ ap (λ t. cond (not t) (octet ∷ first_line octets) []) e
 
-feed_len : (octet : ℕ) (octets : List ℕ) → (octet == line_feed) ≡ true
+pub feed_len : (octet : ℕ) (octets : List ℕ) → (octet == line_feed) ≡ true
     → line_len (octet ∷ octets) ≡ 1
 feed_len octet octets e = let f = ap length (first_feed octet octets e) in omega (arith, f)
 
-other_len : (octet : ℕ) (octets : List ℕ) → (octet == line_feed) ≡ false
+pub other_len : (octet : ℕ) (octets : List ℕ) → (octet == line_feed) ≡ false
     → line_len (octet ∷ octets) ≡ suc (line_len octets)
 other_len octet octets e = let f = ap length (first_other octet octets e) in omega (arith, f)
 
@@ -78,78 +78,78 @@ lines_split [] l = absurd (omega arith)
 lines_split (octet ∷ octets) l = split_here octet octets (octet == line_feed) refl
     (lines_split octets)
 
-piece_after : (nesting : Nesting) (line : List ℕ) (lines : List (List ℕ))
-    → piece_len nesting (line ∷ lines) ≡ octets_after (next_step nesting line) line
-    (λ next. piece_len next lines)
+piece_after : (inside : Bool) (nesting : Nesting) (line : List ℕ) (lines : List (List ℕ))
+    → piece_len inside nesting (line ∷ lines) ≡ octets_after (step_in inside nesting line) line
+    (λ next. piece_len inside next lines)
 unfolding piece_len
-piece_after nesting line lines = refl
+piece_after inside nesting line lines = refl
 
-pub no_lines : (nesting : Nesting) → piece_len nesting (whole_lines []) ≡ 0
+pub no_lines : (inside : Bool) (nesting : Nesting) → piece_len inside nesting (whole_lines []) ≡ 0
 unfolding piece_len whole_lines
-no_lines nesting = refl
+no_lines inside nesting = refl
 
-piece_from : (nesting : Nesting) (octets : List ℕ) (len : ℕ) (step : Step) → 0 < length octets
-    → len ≡ line_len octets → step ≡ next_step nesting (take len octets)
-    → piece_len nesting (whole_lines octets) ≡ octets_after step (take len octets)
-    (λ next. piece_len next (whole_lines (drop len octets)))
-piece_from nesting octets len step l e is =
-    ap (piece_len nesting) (lines_split octets l ∙ split_at (line_len octets) len octets (sym e))
-    ∙ piece_after nesting (take len octets) (whole_lines (drop len octets))
+piece_from : (inside : Bool) (nesting : Nesting) (octets : List ℕ) (len : ℕ) (step : Step) → 0 < length octets
+    → len ≡ line_len octets → step ≡ step_in inside nesting (take len octets)
+    → piece_len inside nesting (whole_lines octets) ≡ octets_after step (take len octets)
+    (λ next. piece_len inside next (whole_lines (drop len octets)))
+piece_from inside nesting octets len step l e is =
+    ap (piece_len inside nesting) (lines_split octets l ∙ split_at (line_len octets) len octets (sym e))
+    ∙ piece_after inside nesting (take len octets) (whole_lines (drop len octets))
     ∙ ap (λ s. octets_after s (take len octets)
-    (λ next. piece_len next (whole_lines (drop len octets)))) (sym is)
+    (λ next. piece_len inside next (whole_lines (drop len octets)))) (sym is)
 
 -- the piece ends in the first line of these octets
-pub piece_ends : (nesting : Nesting) (octets : List ℕ) (len : ℕ) (step : Step) (count : ℕ)
-    → 0 < length octets → len ≡ line_len octets → step ≡ next_step nesting (take len octets)
-    → step ≡ Ends count → piece_len nesting (whole_lines octets) ≡ count
-piece_ends nesting octets len step count l e is ends =
-    piece_from nesting octets len step l e is
+pub piece_ends : (inside : Bool) (nesting : Nesting) (octets : List ℕ) (len : ℕ) (step : Step) (count : ℕ)
+    → 0 < length octets → len ≡ line_len octets → step ≡ step_in inside nesting (take len octets)
+    → step ≡ Ends count → piece_len inside nesting (whole_lines octets) ≡ count
+piece_ends inside nesting octets len step count l e is ends =
+    piece_from inside nesting octets len step l e is
     ∙ ap (λ s. octets_after s (take len octets)
-    (λ next. piece_len next (whole_lines (drop len octets)))) ends
+    (λ next. piece_len inside next (whole_lines (drop len octets)))) ends
 
 -- the piece goes on after the first line of these octets
-pub piece_goes_on : (nesting : Nesting) (octets : List ℕ) (len : ℕ) (step : Step) (next : Nesting)
-    → 0 < length octets → len ≡ line_len octets → step ≡ next_step nesting (take len octets)
-    → step ≡ GoesOn next → piece_len nesting (whole_lines octets) ≡ len + piece_len next
+pub piece_goes_on : (inside : Bool) (nesting : Nesting) (octets : List ℕ) (len : ℕ) (step : Step) (next : Nesting)
+    → 0 < length octets → len ≡ line_len octets → step ≡ step_in inside nesting (take len octets)
+    → step ≡ GoesOn next → piece_len inside nesting (whole_lines octets) ≡ len + piece_len inside next
     (whole_lines (drop len octets))
-piece_goes_on nesting octets len step next l e is goes =
-    piece_from nesting octets len step l e is
+piece_goes_on inside nesting octets len step next l e is goes =
+    piece_from inside nesting octets len step l e is
     ∙ ap (λ s. octets_after s (take len octets)
-    (λ next. piece_len next (whole_lines (drop len octets)))) goes
-    ∙ ap (λ n. n + piece_len next (whole_lines (drop len octets)))
+    (λ next. piece_len inside next (whole_lines (drop len octets)))) goes
+    ∙ ap (λ n. n + piece_len inside next (whole_lines (drop len octets)))
     (length-take-le len octets (omega (arith, e)))
 
 -- the same, in the octets of a file of which some were passed
-pub ends_at : (nesting : Nesting) (octets rest : List ℕ) (whole end len : ℕ) (step : Step) (count :
+pub ends_at : (inside : Bool) (nesting : Nesting) (octets rest : List ℕ) (whole end len : ℕ) (step : Step) (count :
     ℕ) → end < length octets → rest ≡ drop end octets → len ≡ line_len rest
-    → step ≡ next_step nesting (take len rest) → step ≡ Ends count
-    → whole ≡ end + piece_len nesting (whole_lines (drop end octets)) → end + count ≡ whole
-ends_at nesting octets rest whole end len step count l is_rest e is ends all =
-    sym (all ∙ ap (λ octets. end + piece_len nesting (whole_lines octets)) (sym is_rest)
-    ∙ ap (λ n. end + n) (piece_ends nesting rest len step count
+    → step ≡ step_in inside nesting (take len rest) → step ≡ Ends count
+    → whole ≡ end + piece_len inside nesting (whole_lines (drop end octets)) → end + count ≡ whole
+ends_at inside nesting octets rest whole end len step count l is_rest e is ends all =
+    sym (all ∙ ap (λ octets. end + piece_len inside nesting (whole_lines octets)) (sym is_rest)
+    ∙ ap (λ n. end + n) (piece_ends inside nesting rest len step count
     (omega (arith, length-drop end octets, ap length is_rest)) e is ends))
 
-pub goes_on_at : (nesting : Nesting) (octets rest : List ℕ) (whole end len : ℕ) (step : Step)
+pub goes_on_at : (inside : Bool) (nesting : Nesting) (octets rest : List ℕ) (whole end len : ℕ) (step : Step)
     (next : Nesting) → end < length octets → rest ≡ drop end octets → len ≡ line_len rest
-    → step ≡ next_step nesting (take len rest) → step ≡ GoesOn next
-    → whole ≡ end + piece_len nesting (whole_lines (drop end octets))
-    → whole ≡ end + len + piece_len next (whole_lines (drop (end + len) octets))
-goes_on_at nesting octets rest whole end len step next l is_rest e is goes all =
+    → step ≡ step_in inside nesting (take len rest) → step ≡ GoesOn next
+    → whole ≡ end + piece_len inside nesting (whole_lines (drop end octets))
+    → whole ≡ end + len + piece_len inside next (whole_lines (drop (end + len) octets))
+goes_on_at inside nesting octets rest whole end len step next l is_rest e is goes all =
     all
-    ∙ ap (λ octets. end + piece_len nesting (whole_lines octets)) (sym is_rest)
-    ∙ ap (λ n. end + n) (piece_goes_on nesting rest len step next
+    ∙ ap (λ octets. end + piece_len inside nesting (whole_lines octets)) (sym is_rest)
+    ∙ ap (λ n. end + n) (piece_goes_on inside nesting rest len step next
     (omega (arith, length-drop end octets, ap length is_rest)) e is goes)
-    ∙ add_assoc end len (piece_len next (whole_lines (drop len rest)))
-    ∙ ap (λ octets. end + len + piece_len next (whole_lines octets)) (ap (drop len) is_rest
+    ∙ add_assoc end len (piece_len inside next (whole_lines (drop len rest)))
+    ∙ ap (λ octets. end + len + piece_len inside next (whole_lines octets)) (ap (drop len) is_rest
     ∙ drop-drop len end octets)
   where
     add_assoc : (a b n : ℕ) → a + (b + n) ≡ a + b + n
     add_assoc a b n = omega arith
 
-pub all_passed : (nesting : Nesting) (octets : List ℕ) (whole end : ℕ) → length octets ≤ end
-    → whole ≡ end + piece_len nesting (whole_lines (drop end octets)) → end ≡ whole
-all_passed nesting octets whole end l all =
-    let none : piece_len nesting (whole_lines (drop end octets)) ≡ 0 =
-    ap (λ octets. piece_len nesting (whole_lines octets)) (drop_all end octets l)
-    ∙ no_lines nesting in
+pub all_passed : (inside : Bool) (nesting : Nesting) (octets : List ℕ) (whole end : ℕ) → length octets ≤ end
+    → whole ≡ end + piece_len inside nesting (whole_lines (drop end octets)) → end ≡ whole
+all_passed inside nesting octets whole end l all =
+    let none : piece_len inside nesting (whole_lines (drop end octets)) ≡ 0 =
+    ap (λ octets. piece_len inside nesting (whole_lines octets)) (drop_all end octets l)
+    ∙ no_lines inside nesting in
     omega (arith, all, none)

@@ -41,7 +41,7 @@ no_word word = refl
 -- ---- octets that were appended
 
 -- the same front, whatever follows
-front_same : (word xs ys : List ℕ) → length word ≤ length xs → begins_with_word word (xs ++ ys)
+pub front_same : (word xs ys : List ℕ) → length word ≤ length xs → begins_with_word word (xs ++ ys)
     ≡ begins_with_word word xs
 front_same word xs ys h =
     let longer : nat_le (length word) (length (xs ++ ys)) ≡ true =
@@ -49,7 +49,7 @@ front_same word xs ys h =
     let long : nat_le (length word) (length xs) ≡ true = le-leb _ _ h in
     rw (longer, long, take-append-le (length word) xs ys h) refl
 
-too_short : (word xs : List ℕ) → length xs < length word → begins_with_word word xs ≡ false
+pub too_short : (word xs : List ℕ) → length xs < length word → begins_with_word word xs ≡ false
 too_short word xs h =
     let short : nat_le (length word) (length xs) ≡ false = lt-leb _ _ h in
     rw short refl

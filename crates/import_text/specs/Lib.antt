@@ -1,5 +1,6 @@
 pub mod Encodings
 pub mod Pieces
+pub mod PieceLaws
 pub mod QuotedPrintable
 pub mod RawLines
 pub mod Units

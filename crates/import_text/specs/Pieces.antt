@@ -1,7 +1,8 @@
 -- The pieces of a file: its cards, and what is between them. A card goes from its BEGIN:VCARD to its
 -- END:VCARD (RFC 6350, sections 6.1.1 and 6.1.2), with the cards that its AGENT lines have (RFC 2426,
 -- section 3.5.4). The rest is this project's own.
-use Rattle.std.specs.Prelude.{ℕ, ◌+◌, ◌-◌, Bool, true, false, not, ◌&&◌, ◌||◌, ◌==◌, List, [], ◌∷◌}
+use Rattle.std.specs.Prelude.{ℕ, suc, ◌+◌, ◌-◌, Bool, true, false, not, ◌&&◌, ◌||◌, ◌==◌}
+use Rattle.std.specs.Prelude.{List, [], ◌∷◌, Option, None, Some, option_map}
 use Rattle.std.specs.Prelude.{take, drop, take_while, length, codes, if◌then◌else◌}
 use Rattle.std.specs.List.{list_all}
 use Rattle.base_types.specs.Octets.{tab, line_feed, carriage_return, space}
@@ -91,20 +92,48 @@ abbrev pub octets_after : Step → List ℕ → (Nesting → ℕ) → ℕ
 octets_after (Ends count) line rest = count
 octets_after (GoesOn nesting) line rest = length line + rest nesting
 
--- the number of octets that these lines add to a piece
-unfoldable pub piece_len : Nesting → List (List ℕ) → ℕ
-piece_len nesting [] = 0
-piece_len nesting (line ∷ lines) =
-    octets_after (next_step nesting line) line (λ next. piece_len next lines)
+-- a carriage return, or a NUL as damaged files have
+abbrev pub may_end_line : ℕ → Bool
+may_end_line octet = octet == carriage_return || octet == 0
+
+-- the number of octets before the first BEGIN:VCARD, in any case, that comes after one of these
+unfoldable pub begin_inside : List ℕ → Option ℕ
+begin_inside [] = None
+begin_inside (octet ∷ octets) =
+    if may_end_line octet && begins_with_word (codes "BEGIN:VCARD") octets then Some 1
+    else option_map suc (begin_inside octets)
+
+-- the piece ends before this place in the line, if there is one
+abbrev pub ends_inside : Option ℕ → Step → Step
+ends_inside None step = step
+ends_inside (Some count) step = Ends count
+
+-- what the line does to the piece, which may end inside a line or not
+abbrev pub step_in : Bool → Nesting → List ℕ → Step
+step_in false nesting line = next_step nesting line
+step_in true nesting line = ends_inside (begin_inside line) (next_step nesting line)
+
+-- the number of octets that these lines add to a piece, which may end inside a line or not
+unfoldable pub piece_len : Bool → Nesting → List (List ℕ) → ℕ
+piece_len inside nesting [] = 0
+piece_len inside nesting (line ∷ lines) =
+    octets_after (step_in inside nesting line) line (λ next. piece_len inside next lines)
 
 -- the octets of the first piece
 abbrev pub first_piece : List ℕ → List ℕ
-first_piece octets = take (piece_len outside (whole_lines octets)) octets
+first_piece octets = take (piece_len false outside (whole_lines octets)) octets
 
 -- the octets before the first line feed
 abbrev pub first_line : List ℕ → List ℕ
 first_line octets = take_while (λ octet. not (octet == line_feed)) octets
 
--- the piece is a card: its first line begins one
+-- The octets begin with a card: their first line is BEGIN:VCARD, in any case, perhaps after a byte
+-- order mark and before white space.
 abbrev pub is_card : List ℕ → Bool
-is_card piece = begins_card (first_line piece)
+is_card octets = begins_with_word (codes "BEGIN:VCARD") (without_mark octets)
+    && list_all is_white (first_line (drop 11 (without_mark octets)))
+
+-- The octets of the first piece of a text whose line ends may be mixed. If the piece is no card, it
+-- also ends inside a line, where a BEGIN:VCARD follows a carriage return or a NUL.
+abbrev pub first_text : List ℕ → List ℕ
+first_text octets = take (piece_len (not (is_card octets)) outside (whole_lines octets)) octets

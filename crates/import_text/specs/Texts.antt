@@ -1,6 +1,6 @@
 -- The octets that are read of a file: its text in UTF-8, if the file is in UTF-16 (RFC 2781,
 -- section 3.2).
-use Rattle.std.specs.Prelude.{ℕ, Bool, List, ◌∷◌, [], Option, Some, None, option_map, unwrap_or}
+use Rattle.std.specs.Prelude.{ℕ, Bool, List, Option, option_map, unwrap_or}
 use Rattle.std.specs.Str.{encode_utf8_all}
 use Rattle.std.specs.Char.Utf16.{utf16_lossy_chars}
 use Rattle.import_text.specs.Units.{split_mark, units, utf16_text_of}

@@ -1,12 +1,14 @@
 //! Cuts a file into pieces: cards, and what is between them.
 ghost use Rattle.std.specs.Prelude.{◌≡◌, ◌≢◌, ◌≤◌, ◌<◌, ◌-◌, ◌^◌, ◌++◌, [], length, count_by};
-ghost use Rattle.std.specs.Prelude.{◌==◌, ◌+◌, ℕ, true, take_while};
+ghost use Rattle.std.specs.Prelude.{◌==◌, ◌+◌, ℕ, true, false, take, take_while};
+ghost use Rattle.std.specs.List.{list_all};
 ghost use Rattle.base_types.specs.Octets.{line_feed};
 ghost use Rattle.import_text.specs.declared.pieces.Nesting.{Nesting};
 ghost use Rattle.import_text.specs.declared.pieces.Step.TheVariants.{Ends, GoesOn};
 ghost use Rattle.import_text.specs.internal.LineLens.{line_len};
 ghost use Rattle.import_text.specs.Pieces.{after_end, after_other, begins_card, deeper};
 ghost use Rattle.import_text.specs.Pieces.{ends_and_begins, first_line, first_piece, is_card};
+ghost use Rattle.import_text.specs.Pieces.{begin_inside, first_text, may_end_line, step_in};
 ghost use Rattle.import_text.specs.Pieces.{next_step, outside, piece_len, shallower, whole_lines};
 ghost use Rattle.import_text.specs.Pieces.{is_before_agent, is_white, without_mark};
 
@@ -76,13 +78,51 @@ fn ends_and_begins(line: &[u8]) -> bool
     begins_with_word(line, b"END:VCARD") && begins_card(after_end(line))
 }
 
-/// Whether a piece is a card: its first line is `BEGIN:VCARD`, in any case, perhaps after a byte
-/// order mark of UTF-8 and before white space.
-pub fn is_card(piece: &[u8]) -> bool
-    ensures { result ≡ is_card piece.now }
+/// Whether the octets before the first line feed are white space.
+fn begins_white(octets: &[u8]) -> bool
+    ensures { result ≡ list_all is_white (first_line octets.now) }
 {
-    let (line, _) = piece.split_at(first_line_len(piece));
-    begins_card(line)
+    octets
+        .iter()
+        .take_while(|octet| **octet != b'\n')
+        .all(|octet| is_white(*octet))
+}
+
+/// Whether the octets begin with a card: their first line is `BEGIN:VCARD`, in any case, perhaps
+/// after a byte order mark of UTF-8 and before white space. Looks no further than the first octet
+/// that isn't white.
+pub fn is_card(octets: &[u8]) -> bool
+    ensures { result ≡ is_card octets.now }
+{
+    let text = without_mark(octets);
+    begins_with_word(text, b"BEGIN:VCARD") && begins_white(&text[11..])
+}
+
+/// Whether a card may begin after the octet: a carriage return, or a NUL as damaged files have.
+fn may_end_line(octet: u8) -> bool
+    ensures { result ≡ may_end_line octet }
+{
+    octet == b'\r' || octet == 0
+}
+
+/// The number of octets in the first line before the first BEGIN:VCARD that comes after a carriage
+/// return or a NUL. Looks no further than that.
+fn begin_inside(octets: &[u8]) -> Option<usize>
+    ensures { result ≡ begin_inside (take (line_len octets.now) octets.now) }
+{
+    let mut rest = octets;
+    let mut count = 0;
+    while let Some((octet, tail)) = rest.split_first() {
+        if *octet == b'\n' {
+            return None;
+        }
+        count += 1;
+        if may_end_line(*octet) && begins_with_word(tail, b"BEGIN:VCARD") {
+            return Some(count);
+        }
+        rest = tail;
+    }
+    None
 }
 
 /// The number of line feeds: how many lines end in the octets.
@@ -180,11 +220,32 @@ fn next_step(nesting: Nesting, line: &[u8]) -> Step
     Step::GoesOn(after_other(nesting, line))
 }
 
-/// The length of the first piece.
-fn piece_len(octets: &[u8]) -> usize
+/// What the first line does to the piece in which it is, and the line's length. If the piece ends
+/// inside the line, no more of the line is looked at, and the length is 0.
+fn step_in(octets: &[u8], nesting: Nesting, inside: bool) -> (Step, usize)
+    requires few { nesting.depth < 2 ^ 64 - 1 }
+    requires some { 0 < length octets.now }
+    ensures step { result.0 ≡ step_in inside nesting (take (line_len octets.now) octets.now) }
+    ensures len { (next : Nesting) → result.0 ≡ GoesOn next → result.1 ≡ line_len octets.now }
+    ensures within { (count : ℕ) → result.0 ≡ Ends count → count ≤ length octets.now }
+    ensures nonempty { nesting.may_begin ≡ true
+        → (count : ℕ) → result.0 ≡ Ends count → 0 < count }
+    ensures depth { (next : Nesting) → result.0 ≡ GoesOn next → next.depth ≤ nesting.depth + 1 }
+{
+    if inside {
+        if let Some(count) = begin_inside(octets) {
+            return (Step::Ends(count), 0);
+        }
+    }
+    let len = line_len(octets);
+    (next_step(nesting, &octets[..len]), len)
+}
+
+/// The length of the first piece, which may end inside a line or not.
+fn piece_len(octets: &[u8], inside: bool) -> usize
     ensures within { result ≤ length octets.now }
     ensures nonempty { 0 < length octets.now → 0 < result }
-    ensures len { result ≡ piece_len outside (whole_lines octets.now) }
+    ensures len { result ≡ piece_len inside outside (whole_lines octets.now) }
 {
     let mut nesting = Nesting {
         depth: 0,
@@ -193,8 +254,8 @@ fn piece_len(octets: &[u8]) -> usize
     let mut end = 0;
     while end < octets.len() {
         let (_, rest) = octets.split_at(end);
-        let len = line_len(rest);
-        match next_step(nesting, &rest[..len]) {
+        let (step, len) = step_in(rest, nesting, inside);
+        match step {
             Step::Ends(count) => return end + count,
             Step::GoesOn(next) => nesting = next,
         }
@@ -217,5 +278,22 @@ pub fn split_piece(octets: &[u8]) -> (&[u8], &[u8])
     // Only no octets have an empty first piece.
     ensures nonempty { result.0.now ≡ [] → octets.now ≡ [] }
 {
-    octets.split_at(piece_len(octets))
+    octets.split_at(piece_len(octets, false))
+}
+
+/// The first piece of the octets, and the octets after it, also where line ends are mixed. If the
+/// piece is no card, it also ends where a BEGIN:VCARD follows a carriage return or a NUL. So a card
+/// whose lines end with a carriage return alone, in a file of other line ends, is a piece by itself,
+/// and takes no other card with it. Its cost grows with the piece, not with the octets.
+pub fn split_text(octets: &[u8]) -> (&[u8], &[u8])
+    // The piece goes up to the end of its card, or to where the next card begins.
+    ensures piece { result.0.now ≡ first_text octets.now }
+
+    // The piece and the octets after it are the octets.
+    ensures whole { octets.now ≡ result.0.now ++ result.1.now }
+
+    // Only no octets have an empty first piece.
+    ensures nonempty { result.0.now ≡ [] → octets.now ≡ [] }
+{
+    octets.split_at(piece_len(octets, !is_card(octets)))
 }

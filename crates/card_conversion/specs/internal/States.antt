@@ -12,11 +12,11 @@ use Rattle.card_conversion.specs.declared.card_sink.Delivery.{Delivery}
 use Rattle.card_conversion.specs.declared.card_sink.Delivery.TheVariants as sink
 use Rattle.card_conversion.specs.declared.fate.Fate.{Fate}
 use Rattle.card_conversion.specs.Fates.{Entry, HaveFates, IsFate, cards_of, cards_of_fate}
-use Rattle.card_conversion.specs.Fates.{octets_of, uids_of, uids_of_fate}
+use Rattle.card_conversion.specs.Fates.{octets_of, pieces_of, uids_of, uids_of_fate}
 use Rattle.card_conversion.specs.Counts.{summary_after}
 use Rattle.card_conversion.specs.declared.ledger.Summary.{Summary}
 use Rattle.card_conversion.specs.Deliveries.{HasUids, WritesInTurn}
-use Rattle.card_conversion.specs.internal.PieceReaders.{HasEnded, left_of}
+use Rattle.card_conversion.specs.internal.PieceReaders.{AreCutFrom, HasEnded, left_of}
 use Rattle.card_conversion.specs.declared.piece_reader.PieceReader.{PieceReader}
 
 -- The UID isn't one of the known ones, and the map has it now; or it is one of them.
@@ -57,6 +57,7 @@ pub record Progress {A R : Type 0} (writes : List Line → A → A → Type 0)
   where
     pub entries : List Entry
     pub passed : Consumes input (left_of remaining pieces) (octets_of entries)
+    pub cut : AreCutFrom input (pieces_of entries) (left_of remaining pieces)
     pub ended : HasEnded remaining pieces
     pub fates : HaveFates uids entries
     pub known : HasUids map (uids ++ uids_of entries)

@@ -31,6 +31,7 @@ loop-piece-preserved g c = (
       c.convert_piece.new.uids c.piece-piece.result.now c.in_ok-fate.fate
       (counts_of c.loop-piece.course) c.count.new.self.summary
       (c.loop-piece.invariant.1 uids known) c.in_ok-len.ensures.left
+      (rw c.piece-piece.ensures (search (rules)))
       (rw c.piece-piece.ensures c.pass.ensures.left)
       (c.pass.ensures.ended c.in_ok-len.ensures.ended) c.in_ok-fate.ensures.taken
       c.count.ensures,

@@ -1,4 +1,4 @@
-use Rattle.std.proofs.Common.{[], ℕ, List, Some, subst, sym}
+use Rattle.std.proofs.Common.{[], None, subst, sym}
 use Rattle.card_conversion.specs.declared.ledger.Summary.{Summary}
 use Rattle.convert_posts.specs.Parts.{IsOfPieces}
 use Rattle.convert_posts.specs.declared.row_list.RowList.{RowList}
@@ -7,8 +7,8 @@ use Rattle.convert_posts.proofs.converted.convert_exports.Goals as goal
 
 pub returns-in-Ok : goal.returns-in-Ok
 returns-in-Ok g c =
-    subst (λ (s : Summary). (text : List ℕ)
-    × IsOfPieces (Some text) s c.convert_more_exports.new.sink.rows) (sym c.summary.ensures)
+    subst (λ (s : Summary). IsOfPieces None s c.convert_more_exports.new.sink.rows)
+    (sym c.summary.ensures)
     (texts_done (λ (list : RowList). list.rows) c.new-course.result
     c.convert_more_exports.new.course c.new-rows.result c.convert_more_exports.new.sink
     c.written_cards_differ.ensures.rules c.written_cards_differ.ensures.distinct

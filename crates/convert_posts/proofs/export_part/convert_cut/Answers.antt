@@ -8,4 +8,4 @@ returns-in-Some-2 c =
     c.in-Some-2.converted.rows c.in_ok-part-in-Some-2.part c.requires
     c.in_ok-part-in-Some-2.ensures.taken c.in_ok-part-in-Some-2.ensures.summary
     c.in_ok-part-in-Some-2.ensures.rows
-    it.0 c.in_ok-part-in-Some-2.ensures.kind it.1
+    c.in_ok-part-in-Some-2.ensures.kind it

@@ -7,7 +7,7 @@ invariant-loop-end l = record {
   within : l.end ≤ length l.octets;
   depth : l.nesting.depth ≤ l.end;
   begun : l.end ≡ 0 → l.nesting.may_begin ≡ true;
-  len : piece_len outside (whole_lines l.octets) ≡ l.end + piece_len l.nesting
+  len : piece_len l.inside outside (whole_lines l.octets) ≡ l.end + piece_len l.inside l.nesting
       (whole_lines (drop l.end l.octets));
 }
 

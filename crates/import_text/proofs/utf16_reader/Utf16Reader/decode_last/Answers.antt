@@ -1,4 +1,4 @@
-use Rattle.std.proofs.Common.{◌≡◌, ◌∙◌, length, ap, sym}
+use Rattle.std.proofs.Common.{◌∙◌, length, ap, sym}
 use Rattle.import_text.specs.internal.Unread.{octets_left, undecoded}
 use Rattle.import_text.proofs.UnreadLemmas.{ended, last_apart}
 use Rattle.import_text.proofs.utf16_reader.Utf16Reader.decode_last.Goals as goal
