@@ -4,7 +4,7 @@ use Rattle.std.proofs.Common.{false, List, [], ◌∷◌, Option, Some, None, re
 use Rattle.std.proofs.Common.{is_some, length, nat_le, nat_lt, slice_get, slice_set}
 use Rattle.std.proofs.lemmas.Bool.{and_right, le-ltb, lt-leb}
 use Rattle.std.proofs.lemmas.List.Sums.{count_by-le-length}
-use Rattle.http_hub.specs.Hubs.{HubValue, IsAt, OpensAt, open_count}
+use Rattle.http_hub.specs.Hubs.{HubValue, IsAt, IsFreeAt, OpensAt, open_count}
 use Rattle.http_hub.specs.Links.{has_expired, new_link}
 use Rattle.http_hub.specs.declared.slot.Slot.{Slot}
 use Rattle.http_hub.proofs.CountLemmas.{count_opened}
@@ -15,6 +15,7 @@ use Rattle.hub_server.specs.Endpoints.EndpointEvent.{AcceptEvent, AcceptLater, A
 use Rattle.hub_server.specs.Expiries.{KeepsNoneExpired, KeepsTurnsOver}
 use Rattle.hub_server.specs.Needs.{KeepsOthers}
 use Rattle.hub_server.specs.Seats.{IsTurnOver, SeatValue, new_seat}
+use Rattle.hub_server.specs.ServerActs.{MayAccept}
 use Rattle.hub_server.specs.ServerActs.ServerAct.{AcceptsAt, DefersAccepting, FindsNoConnection}
 use Rattle.hub_server.specs.Servers.{IsSeatedAt, ServerValue, accepts_at, has_room}
 use Rattle.hub_server.specs.Servers.{later_milliseconds, with_listener, with_seat}
@@ -168,11 +169,13 @@ module _ {Endpoint : Type 0} (calls : EndpointRelation Endpoint) where
         none_awaited = λ (no : true ≡ false). absurd (cc no);
       }
 
-  pub accepts_none : (limits : ServeLimits) (a b : ServerValue) (s t : Endpoint)
-      → accepts_at limits.connections a a.time ≡ true → b ≡ with_listener a Idle
-      → calls s AcceptNone t → AcceptsNext calls limits false a s b t
-  accepts_none limits a b s t wanted is called = record {
-    acts = act_one calls limits FindsNoConnection AcceptNone a b s t (wanted, is) refl called refl;
+  pub accepts_none : (limits : ServeLimits) (a b : ServerValue) (place : ℕ) (s t : Endpoint)
+      → accepts_at limits.connections a a.time ≡ true → IsFreeAt a.hub place
+      → b ≡ with_listener a Idle → calls s (AcceptNone place) t
+      → AcceptsNext calls limits false a s b t
+  accepts_none limits a b place s t wanted free is called = record {
+    acts = act_one calls limits (FindsNoConnection place) (AcceptNone place) a b s t
+        (record { wanted = wanted; free = free }, is) refl called refl;
     turns = turns_with a b Idle is;
     none_expired = unexpired_with limits a b Idle is;
     fewer_free = λ (no : false ≡ true). absurd (cc no);
@@ -180,11 +183,13 @@ module _ {Endpoint : Type 0} (calls : EndpointRelation Endpoint) where
         ≡ false) (sym is) (not_due (has_room limits.connections a.hub));
   }
 
-  pub accepts_later : (limits : ServeLimits) (a b : ServerValue) (s t : Endpoint)
-      → accepts_at limits.connections a a.time ≡ true → b ≡ with_listener a (Deferred a.time)
-      → calls s AcceptLater t → AcceptsNext calls limits false a s b t
-  accepts_later limits a b s t wanted is called = record {
-    acts = act_one calls limits DefersAccepting AcceptLater a b s t (wanted, is) refl called refl;
+  pub accepts_later : (limits : ServeLimits) (a b : ServerValue) (place : ℕ) (s t : Endpoint)
+      → accepts_at limits.connections a a.time ≡ true → IsFreeAt a.hub place
+      → b ≡ with_listener a (Deferred a.time) → calls s (AcceptLater place) t
+      → AcceptsNext calls limits false a s b t
+  accepts_later limits a b place s t wanted free is called = record {
+    acts = act_one calls limits (DefersAccepting place) (AcceptLater place) a b s t
+        (record { wanted = wanted; free = free }, is) refl called refl;
     turns = turns_with a b (Deferred a.time) is;
     none_expired = unexpired_with limits a b (Deferred a.time) is;
     fewer_free = λ (no : false ≡ true). absurd (cc no);
@@ -224,8 +229,9 @@ module _ {Endpoint : Type 0} (calls : EndpointRelation Endpoint) where
     between = t;
     acts = subst (λ (x : ServerValue). ReachesByActs calls limits a s x t) (sym fails.kept)
         far.acts;
-    wanted = subst (λ (x : ServerValue). accepts_at limits.connections x x.time ≡ true)
-        (sym fails.kept) wanted;
     fault_is = fails.fault_is;
+    place = fails.place;
+    may_accept = subst (λ (x : ServerValue). MayAccept limits x fails.place) (sym fails.kept)
+        (record { wanted = wanted; free = fails.free });
     failed = fails.failed;
   }

@@ -49,9 +49,9 @@ act_within limits most (AcceptsAt place serial) a b done within =
     subst (λ (xs : List (Option Slot)). AreWithin most xs) (sym slots_are)
     (within_set most a.hub.slots place None (Some opened) done.opens.was_free (omega arith)
     within)
-act_within limits most FindsNoConnection a b done within =
+act_within limits most (FindsNoConnection place) a b done within =
     as_before most a b (ap (λ (s : ServerValue). s.hub) done.1) within
-act_within limits most DefersAccepting a b done within =
+act_within limits most (DefersAccepting place) a b done within =
     as_before most a b (ap (λ (s : ServerValue). s.hub) done.1) within
 act_within limits most (ReadsFrom place serial octets) a b done within =
     as_before most a b (ap (λ (s : ServerValue). s.hub) done.after_is) within

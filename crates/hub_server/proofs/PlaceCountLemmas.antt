@@ -26,8 +26,8 @@ act_places limits (Awaits until ready listener time) a b done =
     ap (λ (s : ServerValue). length s.seats) done.2 ∙ wait_places ready a.seats
 act_places limits (AcceptsAt place serial) a b done =
     ap (λ (s : ServerValue). length s.seats) done.after_is ∙ set_length a.seats place new_seat
-act_places limits FindsNoConnection a b done = ap (λ (s : ServerValue). length s.seats) done.1
-act_places limits DefersAccepting a b done = ap (λ (s : ServerValue). length s.seats) done.1
+act_places limits (FindsNoConnection place) a b done = ap (λ (s : ServerValue). length s.seats) done.1
+act_places limits (DefersAccepting place) a b done = ap (λ (s : ServerValue). length s.seats) done.1
 act_places limits (ReadsFrom place serial octets) a b done =
     ap (λ (s : ServerValue). length s.seats) done.after_is
     ∙ set_length a.seats place (seat_after_step done.seat octets)

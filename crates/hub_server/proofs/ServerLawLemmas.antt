@@ -596,14 +596,14 @@ module _ {S : Type 0} (does : HandlerRelation S) (fault_reply : FaultReplies) wh
       seat (ap (λ (x : ServerValue). slice_get x.seats place) (sym done.2) ∙ at))))
   on_act limits (AcceptsAt place serial) a b c w v held steps unfed done more =
       on_accepts limits place serial a b c w v held steps unfed done more
-  on_act limits FindsNoConnection a b c w v held steps unfed done more =
+  on_act limits (FindsNoConnection place) a b c w v held steps unfed done more =
       let hub_is : b.hub ≡ a.hub = ap (λ (x : ServerValue). x.hub) done.1 in
-      quiet_on FindsNoConnection a b c w v held steps (sym hub_is) (λ connection. refl)
+      quiet_on (FindsNoConnection place) a b c w v held steps (sym hub_is) (λ connection. refl)
       (λ connection. refl) (more held (unfed_with a b held unfed hub_is
       (ap (λ (x : ServerValue). x.seats) done.1)))
-  on_act limits DefersAccepting a b c w v held steps unfed done more =
+  on_act limits (DefersAccepting place) a b c w v held steps unfed done more =
       let hub_is : b.hub ≡ a.hub = ap (λ (x : ServerValue). x.hub) done.1 in
-      quiet_on DefersAccepting a b c w v held steps (sym hub_is) (λ connection. refl)
+      quiet_on (DefersAccepting place) a b c w v held steps (sym hub_is) (λ connection. refl)
       (λ connection. refl) (more held (unfed_with a b held unfed hub_is
       (ap (λ (x : ServerValue). x.seats) done.1)))
   on_act limits (ReadsFrom place serial octets) a b c w v held steps unfed done more =

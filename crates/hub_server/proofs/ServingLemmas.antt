@@ -229,7 +229,8 @@ module _ {S Endpoint : Type 0} (does : HandlerRelation S) (fault_reply : FaultRe
             fails.between w v x s t fails.middle far.reached fails.steps)
             (steps_of_acts calls does fault_reply limits fails.between c x fails.middle
             fails.failed.between fails.failed.acts);
-        wanted = fails.failed.wanted;
+        place = fails.failed.place;
+        may_accept = fails.failed.may_accept;
         failed = fails.failed.failed;
       } in
       subst (λ (f : EndpointFault). StopsAtEndpoint does fault_reply calls limits f w s x u)

@@ -38,8 +38,8 @@ ActRuns limits before (act ∷ acts) after =
 abbrev pub wait_count_of_act : ServerAct → ℕ
 wait_count_of_act (Awaits until ready listener time) = 1
 wait_count_of_act (AcceptsAt place serial) = 0
-wait_count_of_act FindsNoConnection = 0
-wait_count_of_act DefersAccepting = 0
+wait_count_of_act (FindsNoConnection place) = 0
+wait_count_of_act (DefersAccepting place) = 0
 wait_count_of_act (ReadsFrom place serial octets) = 0
 wait_count_of_act (FindsNoInput place serial) = 0
 wait_count_of_act (WritesTo place serial offered count) = 0

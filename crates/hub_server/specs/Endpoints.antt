@@ -16,12 +16,12 @@ pub data EndpointEvent : Type 0 where
   WaitFault : Option ℕ → EndpointEvent
   -- a connection was accepted at this place
   AcceptEvent : ℕ → EndpointEvent
-  -- no connection waits to be accepted
-  AcceptNone : EndpointEvent
-  -- accepting failed for now, for lack of descriptors
-  AcceptLater : EndpointEvent
-  -- accepting failed
-  AcceptFault : EndpointEvent
+  -- no connection waits to be accepted at this place
+  AcceptNone : ℕ → EndpointEvent
+  -- accepting at this place failed for now, for lack of descriptors
+  AcceptLater : ℕ → EndpointEvent
+  -- accepting at this place failed
+  AcceptFault : ℕ → EndpointEvent
   -- these octets were read from the connection
   ReadEvent : ℕ → List ℕ → EndpointEvent
   -- the connection has no octets for now
@@ -43,9 +43,9 @@ pub data EndpointEvent : Type 0 where
 
 abbrev pub accept_event : ℕ → Accepted → EndpointEvent
 accept_event place accepted.Connection = AcceptEvent place
-accept_event place accepted.NoneNow = AcceptNone
-accept_event place accepted.Later = AcceptLater
-accept_event place accepted.Failed = AcceptFault
+accept_event place accepted.NoneNow = AcceptNone place
+accept_event place accepted.Later = AcceptLater place
+accept_event place accepted.Failed = AcceptFault place
 
 abbrev pub read_event : ℕ → List ℕ → Received → EndpointEvent
 read_event place buffer (received.Octets count) = ReadEvent place (take count buffer)

@@ -3,9 +3,9 @@ use Rattle.std.specs.Prelude.{◌≡◌, ℕ, Option, true}
 use Rattle.http_requests.specs.HandlerRuns.{HandlerRelation, FaultReplies}
 use Rattle.hub_server.specs.Endpoints.EndpointEvent.{AcceptFault, WaitFault}
 use Rattle.hub_server.specs.EndpointRuns.{EndpointRelation}
-use Rattle.hub_server.specs.ServerActs.{MayWait}
+use Rattle.hub_server.specs.ServerActs.{MayAccept, MayWait}
 use Rattle.hub_server.specs.ServerRuns.{ReachesBySteps}
-use Rattle.hub_server.specs.Servers.{IsServerDone, ServerValue, accepts_at, new_server}
+use Rattle.hub_server.specs.Servers.{IsServerDone, ServerValue, new_server}
 use Rattle.hub_server.specs.declared.endpoint_fault.EndpointFault.{EndpointFault}
 use Rattle.hub_server.specs.declared.endpoint_fault.EndpointFault.TheVariants as fault
 use Rattle.hub_server.specs.declared.limits.ServeLimits.{ServeLimits}
@@ -40,7 +40,8 @@ module _ {State Endpoint : Type 0} (does : HandlerRelation State) (fault_reply :
     pub may_wait : MayWait limits after until
     pub failed : calls between (WaitFault until) end
 
-  -- The server made a run from its start on. Then accepting a connection, which was due, failed.
+  -- The server made a run from its start on. Then accepting a connection, which was due, failed at a
+  -- free place.
   pub record FailsToAccept
       (limits : ServeLimits) (old : State) (start : Endpoint) (new : State) (end : Endpoint)
       : Type 0 where
@@ -49,8 +50,9 @@ module _ {State Endpoint : Type 0} (does : HandlerRelation State) (fault_reply :
     pub between : Endpoint
     pub reached : ReachesBySteps does fault_reply calls limits waits
         (new_server limits.together) old start after new between
-    pub wanted : accepts_at limits.connections after after.time ≡ true
-    pub failed : calls between AcceptFault end
+    pub place : ℕ
+    pub may_accept : MayAccept limits after place
+    pub failed : calls between (AcceptFault place) end
 
   -- The server made a run from its start on, with the greatest number of waits.
   pub record WaitsTooOften

@@ -14,7 +14,7 @@ use Rattle.hub_server.specs.declared.listener_state.ListenerState.{ListenerState
 use Rattle.hub_server.specs.declared.listener_state.ListenerState.TheVariants.{Idle, Ready}
 use Rattle.hub_server.specs.declared.listener_state.ListenerState.TheVariants.{Deferred}
 use Rattle.hub_server.specs.declared.limits.ServeLimits.{ServeLimits}
-use Rattle.http_hub.specs.Hubs.{EndsAt, HubValue, OpensAt, SendsAt}
+use Rattle.http_hub.specs.Hubs.{EndsAt, HubValue, IsFreeAt, OpensAt, SendsAt}
 use Rattle.http_hub.specs.Links.{IsFirstTime, LinkValue, has_expired}
 use Rattle.http_hub.specs.declared.slot.Slot.{Slot}
 
@@ -37,10 +37,10 @@ pub data ServerAct : Type 0 where
   Awaits : Option ℕ → List Bool → Bool → ℕ → ServerAct
   -- a connection was accepted
   AcceptsAt : ℕ → ℕ → ServerAct
-  -- no connection waits to be accepted
-  FindsNoConnection : ServerAct
-  -- accepting failed for now
-  DefersAccepting : ServerAct
+  -- no connection waits to be accepted at this place
+  FindsNoConnection : ℕ → ServerAct
+  -- accepting at this place failed for now
+  DefersAccepting : ℕ → ServerAct
   -- these octets were read
   ReadsFrom : ℕ → ℕ → List ℕ → ServerAct
   -- no octets are there for now
@@ -65,8 +65,8 @@ events_of_end place Expired = CloseEvent place ∷ []
 abbrev pub events_of_act : ServerAct → List EndpointEvent
 events_of_act (Awaits until ready listener time) = WaitEvent until ready listener time ∷ []
 events_of_act (AcceptsAt place serial) = AcceptEvent place ∷ []
-events_of_act FindsNoConnection = AcceptNone ∷ []
-events_of_act DefersAccepting = AcceptLater ∷ []
+events_of_act (FindsNoConnection place) = AcceptNone place ∷ []
+events_of_act (DefersAccepting place) = AcceptLater place ∷ []
 events_of_act (ReadsFrom place serial octets) = ReadEvent place octets ∷ []
 events_of_act (FindsNoInput place serial) = ReadNone place ∷ []
 events_of_act (WritesTo place serial offered count) = WriteEvent place offered count ∷ []
@@ -126,6 +126,11 @@ pub record MayWait (limits : ServeLimits) (server : ServerValue) (until : Option
 -- the listener after a wait
 abbrev pub listener_after_wait : Bool → ListenerState → ListenerState
 listener_after_wait is_ready listener = if is_ready then Ready else listener
+
+-- a connection is to be accepted, if one waits, and the place is free
+pub record MayAccept (limits : ServeLimits) (server : ServerValue) (place : ℕ) : Type 0 where
+  pub wanted : accepts_at limits.connections server server.time ≡ true
+  pub free : IsFreeAt server.hub place
 
 -- a connection was accepted at a place that was free
 pub record AcceptsConnection
@@ -218,11 +223,10 @@ DoesAct limits before (Awaits until ready listener time) after =
     × (after ≡ server_after_wait before ready listener time)
 DoesAct limits before (AcceptsAt place serial) after =
     AcceptsConnection limits before place serial after
-DoesAct limits before FindsNoConnection after =
-    (accepts_at limits.connections before before.time ≡ true) × (after ≡ with_listener before Idle)
-DoesAct limits before DefersAccepting after =
-    (accepts_at limits.connections before before.time ≡ true)
-    × (after ≡ with_listener before (Deferred before.time))
+DoesAct limits before (FindsNoConnection place) after =
+    MayAccept limits before place × (after ≡ with_listener before Idle)
+DoesAct limits before (DefersAccepting place) after =
+    MayAccept limits before place × (after ≡ with_listener before (Deferred before.time))
 DoesAct limits before (ReadsFrom place serial octets) after =
     ReadsOctets before place serial octets after
 DoesAct limits before (FindsNoInput place serial) after =

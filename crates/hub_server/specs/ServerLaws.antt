@@ -19,8 +19,8 @@ use Rattle.hub_server.specs.declared.limits.ServeLimits.{ServeLimits}
 abbrev pub octets_read_by : ℕ → ServerAct → List ℕ
 octets_read_by connection (Awaits until ready listener time) = []
 octets_read_by connection (AcceptsAt place serial) = []
-octets_read_by connection FindsNoConnection = []
-octets_read_by connection DefersAccepting = []
+octets_read_by connection (FindsNoConnection place) = []
+octets_read_by connection (DefersAccepting place) = []
 octets_read_by connection (ReadsFrom place serial octets) = cond (serial == connection) octets []
 octets_read_by connection (FindsNoInput place serial) = []
 octets_read_by connection (WritesTo place serial offered count) = []
@@ -31,8 +31,8 @@ octets_read_by connection (ClosesAt place serial cause) = []
 abbrev pub octets_written_by : ℕ → ServerAct → List ℕ
 octets_written_by connection (Awaits until ready listener time) = []
 octets_written_by connection (AcceptsAt place serial) = []
-octets_written_by connection FindsNoConnection = []
-octets_written_by connection DefersAccepting = []
+octets_written_by connection (FindsNoConnection place) = []
+octets_written_by connection (DefersAccepting place) = []
 octets_written_by connection (ReadsFrom place serial octets) = []
 octets_written_by connection (FindsNoInput place serial) = []
 octets_written_by connection (WritesTo place serial offered count) =

@@ -14,9 +14,9 @@ use Rattle.socket_endpoint.specs.declared.endpoint.EndpointOver.{EndpointOver}
 module _ {S L C : Type 0} (log : S → SocketLog L C) where
   pub accept_does : (place : ℕ) (outcome : Accepted) (old new : EndpointOver S L C) → Accepting log place outcome old new → DoesAtSockets log old (accept_event place outcome) new
   accept_does place accepted.Connection old new it = it
-  accept_does place accepted.NoneNow old new it = (place, it)
-  accept_does place accepted.Later old new it = (place, it)
-  accept_does place accepted.Failed old new it = (place, it)
+  accept_does place accepted.NoneNow old new it = it
+  accept_does place accepted.Later old new it = it
+  accept_does place accepted.Failed old new it = it
 
   pub read_does : (place : ℕ) (buffer : List ℕ) (outcome : Received) (old new : EndpointOver S L C) → ReadsPlace log place buffer outcome old new → DoesAtSockets log old (read_event place buffer outcome) new
   read_does place buffer (received.Octets count) old new it = record { buffer = buffer; count = count; octets_are = refl; reads = it }

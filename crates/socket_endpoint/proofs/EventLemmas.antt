@@ -35,9 +35,10 @@ module _ {S L C : Type 0} (log : S → SocketLog L C) where
 
   -- the clock was read, and the sending side of the socket ended
   pub closes_by : (stream : C) (old new : Polling S C) (clock : Result ℕ Error) (time : ℕ) (x : SocketLog L C) → time ≡ result_unwrap_or clock old.waited_at → x ≡ logged (ReadsClock clock) (log old.system)
-      → EndsAndLingers stream room_octets time old.lingerers.slots.items new.lingerers.slots.items x (log new.system) → ClosesStream log stream old new
-  closes_by stream old new clock time x time_is made ends = record {
+      → EndsAndLingers stream room_octets time old.lingerers.slots.items new.lingerers.slots.items x (log new.system) → new.waited_at ≡ old.waited_at → ClosesStream log stream old new
+  closes_by stream old new clock time x time_is made ends waited = record {
     clock = clock;
     ends = subst (λ n. EndsAndLingers stream room_octets n old.lingerers.slots.items new.lingerers.slots.items (logged (ReadsClock clock) (log old.system)) (log new.system)) time_is
         (subst (λ t. EndsAndLingers stream room_octets time old.lingerers.slots.items new.lingerers.slots.items t (log new.system)) made ends);
+    waited = waited;
   }

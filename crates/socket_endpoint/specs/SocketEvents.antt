@@ -228,13 +228,14 @@ module _ {S L C : Type 0} (log : S → SocketLog L C) where
 
   -- The sending side of the socket is ended, and it lingers: it is given up only if this failed, if
   -- the client has ended its side, or if the system can't watch it. If the clock fails, it counts
-  -- as closed at the last wait.
+  -- as closed at the last wait, whose time is kept.
   pub record ClosesStream (stream : C) (old new : Polling S C) : Type 0 where
     pub clock : Result ℕ Error
     pub ends : EndsAndLingers stream room_octets
         (result_unwrap_or clock old.waited_at)
         old.lingerers.slots.items new.lingerers.slots.items
         (logged (ReadsClock clock) (log old.system)) (log new.system)
+    pub waited : new.waited_at ≡ old.waited_at
 
   abbrev pub ClosesSocket : Option C → Polling S C → Polling S C → Type 0
   ClosesSocket None old new = new ≡ old
@@ -358,9 +359,9 @@ module _ {S L C : Type 0} (log : S → SocketLog L C) where
       WaitsUntil until ready listener now old new
   DoesAtSockets old (WaitFault until) new = FailsToWait until old new
   DoesAtSockets old (AcceptEvent place) new = Accepting place accepted.Connection old new
-  DoesAtSockets old AcceptNone new = (place : ℕ) × Accepting place accepted.NoneNow old new
-  DoesAtSockets old AcceptLater new = (place : ℕ) × Accepting place accepted.Later old new
-  DoesAtSockets old AcceptFault new = (place : ℕ) × Accepting place accepted.Failed old new
+  DoesAtSockets old (AcceptNone place) new = Accepting place accepted.NoneNow old new
+  DoesAtSockets old (AcceptLater place) new = Accepting place accepted.Later old new
+  DoesAtSockets old (AcceptFault place) new = Accepting place accepted.Failed old new
   DoesAtSockets old (ReadEvent place octets) new = ReadsOctets place octets old new
   DoesAtSockets old (ReadNone place) new = ReadsNone place received.NoneNow old new
   DoesAtSockets old (ReadEnd place) new = ReadsNone place received.End old new

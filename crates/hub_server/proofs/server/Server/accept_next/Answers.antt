@@ -1,5 +1,5 @@
 use Rattle.std.proofs.Common.{◌≡◌, ◌∙◌, ap, subst}
-use Rattle.http_hub.specs.Hubs.{OpensAt}
+use Rattle.http_hub.specs.Hubs.{IsFreeAt, OpensAt}
 use Rattle.hub_server.specs.Seats.{new_seat}
 use Rattle.hub_server.specs.Servers.{ServerValue, with_listener, with_seat}
 use Rattle.hub_server.specs.declared.listener_state.ListenerState.TheVariants.{Deferred, Idle}
@@ -43,8 +43,10 @@ returns-in-NoneNow-clause-accepted g c =
       listener = Idle;
       time = c.self.inside.time;
     } in
-    accepts_none g.E.Endpoint.calls c.args.limits c.args.self.now after c.args.endpoint.now
-    c.accept.new.self c.requires (ap (λ (x : ServerValue). with_listener x Idle) c.self.view_is)
+    accepts_none g.E.Endpoint.calls c.args.limits c.args.self.now after c.in-Some.place
+    c.args.endpoint.now c.accept.new.self c.requires
+    (subst (λ (x : ServerValue). IsFreeAt x.hub c.in-Some.place) c.self.view_is
+    c.in-Some.ensures) (ap (λ (x : ServerValue). with_listener x Idle) c.self.view_is)
     c.in-NoneNow.ensures
 
 pub returns-in-Later-clause-accepted : goal.returns-in-Later-clause-accepted
@@ -55,6 +57,8 @@ returns-in-Later-clause-accepted g c =
       listener = Deferred c.self.inside.time;
       time = c.self.inside.time;
     } in
-    accepts_later g.E.Endpoint.calls c.args.limits c.args.self.now after c.args.endpoint.now
-    c.accept.new.self c.requires (ap (λ (x : ServerValue). with_listener x (Deferred x.time))
+    accepts_later g.E.Endpoint.calls c.args.limits c.args.self.now after c.in-Some.place
+    c.args.endpoint.now c.accept.new.self c.requires
+    (subst (λ (x : ServerValue). IsFreeAt x.hub c.in-Some.place) c.self.view_is
+    c.in-Some.ensures) (ap (λ (x : ServerValue). with_listener x (Deferred x.time))
     c.self.view_is) c.in-Later.ensures
