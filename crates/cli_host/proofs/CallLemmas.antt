@@ -11,6 +11,7 @@ use Rattle.cli_orders.specs.declared.restore_output.Restored.{Restored}
 use Rattle.cli_orders.specs.FaultyRows.{ReportsDamage}
 use Rattle.cli_orders.specs.Findings.{PassesCheck, StopsCheck, kind_of_file}
 use Rattle.cli_host.specs.Listings.{PrintsListing, StopsListing}
+use Rattle.cli_host.specs.declared.listing.Listing.{Listing}
 use Rattle.cli_host.specs.declared.listing.Listing.TheVariants.{Verified}
 use Rattle.cli_orders.specs.Stops.{out_of_memory}
 use Rattle.book_http.specs.Streams.{WritesPrefix}
@@ -18,7 +19,8 @@ use Rattle.cli_orders.specs.declared.address.Address.{Address}
 use Rattle.cli_orders.specs.declared.stop.Stop.{Stop}
 use Rattle.cli_orders.specs.declared.stop.Stop.TheVariants.{Open, Device}
 use Rattle.cli_orders.proofs.StopLemmas.{kept_same}
-use Rattle.cli_host.specs.Hosts.{HostCall, Copies, Creates, Looks, Opens, FindsFault, Migrates}
+use Rattle.cli_host.specs.Hosts.{HostCall, Closes, Copies, Creates, Looks, Opens, FindsFault}
+use Rattle.cli_host.specs.Hosts.{Migrates}
 use Rattle.cli_host.specs.Hosts.{ReadsRows, Restores, Binds, Finishes, IsBoundAs, LogsCalls}
 use Rattle.cli_host.specs.Hosts.{MakesCalls}
 use Rattle.cli_host.specs.OrdersOnHost.{ChecksFile, CopiesFile, DoesInFile, DoesStoreWork}
@@ -27,11 +29,11 @@ use Rattle.cli_host.specs.OrdersOnHost.{RestoresFile, ServesAt, ServesStore, Sto
 use Rattle.cli_host.specs.OrdersOnHost.{StopsCopying, StopsInFile, StopsMaking, StopsMigrating}
 use Rattle.cli_host.specs.OrdersOnHost.{StopsOnImport, StopsReadingRows, StopsRestoring, StopsStore}
 use Rattle.cli_host.specs.OrdersOnHost.{StopsStoreWork, StopsUnbound, StopsUnopened, StopsVerifying}
-use Rattle.cli_host.specs.OrdersOnHost.{VerifiesFile}
+use Rattle.cli_host.specs.OrdersOnHost.{UsesStore, VerifiesFile}
 use Rattle.cli_export.specs.CardFiles.{StopsCards}
 use Rattle.cli_host.specs.Resyncs.{StopsResync}
 use Rattle.cli_host.specs.declared.work.StoreWork.{StoreWork}
-use Rattle.cli_host.specs.declared.work.StoreWork.TheVariants.{ExportCards, Resync}
+use Rattle.cli_host.specs.declared.work.StoreWork.TheVariants.{ExportCards, ListBooks, Resync}
 use Rattle.http_replies.specs.Replies.{head_fault_octets}
 use Rattle.http_requests.specs.HandlerRuns.{FaultReplies, HandlerRelation}
 use Rattle.hub_server.specs.EndpointRuns.{EndpointRelation}
@@ -67,23 +69,30 @@ module _ {S P L H : Type 0} (calls : HostCall S P L → H → H → Type 0) wher
       one_call old new (Creates file (Err fault)) (StopsMaking file (Open fault) w w) made
       (inl (fault, refl, unopened fault w))
 
-  pub store_made : (result : Result (Unit {0}) Stop) (old new : H) (file : List ℕ) (store : S)
-      (before after : Option (List ℕ)) → calls (Creates file (Ok store)) old new
-      → OnOk result (Appends before after made_output)
+  pub store_made : (result : Result (Unit {0}) Stop) (old created new : H) (file : List ℕ)
+      (store : S) (before after : Option (List ℕ)) → calls (Creates file (Ok store)) old created
+      → calls (Closes store) created new → OnOk result (Appends before after made_output)
       → OnOk result (LogsCalls calls old new (MakesStore file before after))
-  store_made (Ok done) old new file store before after made printed =
-      one_call old new (Creates file (Ok store)) (MakesStore file before after) made
-      (record { store = store; calls = refl; printed = printed })
-  store_made (Err stop) old new file store before after made printed = tt
+  store_made (Ok done) old created new file store before after made closes printed = record {
+    log = Creates file (Ok store) ∷ Closes store ∷ [];
+    made = (created, made, (new, closes, refl));
+    holds = record { store = store; calls = refl; printed = printed };
+  }
+  store_made (Err stop) old created new file store before after made closes printed = tt
 
-  pub store_made_unprinted : (result : Result (Unit {0}) Stop) (old new : H) (file : List ℕ)
-      (store : S) (before after : Option (List ℕ)) → calls (Creates file (Ok store)) old new
-      → WritesPrefix made_output before after → IfErr result (λ stop. stop ≡ Device)
+  pub store_made_unprinted : (result : Result (Unit {0}) Stop) (old created new : H) (file : List ℕ)
+      (store : S) (before after : Option (List ℕ)) → calls (Creates file (Ok store)) old created
+      → calls (Closes store) created new → WritesPrefix made_output before after
+      → IfErr result (λ stop. stop ≡ Device)
       → IfErr result (λ stop. LogsCalls calls old new (StopsMaking file stop before after))
-  store_made_unprinted (Ok done) old new file store before after made front device = tt
-  store_made_unprinted (Err stop) old new file store before after made front device =
-      one_call old new (Creates file (Ok store)) (StopsMaking file stop before after) made
-      (inr (store, refl, record { stop_is = device; front = front }))
+  store_made_unprinted (Ok done) old created new file store before after made closes front device =
+      tt
+  store_made_unprinted (Err stop) old created new file store before after made closes front device =
+      record {
+        log = Creates file (Ok store) ∷ Closes store ∷ [];
+        made = (created, made, (new, closes, refl));
+        holds = inr (store, refl, record { stop_is = device; front = front });
+      }
 
   -- ---- a file of the first schema
 
@@ -241,6 +250,101 @@ module _ {S P L H : Type 0} (calls : HostCall S P L → H → H → Type 0) wher
       one_call old new (ReadsRows file (Ok octets)) (StopsChecking file stop before after) made
       (inr (record { octets = octets; calls = refl; stops = stops }))
 
+-- ---- the store of a file
+
+module _ {S P L H : Type 0} (calls : HostCall S P L → H → H → Type 0) where
+  -- calls of the host in turn
+  makes_both : (first later : List (HostCall S P L)) (old middle new : H)
+      → MakesCalls calls old first middle → MakesCalls calls middle later new
+      → MakesCalls calls old (first ++ later) new
+  makes_both [] later old middle new same made =
+      subst (λ (h : H). MakesCalls calls h later new) same made
+  makes_both (call ∷ first) later old middle new (next, did, rest) made =
+      (next, did, makes_both first later next middle new rest made)
+
+  pub store_opened : (old new : H) (file : List ℕ) (creates : Bool) (result : Result S OpenFault)
+      → creates ≡ false → calls (Opens file result) old new
+      → LogsCalls calls old new (GetsStore file creates result)
+  store_opened old new file creates result asked made =
+      subst (λ (creates : Bool). LogsCalls calls old new (GetsStore file creates result))
+      (sym asked) (one_call calls old new (Opens file result) (GetsStore file false result) made
+      refl)
+
+  pub store_got : (old new : H) (file : List ℕ) (creates : Bool) (result : Result S OpenFault)
+      → creates ≡ true → LogsCalls calls old new (GetsStore file true result)
+      → LogsCalls calls old new (GetsStore file creates result)
+  store_got old new file creates result asked got =
+      subst (λ (creates : Bool). LogsCalls calls old new (GetsStore file creates result))
+      (sym asked) got
+
+  pub vacant_created : (old looked new : H) (file : List ℕ) (vacant : Bool) (result :
+      Result S OpenFault) → vacant ≡ true → calls (Looks file vacant) old looked
+      → calls (Creates file result) looked new
+      → LogsCalls calls old new (GetsStore file true result)
+  vacant_created old looked new file vacant result is looks made = record {
+    log = Looks file true ∷ Creates file result ∷ [];
+    made = (
+      looked,
+      subst (λ (vacant : Bool). calls (Looks file vacant) old looked) is looks,
+      (new, made, refl),
+    );
+    holds = inl refl;
+  }
+
+  pub used_opened : (old looked new : H) (file : List ℕ) (vacant : Bool) (result :
+      Result S OpenFault) → vacant ≡ false → calls (Looks file vacant) old looked
+      → calls (Opens file result) looked new → LogsCalls calls old new (GetsStore file true result)
+  used_opened old looked new file vacant result is looks made = record {
+    log = Looks file false ∷ Opens file result ∷ [];
+    made = (
+      looked,
+      subst (λ (vacant : Bool). calls (Looks file vacant) old looked) is looks,
+      (new, made, refl),
+    );
+    holds = inr refl;
+  }
+
+  pub store_opened_at : (old new : H) (file : List ℕ) (store : S)
+      → calls (Opens file (Ok store)) old new
+      → LogsCalls calls old new (GetsStore file false (Ok store))
+  store_opened_at old new file store made =
+      record { log = Opens file (Ok store) ∷ []; made = (new, made, refl); holds = refl }
+
+  -- the store was got, used and closed
+  pub store_used : (old got worked new : H) (file : List ℕ) (creates : Bool)
+      (Does : S → S → List (HostCall S P L) → Type 0) (store store_after : S)
+      → LogsCalls calls old got (GetsStore file creates (Ok store))
+      → LogsCalls calls got worked (Does store store_after) → calls (Closes store_after) worked new
+      → LogsCalls calls old new (UsesStore file creates Does)
+  store_used old got worked new file creates Does store store_after gets does closes =
+      let last : List (HostCall S P L) = Closes store_after ∷ [] in
+      let rest : MakesCalls calls got (does.log ++ last) new =
+      makes_both does.log last got worked new does.made (new, closes, refl) in
+      record {
+        log = gets.log ++ (does.log ++ last);
+        made = makes_both gets.log (does.log ++ last) old got new gets.made rest;
+        holds = record {
+          store = store;
+          store_after = store_after;
+          first = gets.log;
+          later = does.log;
+          calls = refl;
+          gets = gets.holds;
+          does = does.holds;
+        };
+      }
+
+  pub store_used_well : (result : Result (Unit {0}) Stop) (old got worked new : H) (file : List ℕ)
+      (creates : Bool) (Does : S → S → List (HostCall S P L) → Type 0) (store store_after : S)
+      → LogsCalls calls old got (GetsStore file creates (Ok store))
+      → OnOk result (LogsCalls calls got worked (Does store store_after))
+      → calls (Closes store_after) worked new
+      → OnOk result (LogsCalls calls old new (UsesStore file creates Does))
+  store_used_well (Ok done) old got worked new file creates Does store store_after gets does
+      closes = store_used old got worked new file creates Does store store_after gets does closes
+  store_used_well (Err stop) old got worked new file creates Does store store_after gets does
+      closes = tt
+
 -- ---- stores
 
 module _ {S P L H : Type 0} (model : StoreModel S) (calls : HostCall S P L → H → H → Type 0) where
@@ -301,44 +405,21 @@ module _ {S P L H : Type 0} (model : StoreModel S) (calls : HostCall S P L → H
       one_call calls old new (Opens file (Err fault)) (StopsInFile model file work (Open fault) w w)
       made (inl (fault, refl, unopened fault w))
 
-  pub file_used : (result : Result (Unit {0}) Stop) (old opened new : H) (file : List ℕ) (work :
-      StoreWork) (store store_after : S) (before after : Option (List ℕ))
-      → calls (Opens file (Ok store)) old opened
-      → OnOk result (LogsCalls calls opened new (DoesStoreWork model store work before after
-      store_after)) → OnOk result (LogsCalls calls old new (DoesInFile model file work before
+  pub file_stopped : (result : Result (Unit {0}) Stop) (old got worked new : H) (file : List ℕ)
+      (work : StoreWork) (store store_after : S) (before after : Option (List ℕ))
+      → LogsCalls calls old got (GetsStore file false (Ok store))
+      → IfErr result (λ stop. LogsCalls calls got worked (StopsStoreWork model store work stop
+      before after store_after)) → calls (Closes store_after) worked new
+      → IfErr result (λ stop. LogsCalls calls old new (StopsInFile model file work stop before
       after))
-  file_used (Ok done) old opened new file work store store_after before after made does = record {
-    log = Opens file (Ok store) ∷ does.log;
-    made = (opened, made, does.made);
-    holds = record {
-      store = store;
-      later = does.log;
-      calls = refl;
-      store_after = store_after;
-      does = does.holds;
-    };
-  }
-  file_used (Err stop) old opened new file work store store_after before after made does = tt
-
-  pub file_stopped : (result : Result (Unit {0}) Stop) (old opened new : H) (file : List ℕ) (work :
-      StoreWork) (store store_after : S) (before after : Option (List ℕ))
-      → calls (Opens file (Ok store)) old opened
-      → IfErr result (λ stop. LogsCalls calls opened new (StopsStoreWork model store work stop
-      before after store_after)) → IfErr result (λ stop. LogsCalls calls old new
-      (StopsInFile model file work stop before after))
-  file_stopped (Ok done) old opened new file work store store_after before after made stops = tt
-  file_stopped (Err stop) old opened new file work store store_after before after made stops =
-      record {
-        log = Opens file (Ok store) ∷ stops.log;
-        made = (opened, made, stops.made);
-        holds = inr (record {
-          store = store;
-          later = stops.log;
-          calls = refl;
-          store_after = store_after;
-          stops = stops.holds;
-        });
-      }
+  file_stopped (Ok done) old got worked new file work store store_after before after gets stops
+      closes = tt
+  file_stopped (Err stop) old got worked new file work store store_after before after gets stops
+      closes =
+      let used = store_used calls old got worked new file false (λ old new later.
+      StopsStoreWork model old work stop before after new later) store store_after gets stops
+      closes in
+      record { log = used.log; made = used.made; holds = inr used.holds }
 
   -- ---- a resync
 
@@ -390,92 +471,41 @@ module _ {S P L H : Type 0} (model : StoreModel S) (calls : HostCall S P L → H
     holds = inr (inl (record { found = found; calls = refl; reports = reports }));
   }
 
-  pub file_verified : (result : Result (Unit {0}) Stop) (old new : H) (file : List ℕ)
+  pub verify_stopped : (result : Result (Unit {0}) Stop) (old got worked new : H) (file : List ℕ)
       (store store_after : S) (before after : Option (List ℕ))
-      → calls (Opens file (Ok store)) old new
-      → OnOk result (PrintsListing model Verified store before after store_after)
-      → OnOk result (LogsCalls calls old new (VerifiesFile model file before after))
-  file_verified (Ok done) old new file store store_after before after made prints =
-      one_call calls old new (Opens file (Ok store)) (VerifiesFile model file before after) made
-      (record {
-        store = store;
-        later = [];
-        calls = refl;
-        store_after = store_after;
-        does = (refl, prints);
-      })
-  file_verified (Err stop) old new file store store_after before after made prints = tt
+      → LogsCalls calls old got (GetsStore file false (Ok store))
+      → IfErr result (λ stop. LogsCalls calls got worked (StopsStoreWork model store
+      (ListBooks Verified) stop before after store_after)) → calls (Closes store_after) worked new
+      → IfErr result (λ stop. LogsCalls calls old new (StopsVerifying model file stop before after))
+  verify_stopped (Ok done) old got worked new file store store_after before after gets stops
+      closes = tt
+  verify_stopped (Err stop) old got worked new file store store_after before after gets stops
+      closes =
+      let used = store_used calls old got worked new file false (λ old new later.
+      StopsStoreWork model old (ListBooks Verified) stop before after new later) store store_after
+      gets stops closes in
+      record { log = used.log; made = used.made; holds = inr (inr used.holds) }
 
-  pub file_unverified : (result : Result (Unit {0}) Stop) (old new : H) (file : List ℕ)
-      (store store_after : S) (before after : Option (List ℕ))
-      → calls (Opens file (Ok store)) old new
-      → IfErr result (λ stop. StopsListing model Verified store stop before after store_after)
-      → IfErr result (λ stop. LogsCalls calls old new (StopsVerifying model file stop before
-      after))
-  file_unverified (Ok done) old new file store store_after before after made stops = tt
-  file_unverified (Err stop) old new file store store_after before after made stops =
-      one_call calls old new (Opens file (Ok store)) (StopsVerifying model file stop before after)
-      made (inr (inr (record {
-        store = store;
-        later = [];
-        calls = refl;
-        store_after = store_after;
-        stops = (refl, stops);
-      })))
+  -- a listing calls nothing of the host
+  pub listing_done : (result : Result (Unit {0}) Stop) (host : H) (old new : S) (what : Listing)
+      (before after : Option (List ℕ))
+      → OnOk result (PrintsListing model what old before after new)
+      → OnOk result (LogsCalls calls host host (DoesStoreWork model old (ListBooks what) before
+      after new))
+  listing_done (Ok done) host old new what before after s =
+      record { log = []; made = refl; holds = (refl, s) }
+  listing_done (Err stop) host old new what before after s = tt
+
+  pub listing_stopped : (result : Result (Unit {0}) Stop) (host : H) (old new : S) (what : Listing)
+      (before after : Option (List ℕ))
+      → IfErr result (λ stop. StopsListing model what old stop before after new)
+      → IfErr result (λ stop. LogsCalls calls host host (StopsStoreWork model old (ListBooks what)
+      stop before after new))
+  listing_stopped (Ok done) host old new what before after s = tt
+  listing_stopped (Err stop) host old new what before after s =
+      record { log = []; made = refl; holds = (refl, s) }
 
 -- ---- serving
-
-module _ {S P L H : Type 0} (calls : HostCall S P L → H → H → Type 0) where
-  -- calls of the host in turn
-  makes_both : (first later : List (HostCall S P L)) (old middle new : H)
-      → MakesCalls calls old first middle → MakesCalls calls middle later new
-      → MakesCalls calls old (first ++ later) new
-  makes_both [] later old middle new same made =
-      subst (λ (h : H). MakesCalls calls h later new) same made
-  makes_both (call ∷ first) later old middle new (next, did, rest) made =
-      (next, did, makes_both first later next middle new rest made)
-
-  pub store_opened : (old new : H) (file : List ℕ) (creates : Bool) (result : Result S OpenFault)
-      → creates ≡ false → calls (Opens file result) old new
-      → LogsCalls calls old new (GetsStore file creates result)
-  store_opened old new file creates result asked made =
-      subst (λ (creates : Bool). LogsCalls calls old new (GetsStore file creates result))
-      (sym asked) (one_call calls old new (Opens file result) (GetsStore file false result) made
-      refl)
-
-  pub store_got : (old new : H) (file : List ℕ) (creates : Bool) (result : Result S OpenFault)
-      → creates ≡ true → LogsCalls calls old new (GetsStore file true result)
-      → LogsCalls calls old new (GetsStore file creates result)
-  store_got old new file creates result asked got =
-      subst (λ (creates : Bool). LogsCalls calls old new (GetsStore file creates result))
-      (sym asked) got
-
-  pub vacant_created : (old looked new : H) (file : List ℕ) (vacant : Bool) (result :
-      Result S OpenFault) → vacant ≡ true → calls (Looks file vacant) old looked
-      → calls (Creates file result) looked new
-      → LogsCalls calls old new (GetsStore file true result)
-  vacant_created old looked new file vacant result is looks made = record {
-    log = Looks file true ∷ Creates file result ∷ [];
-    made = (
-      looked,
-      subst (λ (vacant : Bool). calls (Looks file vacant) old looked) is looks,
-      (new, made, refl),
-    );
-    holds = inl refl;
-  }
-
-  pub used_opened : (old looked new : H) (file : List ℕ) (vacant : Bool) (result :
-      Result S OpenFault) → vacant ≡ false → calls (Looks file vacant) old looked
-      → calls (Opens file result) looked new → LogsCalls calls old new (GetsStore file true result)
-  used_opened old looked new file vacant result is looks made = record {
-    log = Looks file false ∷ Opens file result ∷ [];
-    made = (
-      looked,
-      subst (λ (vacant : Bool). calls (Looks file vacant) old looked) is looks,
-      (new, made, refl),
-    );
-    holds = inr refl;
-  }
 
 module _ {S P L State H : Type 0} (does : HandlerRelation State) (fault_reply : FaultReplies)
     (effects : EndpointRelation P) (calls : HostCall S P L → H → H → Type 0) where

@@ -146,7 +146,7 @@ module _ {S P L : Type 0} (model : StoreModel S) where
   in_file_leaves file work stop before after log (inl s) =
       keeps_leaves stop before after s.2.unwritten
   in_file_leaves file work stop before after log (inr s) =
-      store_work_leaves work s.store s.store_after stop before after s.later s.stops
+      store_work_leaves work s.store s.store_after stop before after s.later s.does
 
   verifying_leaves : (file : List ℕ) (stop : Stop) (before after : Option (List ℕ)) (log :
       List (HostCall S P L)) → StopsVerifying model file stop before after log
@@ -157,7 +157,7 @@ module _ {S P L : Type 0} (model : StoreModel S) where
       damage_leaves file stop before after log s
   verifying_leaves file stop before after log (inr (inr s)) =
       inl (store_work_leaves (ListBooks Verified) s.store s.store_after stop before after s.later
-      s.stops)
+      s.does)
 
 module _ {S P L State : Type 0} (does : HandlerRelation State) (effects : EndpointRelation P)
     (state_of : S → State) where

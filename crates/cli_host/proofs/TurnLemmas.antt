@@ -1,6 +1,6 @@
 -- Serving connections one after another: the calls that are made of the host, and what is written.
-use Rattle.std.proofs.Common.{◌≡◌, ◌≢◌, ℕ, List, [], ◌∷◌, Option, Result, Ok, Err, IfErr, OnOk, inl}
-use Rattle.std.proofs.Common.{inr, refl}
+use Rattle.std.proofs.Common.{◌≡◌, ◌≢◌, ℕ, false, List, [], ◌∷◌, Option, Result, Ok, Err, IfErr, OnOk}
+use Rattle.std.proofs.Common.{inl, inr, refl}
 use Rattle.book_http.specs.ConnectionModels.{ConnectionModel}
 use Rattle.book_http.specs.OctetPromise.{ServiceStep}
 use Rattle.cli_orders.specs.ReplyTexts.{KeepsOutput}
@@ -10,8 +10,10 @@ use Rattle.cli_orders.specs.declared.stop.Stop.{Stop}
 use Rattle.cli_orders.specs.declared.stop.Stop.TheVariants.{Open, Device}
 use Rattle.cli_orders.proofs.StopLemmas.{keeps_leaves, kept_same}
 use Rattle.cli_orders.proofs.TurnLemmas.{turn_stop_leaves}
-use Rattle.cli_host.specs.Hosts.{HostCall, BindsListener, LogsCalls, Opens}
-use Rattle.cli_host.specs.OrdersInTurn.{ServesFile, StopsServe}
+use Rattle.cli_host.specs.HostStores.{GetsStore}
+use Rattle.cli_host.specs.Hosts.{HostCall, BindsListener, Closes, LogsCalls, Opens}
+use Rattle.cli_host.specs.OrdersInTurn.{ServesAtPort, StopsAtPort, StopsServe}
+use Rattle.cli_host.proofs.CallLemmas.{store_used}
 use Rattle.http_replies.specs.Replies.{head_fault_octets}
 use Rattle.store_schema.specs.declared.open_fault.OpenFault.{OpenFault}
 use Rattle.sync_core.specs.StoreModels.{StoreModel}
@@ -26,11 +28,11 @@ module _ {S P L Connection : Type 0} (model : StoreModel S) (stream : Connection
       keeps_leaves stop before after s.2.unwritten
   turns_leave file requested connections stop before after log (inr (inl s)) =
       keeps_leaves stop before after s.2.unwritten
-  turns_leave file requested connections stop before after log (inr (inr (inl s))) =
-      keeps_leaves stop before after s.at_device.unwritten
-  turns_leave file requested connections stop before after log (inr (inr (inr s))) =
-      turn_stop_leaves (ServiceStep model) head_fault_octets stream s.port connections
-      (coming s.listener) s.store s.store_after before after stop s.stops
+  turns_leave file requested connections stop before after log (inr (inr s)) = elim s.does [
+    | inl none ↦ keeps_leaves stop before after none.at_device.unwritten
+    | inr serving ↦ turn_stop_leaves (ServiceStep model) head_fault_octets stream serving.port
+        connections (coming serving.listener) s.store s.store_after before after stop serving.stops
+  ]
 
 module _ {S P L Connection H : Type 0} (model : StoreModel S) (stream : ConnectionModel Connection)
     (coming : L → Option (List (Option Connection))) (calls : HostCall S P L → H → H → Type 0) where
@@ -54,74 +56,78 @@ module _ {S P L Connection H : Type 0} (model : StoreModel S) (stream : Connecti
     holds = inr (inl (store, refl, record { stop_is = refl; unwritten = kept_same w }));
   }
 
-  pub serve_unbound : (old opened new : H) (file : List ℕ) (requested connections : ℕ) (store : S)
-      (stop : Stop) (w : Option (List ℕ)) → calls (Opens file (Ok store)) old opened
-      → calls (BindsListener requested (Err stop)) opened new → stop ≡ Device
-      → LogsCalls calls old new (StopsServe model stream coming file requested connections stop w w)
-  serve_unbound old opened new file requested connections store stop w made binds stop_is = record {
-    log = Opens file (Ok store) ∷ BindsListener requested (Err stop) ∷ [];
-    made = (opened, made, (new, binds, refl));
-    holds =
-        inr (inr (inl (record {
-          store = store;
-          calls = refl;
-          at_device = record {
-            stop_is = stop_is;
-            unwritten = kept_same w;
-          };
-        })));
+  pub port_unbound : (old new : H) (requested connections : ℕ) (store : S) (stop : Stop)
+      (w : Option (List ℕ)) → calls (BindsListener requested (Err stop)) old new → stop ≡ Device
+      → LogsCalls calls old new (StopsAtPort model stream coming requested connections stop store w
+      w store)
+  port_unbound old new requested connections store stop w binds stop_is = record {
+    log = BindsListener requested (Err stop) ∷ [];
+    made = (new, binds, refl);
+    holds = inl (record {
+      calls = refl;
+      unhandled = refl;
+      at_device = record { stop_is = stop_is; unwritten = kept_same w };
+    });
   }
 
-  pub served_in_turn : (result : Result (Unit {0}) Stop) (old opened new : H) (file : List ℕ)
-      (requested port connections : ℕ) (store store_after : S) (listener : L) (before after :
-      Option (List ℕ))
-      → calls (Opens file (Ok store)) old opened
-      → calls (BindsListener requested (Ok (listener, port))) opened new
+  pub port_served : (result : Result (Unit {0}) Stop) (old new : H) (requested port connections : ℕ)
+      (store store_after : S) (listener : L) (before after : Option (List ℕ))
+      → calls (BindsListener requested (Ok (listener, port))) old new
       → (requested ≢ 0 → port ≡ requested)
       → OnOk result (AnnouncesAndServesInTurn (ServiceStep model) head_fault_octets stream port
       connections (coming listener) store before after store_after)
-      → OnOk result (LogsCalls calls old new (ServesFile model stream coming file requested
-      connections before after))
-  served_in_turn (Ok done) old opened new file requested port connections store store_after listener
-      before after made binds is_requested announces = record {
-        log = Opens file (Ok store) ∷ BindsListener requested (Ok (listener, port)) ∷ [];
-        made = (opened, made, (new, binds, refl));
+      → OnOk result (LogsCalls calls old new (ServesAtPort model stream coming requested connections
+      store before after store_after))
+  port_served (Ok done) old new requested port connections store store_after listener before after
+      binds is_requested announces = record {
+        log = BindsListener requested (Ok (listener, port)) ∷ [];
+        made = (new, binds, refl);
         holds = record {
-          store = store;
           listener = listener;
           port = port;
           calls = refl;
           is_requested = is_requested;
-          store_after = store_after;
           announces = announces;
         };
       }
-  served_in_turn (Err stop) old opened new file requested port connections store store_after
-      listener before after made binds is_requested announces = tt
+  port_served (Err stop) old new requested port connections store store_after listener before after
+      binds is_requested announces = tt
 
-  pub unserved_in_turn : (result : Result (Unit {0}) Stop) (old opened new : H) (file : List ℕ)
-      (requested port connections : ℕ) (store store_after : S) (listener : L) (before after :
-      Option (List ℕ))
-      → calls (Opens file (Ok store)) old opened
-      → calls (BindsListener requested (Ok (listener, port))) opened new
+  pub port_unserved : (result : Result (Unit {0}) Stop) (old new : H) (requested port connections :
+      ℕ) (store store_after : S) (listener : L) (before after : Option (List ℕ))
+      → calls (BindsListener requested (Ok (listener, port))) old new
       → (requested ≢ 0 → port ≡ requested)
       → IfErr result (λ stop. StopsServingInTurn (ServiceStep model) head_fault_octets stream port
       connections (coming listener) store before after stop store_after)
-      → IfErr result (λ stop. LogsCalls calls old new (StopsServe model stream coming file requested
-      connections stop before after))
-  unserved_in_turn (Ok done) old opened new file requested port connections store store_after
-      listener before after made binds is_requested stops = tt
-  unserved_in_turn (Err stop) old opened new file requested port connections store store_after
-      listener before after made binds is_requested stops = record {
-        log = Opens file (Ok store) ∷ BindsListener requested (Ok (listener, port)) ∷ [];
-        made = (opened, made, (new, binds, refl));
-        holds = inr (inr (inr (record {
-          store = store;
+      → IfErr result (λ stop. LogsCalls calls old new (StopsAtPort model stream coming requested
+      connections stop store before after store_after))
+  port_unserved (Ok done) old new requested port connections store store_after listener before after
+      binds is_requested stops = tt
+  port_unserved (Err stop) old new requested port connections store store_after listener before
+      after binds is_requested stops = record {
+        log = BindsListener requested (Ok (listener, port)) ∷ [];
+        made = (new, binds, refl);
+        holds = inr (record {
           listener = listener;
           port = port;
           calls = refl;
           is_requested = is_requested;
-          store_after = store_after;
           stops = stops;
-        })));
+        });
       }
+
+  pub serve_stopped : (result : Result (Unit {0}) Stop) (old got worked new : H) (file : List ℕ)
+      (requested connections : ℕ) (store store_after : S) (before after : Option (List ℕ))
+      → LogsCalls calls old got (GetsStore file false (Ok store))
+      → IfErr result (λ stop. LogsCalls calls got worked (StopsAtPort model stream coming requested
+      connections stop store before after store_after)) → calls (Closes store_after) worked new
+      → IfErr result (λ stop. LogsCalls calls old new (StopsServe model stream coming file requested
+      connections stop before after))
+  serve_stopped (Ok done) old got worked new file requested connections store store_after before
+      after gets stops closes = tt
+  serve_stopped (Err stop) old got worked new file requested connections store store_after before
+      after gets stops closes =
+      let used = store_used calls old got worked new file false (λ old new later.
+      StopsAtPort model stream coming requested connections stop old before after new later) store
+      store_after gets stops closes in
+      record { log = used.log; made = used.made; holds = inr (inr used.holds) }

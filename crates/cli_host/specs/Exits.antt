@@ -6,6 +6,7 @@ use Rattle.cli_args.specs.declared.order.Order.{Order}
 use Rattle.cli_orders.specs.TryOutputs.{KeepsTryOutput, PrintsTryResult}
 use Rattle.cli_orders.specs.TryStops.{IsTryStop}
 use Rattle.cli_orders.specs.declared.stop.Stop.{Stop}
+use Rattle.cli_orders.specs.declared.stop.Stop.TheVariants.{Device}
 use Rattle.cli_orders.specs.Stops.{out_of_memory, status_of, stop_line}
 use Rattle.book_http.specs.ConnectionModels.{ConnectionModel}
 use Rattle.book_http.specs.Streams.{WritesPrefix}
@@ -65,10 +66,13 @@ pub record IsTryDone (input : List ℕ) (before after : Option (List ℕ))
   pub printed : PrintsTryResult input before after
   pub succeeds : Succeeds errors_before errors_after exit
 
--- `try` stopped, because of the input, or because memory ran out or a device failed
+-- `try` stopped, because of the input, or because memory ran out or a device failed. Unless a
+-- device failed, this holds of what was printed: that it was flushed.
 pub record IsTryStopped (input : List ℕ) (before after : Option (List ℕ))
-    (errors_before errors_after : Option (List ℕ)) (exit : ProgramExit) : Type 0 where
+    (errors_before errors_after : Option (List ℕ)) (Flushed : Type 0) (exit : ProgramExit)
+    : Type 0 where
   pub stop : Stop
+  pub left : (stop ≡ Device) ⊎ Flushed
   pub agrees : IsTryStop input stop
   pub output_kept : KeepsTryOutput stop input before after
   pub reports_stop : ReportsStop stop errors_before errors_after exit
@@ -85,18 +89,20 @@ module _ {S P L Connection : Type 0} (model : StoreModel S) (front : FrontRelati
     pub runs : RunsOnHost model front effects stream coming order before after log
     pub succeeds : Succeeds errors_before errors_after exit
 
-  -- the order stopped with this log of calls, and the stop was reported
+  -- The order stopped with this log of calls, and the stop was reported. Unless a device failed,
+  -- this holds of what was printed: that it was flushed.
   pub record IsOrderStopped (order : Order) (before after : Option (List ℕ))
-      (errors_before errors_after : Option (List ℕ)) (exit : ProgramExit)
+      (errors_before errors_after : Option (List ℕ)) (Flushed : Type 0) (exit : ProgramExit)
       (log : List (HostCall S P L)) : Type 0 where
     pub stop : Stop
+    pub left : (stop ≡ Device) ⊎ Flushed
     pub stops : StopsOnHost model front effects stream coming order stop before after log
     pub output_kept : KeepsOrderOutput order stop before after
     pub reports_stop : ReportsStop stop errors_before errors_after exit
 
   -- either
   abbrev pub EndsOrder : Order → Option (List ℕ) → Option (List ℕ) → Option (List ℕ)
-      → Option (List ℕ) → ProgramExit → List (HostCall S P L) → Type 0
-  EndsOrder order before after errors_before errors_after exit log =
+      → Option (List ℕ) → Type 0 → ProgramExit → List (HostCall S P L) → Type 0
+  EndsOrder order before after errors_before errors_after Flushed exit log =
       IsOrderDone order before after errors_before errors_after exit log
-      ⊎ IsOrderStopped order before after errors_before errors_after exit log
+      ⊎ IsOrderStopped order before after errors_before errors_after Flushed exit log

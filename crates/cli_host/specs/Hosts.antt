@@ -20,6 +20,8 @@ pub data HostCall (Store Endpoint Listener : Type 0) : Type 0 where
   Opens : List ℕ → Result Store OpenFault → HostCall Store Endpoint Listener
   -- searching the file for a row at fault, of which there may be none
   FindsFault : List ℕ → Result (Option FaultyRow) OpenFault → HostCall Store Endpoint Listener
+  -- closing the store, after all that was done with it
+  Closes : Store → HostCall Store Endpoint Listener
   -- migrating the file to the current schema, which returns its number of books
   Migrates : List ℕ → Result ℕ OpenFault → HostCall Store Endpoint Listener
   -- copying the store in the first file into the second, a new one, without the books with these

@@ -2,6 +2,7 @@ pub mod OrderWork
 pub mod Waiting
 pub mod Progress
 pub mod Hosts
+pub mod HostStores
 pub mod Naming
 pub mod Resyncs
 pub mod Listings

@@ -23,7 +23,8 @@ use Rattle.cli_orders.specs.declared.stop.Stop.TheVariants.{Open, Device}
 pub use Rattle.cli_host.specs.EarlyStops.{StopsAtDevice, StopsForMemory, StopsOverText}
 pub use Rattle.cli_host.specs.EarlyStops.{StopsUnopened}
 use Rattle.cli_export.specs.CardFiles.{PrintsCards, StopsCards}
-use Rattle.cli_host.specs.Hosts.{HostCall, Creates, Looks, Opens, FindsFault, Migrates}
+pub use Rattle.cli_host.specs.HostStores.{GetsNoStore, GetsStore, UsesStore}
+use Rattle.cli_host.specs.Hosts.{HostCall, Closes, Creates, Opens, FindsFault, Migrates}
 use Rattle.cli_host.specs.Hosts.{Copies, Restores, ReadsRows, ReadsSite, Binds, Finishes}
 use Rattle.cli_host.specs.Hosts.{IsBoundAs}
 use Rattle.cli_host.specs.OrderWork.{work_of}
@@ -92,11 +93,11 @@ KeepsOrderOutput order stop before after = KeepsWorkOutput (work_of order) stop 
 module _ {S P L : Type 0} where
   -- ---- a new store
 
-  -- a store without books was created in the file, and that is printed
+  -- a store without books was created in the file and closed, and that is printed
   pub record MakesStore
       (file : List ℕ) (before after : Option (List ℕ)) (log : List (HostCall S P L)) : Type 0 where
     pub store : S
-    pub calls : log ≡ Creates file (Ok store) ∷ []
+    pub calls : log ≡ Creates file (Ok store) ∷ Closes store ∷ []
     pub printed : Appends before after made_output
 
   -- none was created in the file, or the writer failed
@@ -105,7 +106,7 @@ module _ {S P L : Type 0} where
   StopsMaking file stop before after log =
       ((fault : OpenFault) × (log ≡ Creates file (Err fault) ∷ [])
       × StopsUnopened fault stop before after)
-      ⊎ ((store : S) × (log ≡ Creates file (Ok store) ∷ [])
+      ⊎ ((store : S) × (log ≡ Creates file (Ok store) ∷ Closes store ∷ [])
       × StopsOverText made_output stop before after)
 
   -- ---- a file of the first schema
@@ -265,31 +266,23 @@ module _ {S P L : Type 0} (model : StoreModel S) where
 
   -- ---- the store in a file
 
-  -- the file's store was opened, and then the work was done on it
-  pub record DoesInFile (file : List ℕ) (work : StoreWork) (before after : Option (List ℕ))
-      (log : List (HostCall S P L)) : Type 0 where
-    pub store : S
-    pub later : List (HostCall S P L)
-    pub calls : log ≡ Opens file (Ok store) ∷ later
-    pub store_after : S
-    pub does : DoesStoreWork store work before after store_after later
+  -- the file's store was opened, the work was done on it, and it was closed as the work left it
+  abbrev pub DoesInFile : List ℕ → StoreWork → Option (List ℕ) → Option (List ℕ)
+      → List (HostCall S P L) → Type 0
+  DoesInFile file work before after log = UsesStore file false
+      (λ old new later. DoesStoreWork old work before after new later) log
 
-  -- the file's store was opened, and this is why the work stopped
-  pub record StopsOnFile (file : List ℕ) (work : StoreWork) (stop : Stop)
-      (before after : Option (List ℕ)) (log : List (HostCall S P L)) : Type 0 where
-    pub store : S
-    pub later : List (HostCall S P L)
-    pub calls : log ≡ Opens file (Ok store) ∷ later
-    pub store_after : S
-    pub stops : StopsStoreWork store work stop before after store_after later
+  -- the file's store was opened, this is why the work stopped, and it was closed as that left it
+  abbrev pub StopsOnFile : List ℕ → StoreWork → Stop → Option (List ℕ) → Option (List ℕ)
+      → List (HostCall S P L) → Type 0
+  StopsOnFile file work stop before after log = UsesStore file false
+      (λ old new later. StopsStoreWork old work stop before after new later) log
 
   -- the file wasn't opened, or it was and the work stopped
   abbrev pub StopsInFile : List ℕ → StoreWork → Stop → Option (List ℕ) → Option (List ℕ)
       → List (HostCall S P L) → Type 0
   StopsInFile file work stop before after log =
-      ((fault : OpenFault) × (log ≡ Opens file (Err fault) ∷ [])
-      × StopsUnopened fault stop before after)
-      ⊎ StopsOnFile file work stop before after log
+      GetsNoStore file false stop before after log ⊎ StopsOnFile file work stop before after log
 
   -- ---- verifying a file
 
@@ -308,14 +301,6 @@ module _ {S P L : Type 0} (model : StoreModel S) where
       ⊎ StopsOnFile file (ListBooks Verified) stop before after log)
 
 -- ---- serving
-
--- The file's store was opened, or that failed. If it may be created, the host was first asked
--- whether the file is missing or empty; if it is, the store was created in it, or that failed.
-abbrev pub GetsStore : {S P L : Type 0} → List ℕ → Bool → Result S OpenFault
-    → List (HostCall S P L) → Type 0
-GetsStore file false result log = log ≡ Opens file result ∷ []
-GetsStore file true result log = (log ≡ Looks file true ∷ Creates file result ∷ [])
-    ⊎ (log ≡ Looks file false ∷ Opens file result ∷ [])
 
 -- A handler is represented by what it does, and an endpoint by the effects of its calls.
 module _ {S P L State : Type 0} (does : HandlerRelation State) (fault_reply : FaultReplies)

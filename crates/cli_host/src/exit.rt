@@ -100,7 +100,8 @@ fn run_try_order<S, P, L, M: Host<S, P, L>, R: Read, W: Output, E: Output>(
         IsTryDone input (W.contents writer.old) (W.contents writer.new) (E.contents errors.old)
         (E.contents errors.new) result
         ⊎ IsTryStopped input (W.contents writer.old) (W.contents writer.new)
-        (E.contents errors.old) (E.contents errors.new) result) }
+        (E.contents errors.old) (E.contents errors.new)
+        (LeavesFlushed W.contents W.flushed writer.old writer.new) result) }
     ensures at_most { ReadsAtMost read_octets_max
         (R.remaining reader.old) (R.remaining reader.new) }
     ensures flushed { result.status ≡ 0 → IsFlushed W.contents W.flushed writer.new }
@@ -129,7 +130,8 @@ fn run_other_order<
     ensures ends { LogsCalls M.calls host.old host.new
         (EndsOrder S.model M.Front.answers P.calls L.Stream.model L.coming order
         (W.contents writer.old) (W.contents writer.new)
-        (E.contents errors.old) (E.contents errors.new) result) }
+        (E.contents errors.old) (E.contents errors.new)
+        (LeavesFlushed W.contents W.flushed writer.old writer.new) result) }
     ensures flushed { result.status ≡ 0 → IsFlushed W.contents W.flushed writer.new }
     ensures left_flushed { result.status ≢ 3
         → LeavesFlushed W.contents W.flushed writer.old writer.new }
@@ -162,25 +164,29 @@ pub fn run_and_report<
     writer: &mut W,
     errors: &mut E,
 ) -> ProgramExit
-    // The output for the input is printed and nothing is reported, or the stop is reported.
+    // The output for the input is printed and nothing is reported, or the stop is reported; and
+    // then nothing was printed, or all that was printed was flushed, unless a device failed.
     ensures try_order { order ≡ Ok TheOrder.Try → IfSome (R.remaining reader.old) (λ input.
         IsTryDone input (W.contents writer.old) (W.contents writer.new) (E.contents errors.old)
         (E.contents errors.new) result
         ⊎ IsTryStopped input (W.contents writer.old) (W.contents writer.new)
-        (E.contents errors.old) (E.contents errors.new) result) }
+        (E.contents errors.old) (E.contents errors.new)
+        (LeavesFlushed W.contents W.flushed writer.old writer.new) result) }
 
     // `try` reads no more than a prefix of its input, and calls no host.
     ensures at_most { order ≡ Ok TheOrder.Try →
         ReadsAtMost read_octets_max (R.remaining reader.old) (R.remaining reader.new)
         × (host.new ≡ host.old) }
 
-    // The output of another order is printed and nothing is reported, or the stop is reported. The
+    // The output of another order is printed and nothing is reported, or the stop is reported; and
+    // then nothing was printed, or all that was printed was flushed, unless a device failed. The
     // whole log of calls that were made of the host is that of the order.
     ensures other_order { (other : TheOrder) → order ≡ Ok other → other ≢ TheOrder.Try →
         LogsCalls M.calls host.old host.new
         (EndsOrder S.model M.Front.answers P.calls L.Stream.model L.coming other
         (W.contents writer.old) (W.contents writer.new)
-        (E.contents errors.old) (E.contents errors.new) result) }
+        (E.contents errors.old) (E.contents errors.new)
+        (LeavesFlushed W.contents W.flushed writer.old writer.new) result) }
 
     // Another order reads no input.
     ensures unread { order ≢ Ok TheOrder.Try → reader.new ≡ reader.old }
@@ -200,7 +206,8 @@ pub fn run_and_report<
     // If the status is 0, all that was printed was flushed.
     ensures flushed { result.status ≡ 0 → IsFlushed W.contents W.flushed writer.new }
 
-    // If the status isn't 3, nothing was printed, or all that was printed was flushed.
+    // If the status isn't 3, nothing was printed, or all that was printed was flushed: also where
+    // the input isn't known.
     ensures left_flushed { result.status ≢ 3
         → LeavesFlushed W.contents W.flushed writer.old writer.new }
 

@@ -1,7 +1,7 @@
 //! The trait of hosts: the files and ports that orders use.
 ghost use Rattle.std.specs.Prelude.{◌≡◌, ◌≢◌, ◌⊎◌, IfErr, IfOk};
-ghost use Rattle.cli_host.specs.Hosts.{HostCall, Copies, Creates, Opens, Migrates, ReadsRows};
-ghost use Rattle.cli_host.specs.Hosts.{ReadsSite, Restores};
+ghost use Rattle.cli_host.specs.Hosts.{HostCall, Closes, Copies, Creates, Migrates, Opens};
+ghost use Rattle.cli_host.specs.Hosts.{ReadsRows, ReadsSite, Restores};
 ghost use Rattle.cli_host.specs.Hosts.{Binds, BindsListener, FindsFault, Finishes, IsBoundAs};
 ghost use Rattle.cli_host.specs.Hosts.{Looks};
 ghost use Rattle.cli_orders.specs.Stops.{out_of_memory};
@@ -21,6 +21,8 @@ use store_schema::OpenFault;
 ///
 /// The contracts of the real host say neither what a file holds nor who connects to a port. The
 /// contracts over any host say which calls are made of it, and one body runs orders on all hosts.
+/// A host gets back each endpoint that it gave, and each store but that of `run`. So its log says
+/// how an order left them.
 ///
 /// A host also prints the lines of `run --log`, says that a long import or opening goes on, and
 /// looks for why a file, a socket or a port couldn't be used. These are no calls: what an order
@@ -127,6 +129,10 @@ pub trait Host<S, P, L>: RequestLog {
 
     /// Whether the folder can be read as a site. If it can't, `read_site` has said why.
     fn has_site(&self, dir: &str) -> bool;
+
+    /// Closes the store of a file, after all that was done with it.
+    fn close(&mut self, store: S)
+        ensures { calls (Closes store) self.old self.new };
 
     /// Closes the endpoint, after its connections were served.
     fn finish(&mut self, endpoint: P)

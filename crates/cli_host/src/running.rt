@@ -32,8 +32,8 @@ use hub_server::Endpoint;
 use std::alloc::Global;
 use sync_core::BookStore;
 
-/// Creates a store without books in the file, and prints `made`.
-fn run_init<S: Drop, P, L, M: Host<S, P, L>, W: Output>(
+/// Creates a store without books in the file, closes it, and prints `made`.
+fn run_init<S, P, L, M: Host<S, P, L>, W: Output>(
     host: &mut M,
     file: Text,
     writer: &mut W,
@@ -44,7 +44,8 @@ fn run_init<S: Drop, P, L, M: Host<S, P, L>, W: Output>(
         (StopsMaking file stop (W.contents writer.old) (W.contents writer.new))) }
     ensures flushed { Flushes W.contents W.flushed writer.old writer.new result }
 {
-    let _books = host.create(file.as_str())?;
+    let books = host.create(file.as_str())?;
+    host.close(books);
     write_out(writer, created_line().as_bytes())
 }
 
@@ -142,8 +143,8 @@ fn do_store_work<S: AdminStore, P, L, M: Host<S, P, L>, W: Output>(
     }
 }
 
-/// Does an order's work on the store in the file, which is opened first.
-fn use_file<S: AdminStore + Drop, P, L, M: Host<S, P, L>, W: Output>(
+/// Does an order's work on the store in the file, which is opened first, and closed last.
+fn use_file<S: AdminStore, P, L, M: Host<S, P, L>, W: Output>(
     alloc: Global,
     host: &mut M,
     file: Text,
@@ -157,7 +158,9 @@ fn use_file<S: AdminStore + Drop, P, L, M: Host<S, P, L>, W: Output>(
     ensures flushed { Flushes W.contents W.flushed writer.old writer.new result }
 {
     let mut store = open_watched(alloc, host, file.as_str())?;
-    do_store_work(alloc, host, &mut store, work, writer)
+    let done = do_store_work(alloc, host, &mut store, work, writer);
+    host.close(store);
+    done
 }
 
 /// Does an order's work on a host, and prints its output.

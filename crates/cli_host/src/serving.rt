@@ -4,7 +4,7 @@ ghost use Rattle.cli_host.specs.Hosts.{LogsCalls};
 ghost use Rattle.cli_host.specs.OrdersOnHost.{GetsStore, RunsFile, RunsFolder, RunsGuarded};
 ghost use Rattle.cli_host.specs.OrdersOnHost.{RunsSite, ServesAt, StopsAt, StopsFolder};
 ghost use Rattle.cli_host.specs.OrdersOnHost.{StopsGuarded, StopsRun, StopsSite};
-ghost use Rattle.cli_host.specs.OrdersInTurn.{ServesFile, StopsServe};
+ghost use Rattle.cli_host.specs.OrdersInTurn.{ServesAtPort, ServesFile, StopsAtPort, StopsServe};
 ghost use Rattle.cli_orders.specs.Outputs.{Flushes};
 
 use crate::host::Host;
@@ -98,8 +98,29 @@ fn serve_at<S, P: Endpoint, L, M: Host<S, P, L>, H: Handler + Drop, W: Output>(
     served
 }
 
+/// Serves the books of the service at the port, to one connection after another.
+fn serve_at_port<S: BookStore, P, L: Listener + Drop, M: Host<S, P, L>, W: Output>(
+    alloc: Global,
+    host: &mut M,
+    service: &mut Service<S>,
+    port: u16,
+    connections: u64,
+    writer: &mut W,
+) -> Result<(), Stop>
+    ensures done { OnOk result (LogsCalls M.calls host.old host.new
+        (ServesAtPort S.model L.Stream.model L.coming port connections service.old
+        (W.contents writer.old) (W.contents writer.new) service.new)) }
+    ensures stopped { IfErr result (λ stop. LogsCalls M.calls host.old host.new
+        (StopsAtPort S.model L.Stream.model L.coming port connections stop service.old
+        (W.contents writer.old) (W.contents writer.new) service.new)) }
+    ensures flushed { Flushes W.contents W.flushed writer.old writer.new result }
+{
+    let (listener, port) = host.bind_listener(port)?;
+    announce_and_serve_in_turn(alloc, service, listener, port, connections, writer)
+}
+
 /// Serves the books in the file at the port, to one connection after another. The store is opened
-/// first.
+/// first, and closed last.
 pub(crate) fn run_serve<S: BookStore + Drop, P, L: Listener + Drop, M: Host<S, P, L>, W: Output>(
     alloc: Global,
     host: &mut M,
@@ -118,8 +139,9 @@ pub(crate) fn run_serve<S: BookStore + Drop, P, L: Listener + Drop, M: Host<S, P
 {
     let store = open_watched(alloc, host, file.as_str())?;
     let mut service = Service::new(alloc, store)?;
-    let (listener, port) = host.bind_listener(port)?;
-    announce_and_serve_in_turn(alloc, &mut service, listener, port, connections, writer)
+    let served = serve_at_port(alloc, host, &mut service, port, connections, writer);
+    host.close(service.store);
+    served
 }
 
 /// Serves the books in the file, with the host's front before them, at the address behind a guard

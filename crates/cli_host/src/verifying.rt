@@ -15,7 +15,7 @@ use store_schema::OpenFault;
 
 /// Opens the store in the file, which tests all its rows, and lists its books and their number. If
 /// the file is damaged, it prints which row is at fault, and why.
-pub(crate) fn run_verify<S: AdminStore + Drop, P, L, M: Host<S, P, L>, W: Output>(
+pub(crate) fn run_verify<S: AdminStore, P, L, M: Host<S, P, L>, W: Output>(
     alloc: Global,
     host: &mut M,
     file: Text,
@@ -30,7 +30,9 @@ pub(crate) fn run_verify<S: AdminStore + Drop, P, L, M: Host<S, P, L>, W: Output
     match open_watched(alloc, host, file.as_str()) {
         Ok(store) => {
             let mut store = store;
-            run_listing(alloc, &mut store, Listing::Verified, writer)
+            let listed = run_listing(alloc, &mut store, Listing::Verified, writer);
+            host.close(store);
+            listed
         }
         Err(fault) => match fault {
             OpenFault::Damaged => {

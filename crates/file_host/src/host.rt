@@ -191,6 +191,10 @@ impl<F: Front + Copy> Host<FileBooks, SocketEndpoint, TcpListener> for FileHost<
         read_site(&self.rt, dir).is_ok()
     }
 
+    fn close(&mut self, store: FileBooks) {
+        drop(store)
+    }
+
     fn finish(&mut self, endpoint: SocketEndpoint) {
         endpoint.finish()
     }

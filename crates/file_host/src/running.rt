@@ -70,23 +70,27 @@ pub fn run_and_report_on_files<F: Front + Copy, R: Read, W: Output, E: Output>(
     writer: &mut W,
     errors: &mut E,
 ) -> ProgramExit
-    // The output for the input is printed and nothing is reported, or the stop is reported.
+    // The output for the input is printed and nothing is reported, or the stop is reported; and
+    // then nothing was printed, or all that was printed was flushed, unless a device failed.
     ensures try_order { order ≡ Ok TheOrder.Try → IfSome (R.remaining reader.old) (λ input.
         IsTryDone input (W.contents writer.old) (W.contents writer.new) (E.contents errors.old)
         (E.contents errors.new) result
         ⊎ IsTryStopped input (W.contents writer.old) (W.contents writer.new)
-        (E.contents errors.old) (E.contents errors.new) result) }
+        (E.contents errors.old) (E.contents errors.new)
+        (LeavesFlushed W.contents W.flushed writer.old writer.new) result) }
 
     // `try` reads no more than a prefix of its input.
     ensures at_most { order ≡ Ok TheOrder.Try →
         ReadsAtMost read_octets_max (R.remaining reader.old) (R.remaining reader.new) }
 
-    // The output of another order is printed and nothing is reported, or the stop is reported.
+    // The output of another order is printed and nothing is reported, or the stop is reported; and
+    // then nothing was printed, or all that was printed was flushed, unless a device failed.
     ensures other_order { (other : TheOrder) → order ≡ Ok other → other ≢ TheOrder.Try →
         HasLog (EndsOrder ⟦<FileBooks as BookStore>⟧.model F.answers
         ⟦<SocketEndpoint as Endpoint>⟧.calls ⟦<TcpStream as Connection>⟧.model
         ⟦<TcpListener as Listener>⟧.coming other (W.contents writer.old) (W.contents writer.new)
-        (E.contents errors.old) (E.contents errors.new) result) }
+        (E.contents errors.old) (E.contents errors.new)
+        (LeavesFlushed W.contents W.flushed writer.old writer.new) result) }
 
     // Another order reads no input.
     ensures unread { order ≢ Ok TheOrder.Try → reader.new ≡ reader.old }
@@ -104,7 +108,8 @@ pub fn run_and_report_on_files<F: Front + Copy, R: Read, W: Output, E: Output>(
     // If the status is 0, all that was printed was flushed.
     ensures flushed { result.status ≡ 0 → IsFlushed W.contents W.flushed writer.new }
 
-    // If the status isn't 3, nothing was printed, or all that was printed was flushed.
+    // If the status isn't 3, nothing was printed, or all that was printed was flushed: also where
+    // the input isn't known.
     ensures left_flushed { result.status ≢ 3
         → LeavesFlushed W.contents W.flushed writer.old writer.new }
 
