@@ -4,9 +4,9 @@ use Rattle.import_text.specs.Encodings.{text_of}
 use Rattle.vcard_lines.specs.TextValues.{unescaped_text}
 use Rattle.vcard_lines.specs.declared.line.Line.{Line}
 use Rattle.vcard_values.specs.KeptTexts.{kept_text}
-use Rattle.vcard_values.specs.Values.{HasKnownValue, HasValueOf}
+use Rattle.vcard_values.specs.Values.{HasValueOf, is_known}
 use Rattle.vcard_values.specs.declared.version.Version.{Version}
-use Rattle.vcard_property.specs.Contents.{is_emptied, is_known}
+use Rattle.vcard_property.specs.Contents.{is_emptied}
 use Rattle.vcard_property.specs.Names.{HasNameOf, has_clear_name}
 use Rattle.vcard_property.specs.SameLines.{AreLine, is_same_in}
 
@@ -19,7 +19,7 @@ pub record IsSame (version : Version) (octets : List ℕ) (line : Line) : Type 0
 -- are clear. No other value is emptied.
 pub record IsRewrittenLine (version : Version) (octets : List ℕ) (line : Line) : Type 0 where
   pub named : has_clear_name octets ≡ true → HasNameOf octets line
-  pub value : HasKnownValue octets → HasValueOf version octets line.value
+  pub value : is_known octets ≡ true → HasValueOf version octets line.value
   pub content : is_known octets ≡ false → is_emptied octets line ≡ false
 
 -- The line keeps the whole text of the octets under a name, but for control characters.

@@ -7,8 +7,8 @@ ghost use Rattle.vcard_values.specs.Escapes.{SpellsSame, rewritten_value};
 ghost use Rattle.vcard_values.specs.Forms.{value_form};
 ghost use Rattle.vcard_property.specs.Kinds.{fits_kind};
 ghost use Rattle.vcard_property.specs.SameLines.{AreLine, is_same_in};
-ghost use Rattle.vcard_values.specs.Values.{HasKnownValue, HasValueOf, IsUriOf};
-ghost use Rattle.vcard_property.specs.Contents.{is_emptied, is_known};
+ghost use Rattle.vcard_values.specs.Values.{HasValueOf, IsUriOf, is_known};
+ghost use Rattle.vcard_property.specs.Contents.{is_emptied};
 ghost use Rattle.vcard_property.specs.Names.{HasNameOf, has_clear_name};
 ghost use Rattle.vcard_property.specs.NewLines.{Becomes};
 ghost use Rattle.vcard_values.specs.ValueTexts.{value_text};
@@ -225,7 +225,7 @@ fn property_line(
         IsProperLine line.0 × (fits_kind line.1 line.0.name ≡ true))) }
     ensures named { has_clear_name octets.now ≡ true
         → IfOk result (λ made. IfSome made (λ line. HasNameOf octets.now line.0)) }
-    ensures value { text.now ≡ text_of octets.now → HasKnownValue octets.now
+    ensures value { text.now ≡ text_of octets.now → is_known octets.now ≡ true
         → IfOk result (λ made. IfSome made (λ line. HasValueOf version octets.now line.0.value)) }
     ensures content { is_known octets.now ≡ false
         → IfOk result (λ made. IfSome made (λ line. is_emptied octets.now line.0 ≡ false)) }
