@@ -8,6 +8,7 @@ use Rattle.vcard_values.specs.Values.{HasValueOf, is_known}
 use Rattle.vcard_values.specs.declared.version.Version.{Version}
 use Rattle.vcard_property.specs.Contents.{is_emptied}
 use Rattle.vcard_property.specs.Names.{HasNameOf, has_clear_name}
+use Rattle.vcard_property.specs.NewTypes.{HasTypesOf, has_clear_new_types}
 use Rattle.vcard_property.specs.SameLines.{AreLine, is_same_in}
 
 -- The line is what the octets spell, which the version writes as vCard 4.0 does.
@@ -15,10 +16,11 @@ pub record IsSame (version : Version) (octets : List ℕ) (line : Line) : Type 0
   pub spelled : AreLine octets line
   pub same : is_same_in version line ≡ true
 
--- The line has the name, the group and the value of the octets as vCard 4.0 writes them, where they
--- are clear. No other value is emptied.
+-- The line has the name, the group, the types and the value of the octets as vCard 4.0 writes them,
+-- where they are clear. No other value is emptied.
 pub record IsRewrittenLine (version : Version) (octets : List ℕ) (line : Line) : Type 0 where
   pub named : has_clear_name octets ≡ true → HasNameOf octets line
+  pub typed : has_clear_new_types octets ≡ true → HasTypesOf octets line
   pub value : is_known octets ≡ true → HasValueOf version octets line.value
   pub content : is_known octets ≡ false → is_emptied octets line ≡ false
 

@@ -15,7 +15,8 @@ use Rattle.vcard_values.specs.Cuts.{has_octet}
 use Rattle.vcard_values.specs.Escapes.{SpellsSame, rewritten_value}
 use Rattle.vcard_values.specs.Forms.{has_clear_form, says, value_form, written_name}
 use Rattle.vcard_values.specs.Media.{base64_octets}
-use Rattle.vcard_values.specs.ValueTexts.{has_clear_encoding, names_quoted, value_of, value_text}
+use Rattle.vcard_values.specs.ValueTexts.{has_clear_encoding, is_bare_b, names_quoted, value_of}
+use Rattle.vcard_values.specs.ValueTexts.{value_text}
 use Rattle.vcard_values.specs.declared.version.Version.{Version}
 
 -- ---- the name
@@ -98,6 +99,10 @@ names_base64 part = str_eq_ignore_ascii_case part (codes "ENCODING=B")
 -- a part of the head says so
 abbrev pub is_in_base64 : List ℕ → Bool
 is_in_base64 line = list_any names_base64 (slice_split (λ octet. octet == semicolon) (head line))
+
+-- the head may say so, also by the word B alone
+abbrev pub may_be_base64 : List ℕ → Bool
+may_be_base64 line = is_in_base64 line || says is_bare_b line
 
 -- the line is a picture, a sound or a key, and its head says that its value is base64
 abbrev pub has_media : List ℕ → Bool

@@ -105,6 +105,15 @@ pub(crate) fn is_quoted(line: &[u8]) -> bool
         .any(|part| names_quoted(part))
 }
 
+/// Whether a parameter is the word B.
+pub(crate) fn says_bare_b(line: &[u8]) -> bool
+    ensures { result ≡ says is_bare_b line.now }
+{
+    params(line)
+        .split(|octet| *octet == b';')
+        .any(|part| is_bare_b(part))
+}
+
 fn says_no_encoding(line: &[u8]) -> bool
     ensures { result ≡ says names_no_encoding line.now }
 {

@@ -4,13 +4,14 @@ ghost use Rattle.std.specs.Option.{option_map};
 ghost use Rattle.vcard_values.specs.Values.{has_closed_quotes, has_known_value, has_media};
 ghost use Rattle.vcard_values.specs.Values.{has_open_quote, has_other_form};
 ghost use Rattle.vcard_values.specs.Values.{has_plain_value, is_in_base64, is_media_name};
-ghost use Rattle.vcard_values.specs.Values.{is_named_so, is_plain_name, may_lack_backslash};
+ghost use Rattle.vcard_values.specs.Values.{is_named_so, is_plain_name, may_be_base64};
+ghost use Rattle.vcard_values.specs.Values.{may_lack_backslash};
 ghost use Rattle.vcard_values.specs.Values.{media_of, names_base64};
 
 use crate::binary::decoded_octets;
 use crate::cuts::{after, has_octet};
 use crate::forms::{has_clear_form, head, written_name};
-use crate::value_texts::{has_clear_encoding, is_quoted};
+use crate::value_texts::{has_clear_encoding, is_quoted, says_bare_b};
 use base_types::NoMemory;
 use std::alloc::Global;
 
@@ -135,6 +136,13 @@ fn is_in_base64(line: &[u8]) -> bool
     head(line)
         .split(|octet| *octet == b';')
         .any(|part| names_base64(part))
+}
+
+/// Whether the head may say that the value is base64, also by the word B alone.
+pub fn may_be_base64(line: &[u8]) -> bool
+    ensures { result ≡ may_be_base64 line.now }
+{
+    is_in_base64(line) || says_bare_b(line)
 }
 
 /// Whether the line is a picture, a sound or a key, and its head says that its value is base64.
