@@ -99,10 +99,10 @@ fn has_encodings(lines: &[Line]) -> bool
 ///
 /// A card whose canonical text would have more than 262,144 octets is converted without its
 /// pictures and sounds. `TooLong` comes only if it would have more, also with all lines. `Charset`
-/// comes only if a line names a character set. Of what a changed line becomes only its name and its
-/// group are proved, where they are clear, and a value that is known from its octets, and a picture;
-/// so it isn't proved that no shorter or other card is refused. `Memory` comes if an allocation
-/// fails. There are no other errors.
+/// comes only if a line names a character set. Of what a changed line becomes only its name, its
+/// group and its types are proved, where they are clear, and a value that is known from its octets,
+/// and a picture; so it isn't proved that no shorter or other card is refused. `Memory` comes if an
+/// allocation fails. There are no other errors.
 pub fn convert_card(alloc: Global, octets: &[u8]) -> Result<Conversion, ImportFault>
     // A card of vCard 4.0 that the reader accepts stays as it is, with no change, unless one of its
     // lines has an ENCODING.
@@ -113,8 +113,9 @@ pub fn convert_card(alloc: Global, octets: &[u8]) -> Result<Conversion, ImportFa
     // Any other card has one line for each logical line, in order, but for those that begin or end
     // it or give its version, and those that are left out, and then the FN and the UID that it
     // lacked. The changes are those of the lines that aren't what their logical line spells. A line
-    // keeps its name and its group, where they are clear; a value that is known spells the same,
-    // and a picture in base64 stays. The first legal UID that a line spells is the card's.
+    // keeps its name, its group and its types, where they are clear; a value that is known spells
+    // the same, and a picture in base64 stays. The first legal UID that a line spells is the
+    // card's.
     ensures converted { IfOk result (λ made.
         (Spells octets.now made.card × (made.changes ≡ []))
         ⊎ IsConverted octets.now made.card made.changes) }

@@ -2,13 +2,11 @@
 use Rattle.std.specs.Prelude.{ℕ, Bool, not, ◌&&◌, ◌||◌, ◌==◌, List, nat_le}
 use Rattle.std.specs.Char.{is_ascii_graphic}
 use Rattle.std.specs.List.{list_any}
-use Rattle.std.specs.Option.{is_some}
 use Rattle.base_types.specs.Octets.{comma, semicolon}
 use Rattle.vcard_lines.specs.declared.line.Line.{Line}
 use Rattle.vcard_lines.specs.declared.line.Param.{Param}
 use Rattle.vcard_lines.specs.declared.line.ParamValue.{ParamValue}
 use Rattle.vcard_values.specs.ValueTexts.{value_of}
-use Rattle.vcard_values.specs.Values.{has_known_value, media_of}
 use Rattle.vcard_property.specs.Labels.{is_label}
 
 -- A visible character of ASCII, or an octet of any other character. Commas and semicolons part
@@ -43,7 +41,3 @@ line_has_content line = has_content line.value || has_full_label line
 -- The octets have something after their first colon, and the line has nothing.
 abbrev pub is_emptied : List ℕ → Line → Bool
 is_emptied octets line = has_content (value_of octets) && not (line_has_content line)
-
--- the value of the line is known, or the line is a picture, a sound or a key in base64
-abbrev pub is_known : List ℕ → Bool
-is_known octets = has_known_value octets || is_some (media_of octets)

@@ -4,5 +4,6 @@ pub mod Lines
 pub mod Contents
 pub mod Names
 pub mod NewLines
+pub mod NewTypes
 pub mod SameLines
 pub mod internal

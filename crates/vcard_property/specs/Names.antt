@@ -32,11 +32,15 @@ has_legal_name line = is_name (bare_name line)
 abbrev pub has_clear_uri : List ℕ → Bool
 has_clear_uri line = has_clear_form line && not (has_octet quote (head line))
 
+-- the name is AGENT, in any case
+abbrev pub is_agent : List ℕ → Bool
+is_agent line = str_eq_ignore_ascii_case (bare_name line) (codes "AGENT")
+
 -- The line has a colon, and a legal name before it. If that is AGENT, it is clear whether its value
 -- is a URI.
 abbrev pub has_clear_name : List ℕ → Bool
 has_clear_name line = has_octet colon line && has_legal_name line
-    && (not (str_eq_ignore_ascii_case (bare_name line) (codes "AGENT")) || has_clear_uri line)
+    && (not (is_agent line) || has_clear_uri line)
 
 -- ---- as vCard 4.0 has them
 

@@ -4,10 +4,11 @@ use Rattle.import_text.specs.Encodings.{text_of}
 use Rattle.vcard_lines.specs.TextValues.{unescaped_text}
 use Rattle.vcard_lines.specs.declared.line.Line.{Line}
 use Rattle.vcard_values.specs.KeptTexts.{kept_text}
-use Rattle.vcard_values.specs.Values.{HasKnownValue, HasValueOf}
+use Rattle.vcard_values.specs.Values.{HasValueOf, is_known}
 use Rattle.vcard_values.specs.declared.version.Version.{Version}
-use Rattle.vcard_property.specs.Contents.{is_emptied, is_known}
+use Rattle.vcard_property.specs.Contents.{is_emptied}
 use Rattle.vcard_property.specs.Names.{HasNameOf, has_clear_name}
+use Rattle.vcard_property.specs.NewTypes.{HasTypesOf, has_clear_new_types}
 use Rattle.vcard_property.specs.SameLines.{AreLine, is_same_in}
 
 -- The line is what the octets spell, which the version writes as vCard 4.0 does.
@@ -15,11 +16,12 @@ pub record IsSame (version : Version) (octets : List ℕ) (line : Line) : Type 0
   pub spelled : AreLine octets line
   pub same : is_same_in version line ≡ true
 
--- The line has the name, the group and the value of the octets as vCard 4.0 writes them, where they
--- are clear. No other value is emptied.
+-- The line has the name, the group, the types and the value of the octets as vCard 4.0 writes them,
+-- where they are clear. No other value is emptied.
 pub record IsRewrittenLine (version : Version) (octets : List ℕ) (line : Line) : Type 0 where
   pub named : has_clear_name octets ≡ true → HasNameOf octets line
-  pub value : HasKnownValue octets → HasValueOf version octets line.value
+  pub typed : has_clear_new_types octets ≡ true → HasTypesOf octets line
+  pub value : is_known octets ≡ true → HasValueOf version octets line.value
   pub content : is_known octets ≡ false → is_emptied octets line ≡ false
 
 -- The line keeps the whole text of the octets under a name, but for control characters.

@@ -1,32 +1,12 @@
 //! Whether there is something in a value, and in a line.
-ghost use Rattle.std.specs.Prelude.{◌≡◌, length};
-ghost use Rattle.base_types.specs.Octets.{colon};
-ghost use Rattle.vcard_values.specs.Cuts.{before};
-ghost use Rattle.vcard_values.specs.ValueTexts.{value_of};
+ghost use Rattle.std.specs.Prelude.{◌≡◌};
 ghost use Rattle.vcard_property.specs.Contents.{has_content, has_full_label, has_text};
 ghost use Rattle.vcard_property.specs.Contents.{is_content, is_emptied, is_full};
 ghost use Rattle.vcard_property.specs.Contents.{is_full_label, line_has_content};
 
 use crate::labels::is_label;
 use vcard_text::{Line, Param, ParamValue};
-
-/// The number of octets before the first colon.
-fn len_before_colon(octets: &[u8]) -> usize
-    ensures { result ≡ length (before colon octets.now) }
-{
-    octets.iter().take_while(|octet| **octet != b':').count()
-}
-
-/// The octets after the first colon; none if there is none.
-fn value_of(octets: &[u8]) -> &[u8]
-    ensures { result.now ≡ value_of octets.now }
-{
-    let (_, rest) = octets.split_at(len_before_colon(octets));
-    match rest.split_first() {
-        Some((_, more)) => more,
-        None => rest,
-    }
-}
+use vcard_values::after;
 
 /// Whether the octet is one of a visible character that doesn't part values, in ASCII or beyond.
 fn is_content(octet: u8) -> bool
@@ -81,5 +61,5 @@ fn line_has_content(line: &Line) -> bool
 pub(crate) fn is_emptied(octets: &[u8], line: &Line) -> bool
     ensures { result ≡ is_emptied octets.now line.now }
 {
-    has_content(value_of(octets)) && !line_has_content(line)
+    has_content(after(octets, b':')) && !line_has_content(line)
 }

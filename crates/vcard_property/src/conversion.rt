@@ -7,10 +7,11 @@ ghost use Rattle.vcard_values.specs.Escapes.{SpellsSame, rewritten_value};
 ghost use Rattle.vcard_values.specs.Forms.{value_form};
 ghost use Rattle.vcard_property.specs.Kinds.{fits_kind};
 ghost use Rattle.vcard_property.specs.SameLines.{AreLine, is_same_in};
-ghost use Rattle.vcard_values.specs.Values.{HasKnownValue, HasValueOf, IsUriOf};
-ghost use Rattle.vcard_property.specs.Contents.{is_emptied, is_known};
+ghost use Rattle.vcard_values.specs.Values.{HasValueOf, IsUriOf, is_known};
+ghost use Rattle.vcard_property.specs.Contents.{is_emptied};
 ghost use Rattle.vcard_property.specs.Names.{HasNameOf, has_clear_name};
 ghost use Rattle.vcard_property.specs.NewLines.{Becomes};
+ghost use Rattle.vcard_property.specs.NewTypes.{HasTypesOf, has_clear_new_types};
 ghost use Rattle.vcard_values.specs.ValueTexts.{value_text};
 
 use crate::change_kind::ChangeKind;
@@ -20,8 +21,9 @@ use crate::kept_line::text_line;
 use crate::new_names::renamed_line;
 use crate::proper_line::is_proper_line;
 use crate::property::{Encoding, Property, read_property};
-use crate::property_line::{binary_line, is_date_name, line_of, text_line_of};
+use crate::property_line::{Draft, binary_draft, draft_of, is_date_name, text_draft};
 use crate::same_line::read_same_line;
+use crate::typed_params::typed_line;
 use import_text::read_text;
 use std::alloc::Global;
 use vcard_text::{Line, NoMemory};
@@ -76,23 +78,30 @@ fn kind_of(old: &str, new: &str, loss: Loss) -> ChangeKind
     }
 }
 
-/// The line under the name that vCard 4.0 has for it, with the group of its octets, and what became
-/// of it. `None` if it isn't proper. Whether the value is a URI is taken from the octets if they are
-/// clear.
-fn named_line(
+/// The line of a draft: with the name, the group and the types of its octets, where they are clear,
+/// as vCard 4.0 has them. And what became of it. `None` if it isn't proper.
+fn finished_line(
     alloc: Global,
-    line: Line,
+    draft: Draft,
     octets: &[u8],
-    is_uri: bool,
     loss: Loss,
 ) -> Result<Option<(Line, ChangeKind)>, NoMemory>
     ensures proper { IfOk result (λ made. IfSome made (λ line.
         IsProperLine line.0 × (fits_kind line.1 line.0.name ≡ true))) }
     ensures named { has_clear_name octets.now ≡ true
         → IfOk result (λ made. IfSome made (λ line. HasNameOf octets.now line.0)) }
-    ensures value { IfOk result (λ made. IfSome made (λ new. new.0.value ≡ line.value)) }
+    ensures typed { has_clear_new_types octets.now ≡ true
+        → IfOk result (λ made. IfSome made (λ line. HasTypesOf octets.now line.0)) }
+    ensures value { IfOk result (λ made. IfSome made (λ new.
+        new.0.value ≡ draft.line.value)) }
 {
+    let Draft {
+        line,
+        types,
+        is_uri,
+    } = draft;
     let old = line.name.try_copy()?;
+    let line = typed_line(alloc, line, octets, types)?;
     let line = renamed_line(alloc, line, octets, is_uri)?;
     if !is_proper_line(alloc, &line)? {
         return Ok(None);
@@ -114,20 +123,21 @@ fn line_with_value(
         IsProperLine line.0 × (fits_kind line.1 line.0.name ≡ true))) }
     ensures named { has_clear_name octets.now ≡ true
         → IfOk result (λ made. IfSome made (λ line. HasNameOf octets.now line.0)) }
+    ensures typed { has_clear_new_types octets.now ≡ true
+        → IfOk result (λ made. IfSome made (λ line. HasTypesOf octets.now line.0)) }
     ensures value { IfOk result (λ made. IfSome made (λ line.
         line.0.value ≡ rewritten_value form value.now)) }
     ensures spells { IfOk result (λ made. IfSome made (λ line.
         SpellsSame form value.now line.0.value)) }
 {
-    let is_uri = property.is_uri;
     let loss = if loses_controls(value) {
         Loss::Controls
     } else {
         Loss::Nothing
     };
     let value = with_escapes(alloc, value, form)?;
-    let line = text_line_of(alloc, property, value)?;
-    named_line(alloc, line, octets, is_uri, loss)
+    let draft = text_draft(alloc, property, value)?;
+    finished_line(alloc, draft, octets, loss)
 }
 
 /// The proper line that a picture, a sound or a key of these octets becomes, as a `data:` URI of
@@ -142,12 +152,13 @@ fn media_line(
         IsProperLine line.0 × (fits_kind line.1 line.0.name ≡ true))) }
     ensures named { has_clear_name octets.now ≡ true
         → IfOk result (λ made. IfSome made (λ line. HasNameOf octets.now line.0)) }
+    ensures typed { has_clear_new_types octets.now ≡ true
+        → IfOk result (λ made. IfSome made (λ line. HasTypesOf octets.now line.0)) }
     ensures value { IfOk result (λ made. IfSome made (λ line.
         IsUriOf media.now line.0.value)) }
 {
-    let is_uri = property.is_uri;
-    let line = binary_line(alloc, property, media)?;
-    named_line(alloc, line, octets, is_uri, Loss::Nothing)
+    let draft = binary_draft(alloc, property, media)?;
+    finished_line(alloc, draft, octets, Loss::Nothing)
 }
 
 /// The proper line that a property of these octets becomes, with its value in the form of vCard
@@ -163,24 +174,25 @@ fn rewritten_line(
         IsProperLine line.0 × (fits_kind line.1 line.0.name ≡ true))) }
     ensures named { has_clear_name octets.now ≡ true
         → IfOk result (λ made. IfSome made (λ line. HasNameOf octets.now line.0)) }
+    ensures typed { has_clear_new_types octets.now ≡ true
+        → IfOk result (λ made. IfSome made (λ line. HasTypesOf octets.now line.0)) }
     ensures content { IfOk result (λ made. IfSome made (λ line.
         is_emptied octets.now line.0 ≡ false)) }
 {
     let mut property = property;
     decode(alloc, &mut property, octets)?;
-    let is_uri = property.is_uri;
     let had_fraction = is_date_name(property.name.as_str())
         && has_fraction(property.value.as_str());
     let had_control = is_cleaned(&property);
-    let line = line_of(alloc, property, version)?;
-    let loss = if had_fraction && !has_fraction(line.value.as_str()) {
+    let draft = draft_of(alloc, property, version)?;
+    let loss = if had_fraction && !has_fraction(draft.line.value.as_str()) {
         Loss::Fraction
     } else if had_control {
         Loss::Controls
     } else {
         Loss::Nothing
     };
-    let Some((line, kind)) = named_line(alloc, line, octets, is_uri, loss)? else {
+    let Some((line, kind)) = finished_line(alloc, draft, octets, loss)? else {
         return Ok(None);
     };
     if is_emptied(octets, &line) {
@@ -202,6 +214,8 @@ fn known_line(
         IsProperLine line.0 × (fits_kind line.1 line.0.name ≡ true))) }
     ensures named { has_clear_name octets.now ≡ true
         → IfOk result (λ made. IfSome made (λ line. HasNameOf octets.now line.0)) }
+    ensures typed { has_clear_new_types octets.now ≡ true
+        → IfOk result (λ made. IfSome made (λ line. HasTypesOf octets.now line.0)) }
     ensures value { text.now ≡ text_of octets.now → IfOk result (λ made. IfSome made (λ line.
         line.0.value ≡ rewritten_value (value_form version octets.now) (value_text octets.now))) }
     ensures spells { text.now ≡ text_of octets.now → IfOk result (λ made. IfSome made (λ line.
@@ -225,7 +239,9 @@ fn property_line(
         IsProperLine line.0 × (fits_kind line.1 line.0.name ≡ true))) }
     ensures named { has_clear_name octets.now ≡ true
         → IfOk result (λ made. IfSome made (λ line. HasNameOf octets.now line.0)) }
-    ensures value { text.now ≡ text_of octets.now → HasKnownValue octets.now
+    ensures typed { has_clear_new_types octets.now ≡ true
+        → IfOk result (λ made. IfSome made (λ line. HasTypesOf octets.now line.0)) }
+    ensures value { text.now ≡ text_of octets.now → is_known octets.now ≡ true
         → IfOk result (λ made. IfSome made (λ line. HasValueOf version octets.now line.0.value)) }
     ensures content { is_known octets.now ≡ false
         → IfOk result (λ made. IfSome made (λ line. is_emptied octets.now line.0 ≡ false)) }
@@ -261,9 +277,9 @@ pub fn convert_line(
     ensures stays { (line : Line) → AreLine octets.now line → is_same_in version line ≡ true
         → IfOk result (λ made. made.0 ≡ line) }
 
-    // Any other line has the name, the group and the value of the logical line as vCard 4.0 writes
-    // them, where they are clear, and no other value is emptied; or it keeps the whole text as
-    // X-UNREADABLE.
+    // Any other line has the name, the group, the types and the value of the logical line as vCard
+    // 4.0 writes them, where they are clear, and no other value is emptied; or it keeps the whole
+    // text as X-UNREADABLE.
     ensures becomes { IfOk result (λ made. Becomes version octets.now made.0) }
 {
     if let Some(line) = read_same_line(alloc, octets, version)? {

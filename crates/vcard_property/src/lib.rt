@@ -18,6 +18,7 @@ mod proper_line;
 mod property;
 mod property_line;
 mod same_line;
+mod typed_params;
 mod written_names;
 
 pub use change_kind::ChangeKind;

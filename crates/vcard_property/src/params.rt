@@ -6,7 +6,7 @@ use crate::names::legal_name;
 use crate::property::{CharsetParam, Encoding, Property};
 use import_text::charset_named;
 use std::alloc::Global;
-use vcard_text::{Items, NoMemory, Param, ParamValue, Text};
+use vcard_text::{Items, NoMemory, Param, ParamValue};
 use vcard_values::Version;
 
 fn is_word(text: &str, word: &str) -> bool {
@@ -182,46 +182,4 @@ pub(crate) fn read_param(
         Some((name, text)) => read_named(alloc, property, name.trim(), text.trim()),
         None => read_bare(alloc, property, part),
     }
-}
-
-/// The parameter PREF of vCard 4.0 if the property is preferred.
-fn push_pref(alloc: Global, params: &mut Items<Param>, is_preferred: bool) -> Result<(), NoMemory> {
-    if !is_preferred {
-        return Ok(());
-    }
-    params.push(crate::line_parts::make_param(alloc, "PREF", "1")?)?;
-    Ok(())
-}
-
-/// The parameter TYPE, if there are values for it.
-fn push_types(
-    alloc: Global,
-    params: &mut Items<Param>,
-    types: Items<ParamValue>,
-) -> Result<(), NoMemory> {
-    if types.is_empty() {
-        return Ok(());
-    }
-    let name = Text::copy_of(alloc, "TYPE")?;
-    params.push(Param {
-        name,
-        values: types,
-    })?;
-    Ok(())
-}
-
-/// All parameters in the form of vCard 4.0: TYPE, PREF and the others in order.
-pub(crate) fn all_params(
-    alloc: Global,
-    types: Items<ParamValue>,
-    is_preferred: bool,
-    others: Items<Param>,
-) -> Result<Items<Param>, NoMemory> {
-    let mut params = Items::new(alloc);
-    push_types(alloc, &mut params, types)?;
-    push_pref(alloc, &mut params, is_preferred)?;
-    for param in others.into_vec() {
-        params.push(param)?;
-    }
-    Ok(params)
 }

@@ -6,13 +6,12 @@ ghost use Rattle.vcard_values.specs.Values.{IsUriOf};
 use crate::line_parts::{make_param, make_value, with_carets};
 use crate::names::is_one_of;
 use crate::omitted_year::omit_year;
-use crate::params::all_params;
 use crate::property::{Encoding, Property};
 use std::alloc::Global;
 use std::mem;
-use vcard_text::{Items, Line, NoMemory, Param, ParamValue, Part, Text, unescape};
+use vcard_text::{Items, Line, NoMemory, Param, ParamValue, Text, unescape};
 use vcard_values::{
-    TextForm, ValueForm, Version, basic_date, data_uri, decoded_base64, geo_value, is_date,
+    TextForm, Types, ValueForm, Version, basic_date, data_uri, decoded_base64, geo_value, is_date,
     is_format, with_escapes,
 };
 
@@ -117,9 +116,19 @@ fn without_formats(
     Ok(others)
 }
 
-/// The line of a property with a value, under the name that the property has.
-pub(crate) fn line_with(alloc: Global, property: Property, value: String) -> Result<Line, NoMemory>
-    ensures { IfOk result (λ line. line.value ≡ string_bytes value) }
+/// A line before its name and its types are those of vCard 4.0.
+#[derive(Drop)]
+pub(crate) struct Draft {
+    /// Under the name that the property has, without TYPE and PREF.
+    pub(crate) line: Line,
+    pub(crate) types: Types,
+    /// Whether VALUE says that the value is a URI.
+    pub(crate) is_uri: bool,
+}
+
+/// The draft of a property with a value.
+fn draft_with(property: Property, value: String) -> Draft
+    ensures { result.line.value ≡ string_bytes value }
 {
     let Property {
         group,
@@ -129,18 +138,24 @@ pub(crate) fn line_with(alloc: Global, property: Property, value: String) -> Res
         params,
         encoding: _,
         charset: _,
-        is_uri: _,
+        is_uri,
         version: _,
         value: _,
     } = property;
-    let params = all_params(alloc, types, is_preferred, params)?;
     let value = Text::new(value);
-    Ok(Line {
-        group,
-        name,
-        params,
-        value,
-    })
+    Draft {
+        line: Line {
+            group,
+            name,
+            params,
+            value,
+        },
+        types: Types {
+            values: types,
+            is_preferred,
+        },
+        is_uri,
+    }
 }
 
 /// Adds the type of an AGENT that is a URI, which is a RELATED in vCard 4.0.
@@ -192,26 +207,30 @@ fn mark_text(alloc: Global, property: &mut Property) -> Result<(), NoMemory> {
     Ok(())
 }
 
-/// The line of a property with this text or URI.
-pub(crate) fn text_line_of(
+/// The draft of a property with this text or URI.
+pub(crate) fn text_draft(
     alloc: Global,
     property: Property,
     value: String,
-) -> Result<Line, NoMemory>
-    ensures { IfOk result (λ line. line.value ≡ string_bytes value) }
+) -> Result<Draft, NoMemory>
+    ensures { IfOk result (λ draft. draft.line.value ≡ string_bytes value) }
 {
     let mut property = property;
     add_agent(alloc, &mut property)?;
-    line_with(alloc, property, value)
+    Ok(draft_with(property, value))
 }
 
-/// The line of a text or a URI.
-fn text_or_uri_line(alloc: Global, property: Property, version: Version) -> Result<Line, NoMemory> {
+/// The draft of a text or a URI.
+fn text_or_uri_draft(
+    alloc: Global,
+    property: Property,
+    version: Version,
+) -> Result<Draft, NoMemory> {
     let mut property = property;
     omit_year_of_date(alloc, &mut property)?;
     mark_text(alloc, &mut property)?;
     let value = text_value(alloc, &property, version)?;
-    text_line_of(alloc, property, value)
+    text_draft(alloc, property, value)
 }
 
 /// Leaves out of the types those that name the format of the value.
@@ -221,19 +240,19 @@ fn drop_formats(alloc: Global, property: &mut Property, name: &str) -> Result<()
     Ok(())
 }
 
-/// The line of a binary value, as a `data:` URI.
-pub(crate) fn binary_line(
+/// The draft of a binary value, as a `data:` URI.
+pub(crate) fn binary_draft(
     alloc: Global,
     property: Property,
     octets: &[u8],
-) -> Result<Line, NoMemory>
-    ensures { IfOk result (λ line. IsUriOf octets.now line.value) }
+) -> Result<Draft, NoMemory>
+    ensures { IfOk result (λ draft. IsUriOf octets.now draft.line.value) }
 {
     let mut property = property;
     let name = property.name.try_copy()?;
     let uri = data_uri(alloc, name.as_str(), property.types.as_slice(), octets)?;
     drop_formats(alloc, &mut property, name.as_str())?;
-    line_with(alloc, property, uri)
+    Ok(draft_with(property, uri))
 }
 
 /// The text of a label, as the value of a parameter.
@@ -263,13 +282,13 @@ fn add_label(alloc: Global, property: &mut Property, version: Version) -> Result
     Ok(())
 }
 
-/// The line of a LABEL, which is an ADR in vCard 4.0: one without components, and the label as its
+/// The draft of a LABEL, which is an ADR in vCard 4.0: one without components, and the label as its
 /// parameter.
-fn label_line(alloc: Global, property: Property, version: Version) -> Result<Line, NoMemory> {
+fn label_draft(alloc: Global, property: Property, version: Version) -> Result<Draft, NoMemory> {
     let mut property = property;
     add_label(alloc, &mut property, version)?;
     let value = String::from_str(alloc, ";;;;;;")?;
-    line_with(alloc, property, value)
+    Ok(draft_with(property, value))
 }
 
 /// The octets of a binary value: base64 that isn't that of a text. A label is never binary.
@@ -305,25 +324,25 @@ fn keep_encoding(alloc: Global, property: &mut Property) -> Result<(), NoMemory>
     Ok(())
 }
 
-/// The line of a value that isn't binary.
-fn plain_line_of(alloc: Global, property: Property, version: Version) -> Result<Line, NoMemory> {
+/// The draft of a value that isn't binary.
+fn plain_draft(alloc: Global, property: Property, version: Version) -> Result<Draft, NoMemory> {
     let mut property = property;
     keep_encoding(alloc, &mut property)?;
     if property.name.as_str() == "LABEL" {
-        return label_line(alloc, property, version);
+        return label_draft(alloc, property, version);
     }
-    text_or_uri_line(alloc, property, version)
+    text_or_uri_draft(alloc, property, version)
 }
 
-/// The line of a property, under the name that it has. A value that isn't the base64 that its
-/// encoding says stays as it is, and so does its encoding.
-pub(crate) fn line_of(
+/// The draft of a property. A value that isn't the base64 that its encoding says stays as it is,
+/// and so does its encoding.
+pub(crate) fn draft_of(
     alloc: Global,
     property: Property,
     version: Version,
-) -> Result<Line, NoMemory> {
+) -> Result<Draft, NoMemory> {
     match binary_octets(alloc, &property)? {
-        Some(octets) => binary_line(alloc, property, octets.as_slice()),
-        None => plain_line_of(alloc, property, version),
+        Some(octets) => binary_draft(alloc, property, octets.as_slice()),
+        None => plain_draft(alloc, property, version),
     }
 }

@@ -5,7 +5,7 @@ ghost use Rattle.std.specs.Str.{str_to_ascii_uppercase};
 ghost use Rattle.vcard_lines.specs.Grammar.{is_name_octet};
 ghost use Rattle.vcard_lines.specs.LegalParts.{is_name};
 ghost use Rattle.vcard_property.specs.Names.{bare_name, group_of, has_clear_name, has_clear_uri};
-ghost use Rattle.vcard_property.specs.Names.{has_group, has_legal_name};
+ghost use Rattle.vcard_property.specs.Names.{has_group, has_legal_name, is_agent};
 
 use std::alloc::Global;
 use vcard_text::{NoMemory, Text};
@@ -59,13 +59,18 @@ fn has_clear_uri(line: &[u8]) -> bool
     has_clear_form(line) && !has_octet(before(line, b':'), b'"')
 }
 
+/// Whether the name is AGENT.
+pub(crate) fn is_agent(line: &[u8]) -> bool
+    ensures { result ≡ is_agent line.now }
+{
+    bare_name(line).eq_ignore_ascii_case(b"AGENT")
+}
+
 /// Whether the name that the line gets is clear from its octets.
 pub(crate) fn has_clear_name(line: &[u8]) -> bool
     ensures { result ≡ has_clear_name line.now }
 {
-    has_octet(line, b':')
-        && has_legal_name(line)
-        && (!bare_name(line).eq_ignore_ascii_case(b"AGENT") || has_clear_uri(line))
+    has_octet(line, b':') && has_legal_name(line) && (!is_agent(line) || has_clear_uri(line))
 }
 
 /// The text of a legal name.

@@ -5,3 +5,4 @@ pub mod EscapeLemmas
 pub mod ReadBackLemmas
 pub mod KeptLemmas
 pub mod BreakLemmas
+pub mod TypeLemmas

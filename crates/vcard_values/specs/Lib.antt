@@ -3,6 +3,7 @@ pub mod Escapes
 pub mod Forms
 pub mod KeptTexts
 pub mod Media
+pub mod Types
 pub mod ValueTexts
 pub mod Values
 pub mod internal

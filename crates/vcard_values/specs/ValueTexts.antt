@@ -20,13 +20,22 @@ abbrev pub names_quoted : List ℕ → Bool
 names_quoted part = str_eq_ignore_ascii_case part (codes "ENCODING=QUOTED-PRINTABLE")
     || str_eq_ignore_ascii_case part (codes "QUOTED-PRINTABLE")
 
+-- the parameter says that the value isn't encoded
+abbrev pub names_plain : List ℕ → Bool
+names_plain part = str_eq_ignore_ascii_case part (codes "ENCODING=8BIT")
+    || str_eq_ignore_ascii_case part (codes "ENCODING=7BIT")
+    || str_eq_ignore_ascii_case part (codes "ENCODING=8-BIT")
+
 -- the parameter may say that the value isn't encoded
 abbrev pub names_no_encoding : List ℕ → Bool
 names_no_encoding part = is_encoded_as (codes "8BIT") part || is_encoded_as (codes "7BIT") part
+    || is_encoded_as (codes "8-BIT") part
 
--- the parameter says that the value is in UTF-8
+-- the parameter says that the value is in UTF-8, of which ASCII is a part
 abbrev pub names_utf8 : List ℕ → Bool
 names_utf8 part = str_eq_ignore_ascii_case part (codes "CHARSET=UTF-8")
+    || str_eq_ignore_ascii_case part (codes "CHARSET=UTF8")
+    || str_eq_ignore_ascii_case part (codes "CHARSET=US-ASCII")
 
 -- The parameter says that the value is in Windows-1252, which has the characters of Latin-1.
 abbrev pub names_windows : List ℕ → Bool
@@ -43,7 +52,8 @@ is_bare_b part = list_any is_b part
 
 -- the parameter may say how the value is encoded, in another way than those above
 abbrev pub may_name_encoding : List ℕ → Bool
-may_name_encoding part = not (names_quoted part || names_utf8 part || names_windows part)
+may_name_encoding part =
+    not (names_quoted part || names_plain part || names_utf8 part || names_windows part)
     && (is_encoded_as (codes "CHARSET") part || is_encoded_as (codes "ENCODING") part
     || is_encoded_as (codes "QUOTED-PRINTABLE") part || is_encoded_as (codes "BASE64") part
     || is_bare_b part)

@@ -2,7 +2,7 @@
 -- pictures, sounds and keys in base64, which are `data:` URIs in vCard 4.0 (RFC 6350, sections
 -- 6.2.4, 6.6.3, 6.7.5 and 6.8.1).
 use Rattle.std.specs.Prelude.{ℕ, ◌≡◌, Bool, true, false, not, ◌&&◌, ◌||◌, ◌==◌, ◌⊎◌, List, ◌++◌}
-use Rattle.std.specs.Prelude.{codes, if◌then◌else◌, Option, None, Some}
+use Rattle.std.specs.Prelude.{codes, fold, if◌then◌else◌, Option, None, Some}
 use Rattle.std.specs.List.{list_all, list_any, slice_split}
 use Rattle.std.specs.Option.{is_some}
 use Rattle.std.specs.Str.{str_eq_ignore_ascii_case}
@@ -15,7 +15,8 @@ use Rattle.vcard_values.specs.Cuts.{has_octet}
 use Rattle.vcard_values.specs.Escapes.{SpellsSame, rewritten_value}
 use Rattle.vcard_values.specs.Forms.{has_clear_form, says, value_form, written_name}
 use Rattle.vcard_values.specs.Media.{base64_octets}
-use Rattle.vcard_values.specs.ValueTexts.{has_clear_encoding, names_quoted, value_of, value_text}
+use Rattle.vcard_values.specs.ValueTexts.{has_clear_encoding, is_bare_b, names_quoted, value_of}
+use Rattle.vcard_values.specs.ValueTexts.{value_text}
 use Rattle.vcard_values.specs.declared.version.Version.{Version}
 
 -- ---- the name
@@ -48,6 +49,22 @@ may_lack_backslash name = str_eq_ignore_ascii_case name (codes "FN")
 abbrev pub is_named_so : (List ℕ → Bool) → List ℕ → Bool
 is_named_so test line = list_any test (slice_split (λ octet. octet == dot) (written_name line))
 
+-- ---- quotes
+
+-- what follows the octet is in quotes, if what follows the octets before it is or isn't
+abbrev pub open_after : Bool → ℕ → Bool
+open_after is_open octet = if octet == quote then not is_open else is_open
+
+-- a quote of the octets isn't closed
+abbrev pub has_open_quote : List ℕ → Bool
+has_open_quote octets = fold open_after false octets
+
+-- each quote of the head is closed before the next semicolon, so that neither a semicolon nor the
+-- colon at its end is in quotes
+abbrev pub has_closed_quotes : List ℕ → Bool
+has_closed_quotes line =
+    not (list_any has_open_quote (slice_split (λ octet. octet == semicolon) (head line)))
+
 -- ---- the value
 
 -- No character of the value is escaped in any version, or encoded.
@@ -58,11 +75,11 @@ has_plain_value line = not (says names_quoted line) && not (has_octet backslash 
 -- ---- the line
 
 -- The line has a colon. The name is made of letters, digits and hyphens, and is none of those
--- whose values have another form in vCard 4.0. The head has no double quote. How the value is
--- encoded is clear. Its form is clear too, or no character of it is escaped.
+-- whose values have another form in vCard 4.0. No quote is open where a part of the head ends. How
+-- the value is encoded is clear. Its form is clear too, or no character of it is escaped.
 abbrev pub has_known_value : List ℕ → Bool
 has_known_value line = has_octet colon line && is_plain_name (written_name line)
-    && not (is_named_so has_other_form line) && not (has_octet quote (head line))
+    && not (is_named_so has_other_form line) && has_closed_quotes line
     && has_clear_encoding line && (has_clear_form line || has_plain_value line)
 
 -- ---- pictures
@@ -82,6 +99,10 @@ names_base64 part = str_eq_ignore_ascii_case part (codes "ENCODING=B")
 -- a part of the head says so
 abbrev pub is_in_base64 : List ℕ → Bool
 is_in_base64 line = list_any names_base64 (slice_split (λ octet. octet == semicolon) (head line))
+
+-- the head may say so, also by the word B alone
+abbrev pub may_be_base64 : List ℕ → Bool
+may_be_base64 line = is_in_base64 line || says is_bare_b line
 
 -- the line is a picture, a sound or a key, and its head says that its value is base64
 abbrev pub has_media : List ℕ → Bool
@@ -107,8 +128,8 @@ pub record IsDataUri (line value : List ℕ) : Type 0 where
 -- ---- what stays
 
 -- the value of the line is known, or the line is a picture, a sound or a key in base64
-abbrev pub HasKnownValue : List ℕ → Type 0
-HasKnownValue octets = (has_known_value octets || is_some (media_of octets)) ≡ true
+abbrev pub is_known : List ℕ → Bool
+is_known octets = has_known_value octets || is_some (media_of octets)
 
 -- The value is that of the line of this version, as vCard 4.0 writes it. There it spells the same.
 pub record IsRewritten (version : Version) (octets value : List ℕ) : Type 0 where

@@ -10,6 +10,7 @@ mod forms;
 mod geo;
 mod kept_texts;
 mod media;
+mod types;
 mod value_texts;
 mod values;
 mod version;
@@ -22,6 +23,7 @@ pub use forms::{has_clear_form, is_property, params, says_uri, value_form, writt
 pub use geo::geo_value;
 pub use kept_texts::text_value;
 pub use media::media_octets;
+pub use types::{Types, has_clear_types, types_of};
 pub use value_texts::{value_text, with_line_feeds};
-pub use values::{has_known_value, media_of};
+pub use values::{has_known_value, may_be_base64, media_of};
 pub use version::Version;

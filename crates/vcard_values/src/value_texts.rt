@@ -6,7 +6,7 @@ ghost use Rattle.import_text.specs.Encodings.{text_of};
 ghost use Rattle.vcard_values.specs.Forms.{says};
 ghost use Rattle.vcard_values.specs.ValueTexts.{charset_text, has_clear_encoding, is_b};
 ghost use Rattle.vcard_values.specs.ValueTexts.{is_bare_b, may_name_encoding, names_no_encoding};
-ghost use Rattle.vcard_values.specs.ValueTexts.{names_quoted, names_utf8, names_windows};
+ghost use Rattle.vcard_values.specs.ValueTexts.{names_plain, names_quoted, names_utf8, names_windows};
 ghost use Rattle.vcard_values.specs.ValueTexts.{value_of, value_text, with_line_feeds};
 ghost use Rattle.vcard_values.specs.internal.BreakLoop.{break_char, break_state};
 
@@ -24,18 +24,29 @@ fn names_quoted(part: &[u8]) -> bool
         || part.eq_ignore_ascii_case(b"QUOTED-PRINTABLE")
 }
 
+/// Whether a parameter says that the value isn't encoded.
+fn names_plain(part: &[u8]) -> bool
+    ensures { result ≡ names_plain part.now }
+{
+    part.eq_ignore_ascii_case(b"ENCODING=8BIT")
+        || part.eq_ignore_ascii_case(b"ENCODING=7BIT")
+        || part.eq_ignore_ascii_case(b"ENCODING=8-BIT")
+}
+
 /// Whether a parameter may say that the value isn't encoded.
 fn names_no_encoding(part: &[u8]) -> bool
     ensures { result ≡ names_no_encoding part.now }
 {
-    is_encoded_as(part, b"8BIT") || is_encoded_as(part, b"7BIT")
+    is_encoded_as(part, b"8BIT") || is_encoded_as(part, b"7BIT") || is_encoded_as(part, b"8-BIT")
 }
 
-/// Whether a parameter says that the value is in UTF-8.
+/// Whether a parameter says that the value is in UTF-8, of which ASCII is a part.
 fn names_utf8(part: &[u8]) -> bool
     ensures { result ≡ names_utf8 part.now }
 {
     part.eq_ignore_ascii_case(b"CHARSET=UTF-8")
+        || part.eq_ignore_ascii_case(b"CHARSET=UTF8")
+        || part.eq_ignore_ascii_case(b"CHARSET=US-ASCII")
 }
 
 /// Whether a parameter says that the value is in Windows-1252, or in Latin-1.
@@ -77,7 +88,7 @@ fn is_bare_b(part: &[u8]) -> bool
 fn may_name_encoding(part: &[u8]) -> bool
     ensures { result ≡ may_name_encoding part.now }
 {
-    !(names_quoted(part) || names_utf8(part) || names_windows(part))
+    !(names_quoted(part) || names_plain(part) || names_utf8(part) || names_windows(part))
         && (is_encoded_as(part, b"CHARSET")
             || is_encoded_as(part, b"ENCODING")
             || is_encoded_as(part, b"QUOTED-PRINTABLE")
@@ -92,6 +103,15 @@ pub(crate) fn is_quoted(line: &[u8]) -> bool
     params(line)
         .split(|octet| *octet == b';')
         .any(|part| names_quoted(part))
+}
+
+/// Whether a parameter is the word B.
+pub(crate) fn says_bare_b(line: &[u8]) -> bool
+    ensures { result ≡ says is_bare_b line.now }
+{
+    params(line)
+        .split(|octet| *octet == b';')
+        .any(|part| is_bare_b(part))
 }
 
 fn says_no_encoding(line: &[u8]) -> bool

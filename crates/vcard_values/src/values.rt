@@ -1,15 +1,17 @@
 //! Lines whose value is known, and pictures, sounds and keys in base64.
 ghost use Rattle.std.specs.Prelude.{◌≡◌, IfOk};
 ghost use Rattle.std.specs.Option.{option_map};
-ghost use Rattle.vcard_values.specs.Values.{has_known_value, has_media, has_other_form};
+ghost use Rattle.vcard_values.specs.Values.{has_closed_quotes, has_known_value, has_media};
+ghost use Rattle.vcard_values.specs.Values.{has_open_quote, has_other_form};
 ghost use Rattle.vcard_values.specs.Values.{has_plain_value, is_in_base64, is_media_name};
-ghost use Rattle.vcard_values.specs.Values.{is_named_so, is_plain_name, may_lack_backslash};
+ghost use Rattle.vcard_values.specs.Values.{is_named_so, is_plain_name, may_be_base64};
+ghost use Rattle.vcard_values.specs.Values.{may_lack_backslash};
 ghost use Rattle.vcard_values.specs.Values.{media_of, names_base64};
 
 use crate::binary::decoded_octets;
 use crate::cuts::{after, has_octet};
 use crate::forms::{has_clear_form, head, written_name};
-use crate::value_texts::{has_clear_encoding, is_quoted};
+use crate::value_texts::{has_clear_encoding, is_quoted, says_bare_b};
 use base_types::NoMemory;
 use std::alloc::Global;
 
@@ -64,6 +66,28 @@ fn is_named_as_text(line: &[u8]) -> bool
         .any(|name| may_lack_backslash(name))
 }
 
+/// Whether a quote of the octets isn't closed.
+fn has_open_quote(octets: &[u8]) -> bool
+    ensures { result ≡ has_open_quote octets.now }
+{
+    let mut is_open = false;
+    for octet in octets {
+        if *octet == b'"' {
+            is_open = !is_open;
+        }
+    }
+    is_open
+}
+
+/// Whether each quote of the head is closed before the next semicolon.
+fn has_closed_quotes(line: &[u8]) -> bool
+    ensures { result ≡ has_closed_quotes line.now }
+{
+    !head(line)
+        .split(|octet| *octet == b';')
+        .any(|part| has_open_quote(part))
+}
+
 /// Whether no character of the value is escaped in any version, or encoded.
 fn has_plain_value(line: &[u8]) -> bool
     ensures { result ≡ has_plain_value line.now }
@@ -82,7 +106,7 @@ pub fn has_known_value(line: &[u8]) -> bool
     has_octet(line, b':')
         && is_plain_name(written_name(line))
         && !is_named_as_other(line)
-        && !has_octet(head(line), b'"')
+        && has_closed_quotes(line)
         && has_clear_encoding(line)
         && (has_clear_form(line) || has_plain_value(line))
 }
@@ -112,6 +136,13 @@ fn is_in_base64(line: &[u8]) -> bool
     head(line)
         .split(|octet| *octet == b';')
         .any(|part| names_base64(part))
+}
+
+/// Whether the head may say that the value is base64, also by the word B alone.
+pub fn may_be_base64(line: &[u8]) -> bool
+    ensures { result ≡ may_be_base64 line.now }
+{
+    is_in_base64(line) || says_bare_b(line)
 }
 
 /// Whether the line is a picture, a sound or a key, and its head says that its value is base64.

@@ -26,6 +26,7 @@ returns-in-Some-2-clause-becomes c =
     c.as_str.ensures.value ∙ c.in_ok-text.ensures in
     inr (inl (record {
       named = λ clear. search (rules, clear);
+      typed = λ clear. search (rules, clear);
       value = λ known. search (rules, known, text);
       content = λ unknown. search (rules, unknown);
     }))

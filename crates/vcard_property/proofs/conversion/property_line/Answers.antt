@@ -1,10 +1,10 @@
-use Rattle.std.proofs.Common.{◌≡◌, ◌∙◌, ◌||◌, rules, true, false, true≢false}
+use Rattle.std.proofs.Common.{◌≡◌, ◌∙◌, rules, true, false, true≢false}
 use Rattle.std.proofs.Common.{None, Some, ap, sym, refl, inl, inr}
-use Rattle.std.specs.Option.{is_some, option_map}
+use Rattle.std.specs.Option.{option_map}
 use Rattle.vcard_values.specs.Escapes.{SpellsSame, rewritten_value}
 use Rattle.vcard_values.specs.Forms.{value_form}
 use Rattle.vcard_values.specs.ValueTexts.{value_text}
-use Rattle.vcard_values.specs.Values.{HasValueOf, IsUriOf, has_known_value, media_of}
+use Rattle.vcard_values.specs.Values.{HasValueOf, IsUriOf, has_known_value, is_known, media_of}
 use Rattle.vcard_property.proofs.MadeLemmas.{relaxed, relaxed_both}
 use Rattle.vcard_property.proofs.conversion.property_line.Goals as goal
 
@@ -35,8 +35,7 @@ returns-clause-value c = λ _ known.
     let absent : c.in_ok-media.field-0 ≡ None = search rules in
     let none : media_of c.args.octets.now ≡ None =
     sym c.in_ok-media.ensures ∙ ap (option_map (λ octets. octets.items)) absent in
-    let neither : (has_known_value c.args.octets.now || is_some (media_of c.args.octets.now))
-    ≡ false = rw (other, none) refl in
+    let neither : is_known c.args.octets.now ≡ false = rw (other, none) refl in
     absurd (true≢false (sym known ∙ neither))
 
 pub returns-then-has_known_value-clause-content : goal.returns-then-has_known_value-clause-content
@@ -48,6 +47,5 @@ pub returns-in-Some-2-clause-content : goal.returns-in-Some-2-clause-content
 returns-in-Some-2-clause-content c = λ unknown.
     let found : media_of c.args.octets.now ≡ Some c.as_slice.result.now = search rules in
     let other : has_known_value c.args.octets.now ≡ false = search rules in
-    let known : (has_known_value c.args.octets.now || is_some (media_of c.args.octets.now))
-    ≡ true = rw (other, found) refl in
+    let known : is_known c.args.octets.now ≡ true = rw (other, found) refl in
     absurd (true≢false (sym known ∙ unknown))
