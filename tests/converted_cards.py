@@ -164,6 +164,17 @@ CARDS = [
          "line 12: LABEL renamed", "line 13: LABEL renamed"],
     ),
     of_ann(
+        "a label goes onto the address with exactly its types, in any order, before the others get one",
+        "3.0",
+        ["ADR;TYPE=dom,home:;;d;;;;", "ADR;TYPE=intl,home,pref:;;i;;;;", "ADR;TYPE=home:;;h;;;;",
+         "LABEL;TYPE=home,parcel:H", "LABEL;TYPE=HOME;TYPE=intl:I", "LABEL;TYPE=dom,home:D"],
+        ["ADR;TYPE=dom,home;LABEL=\"D\":;;d;;;;", "ADR;TYPE=intl,home;PREF=1;LABEL=\"I\":;;i;;;;",
+         "ADR;TYPE=home;LABEL=\"H\":;;h;;;;"],
+        ["line 5: ADR given a LABEL", "line 6: ADR given a LABEL", "line 7: ADR given a LABEL",
+         "line 8: LABEL joined to its ADR", "line 9: LABEL joined to its ADR",
+         "line 10: LABEL joined to its ADR"],
+    ),
+    of_ann(
         "a label with a group, or with more than its types, is an address of its own",
         "3.0",
         ["ADR;TYPE=home:;;h1;;;;", "item1.LABEL;TYPE=home:H1", "LABEL;TYPE=home;LANGUAGE=de:H2",

@@ -6,12 +6,15 @@ use crate::card_lines::depths;
 use import_text::RawLine;
 use std::alloc::Global;
 use vcard_property::{AddressLine, AddressTypes, OtherParts, Version, read_address};
-use vcard_text::{NoMemory, Text};
-use vcard_values::is_property;
+use vcard_text::{NoMemory, ParamValue, Text};
+use vcard_values::{Types, is_property, types_of};
 
-/// The most labels with a group or with parameters that get an address. Each is looked for among
-/// all addresses.
+/// The most labels with a group or with parameters that get an address, and the most that get one by
+/// all their types. Each is looked for among all addresses.
 const OWN_LABELS_MAX: usize = 100;
+
+/// The most types of a line that are compared with those of another one.
+const TYPES_MAX: usize = 20;
 
 /// What the labels of a card make of a logical line.
 #[derive(Drop)]
@@ -29,6 +32,8 @@ pub(crate) enum Labelling {
 struct Found {
     index: usize,
     line: AddressLine,
+    /// All its types.
+    types: Types,
 }
 
 /// Whether the logical line is a LABEL, perhaps with a group.
@@ -48,7 +53,8 @@ fn found_lines(alloc: Global, raws: &[RawLine], version: Version) -> Result<Vec<
         depth = next;
         if at <= 1 {
             if let Some(line) = read_address(alloc, octets, version)? {
-                found.push(Found { index, line })?;
+                let types = types_of(alloc, octets)?;
+                found.push(Found { index, line, types })?;
             }
         }
     }
@@ -101,6 +107,38 @@ fn address_with(
     None
 }
 
+/// Whether one of the values is this text.
+fn has_value(values: &[ParamValue], text: &str) -> bool {
+    values.iter().any(|value| value.text.as_str() == text)
+}
+
+/// Whether each of the values is one of the others.
+fn are_among(values: &[ParamValue], others: &[ParamValue]) -> bool {
+    for value in values {
+        if !has_value(others, value.text.as_str()) {
+            return false;
+        }
+    }
+    true
+}
+
+/// Whether the types are the same, in any order. Those of a line with very many are not.
+fn are_equal(a: &Types, b: &Types) -> bool {
+    let (a, b) = (a.values.as_slice(), b.values.as_slice());
+    a.len() <= TYPES_MAX && b.len() <= TYPES_MAX && are_among(a, b) && are_among(b, a)
+}
+
+/// The place of the first address with exactly these types that has no label so far.
+fn address_of_types(labels: &[Labelling], found: &[Found], types: &Types) -> Option<usize> {
+    for item in found {
+        let is_address = matches!(&item.line, AddressLine::Address(..));
+        if is_address && is_free(labels, item.index) && are_equal(&item.types, types) {
+            return Some(item.index);
+        }
+    }
+    None
+}
+
 /// Sets what becomes of a logical line.
 fn set(labels: &mut Vec<Labelling>, index: usize, labelling: Labelling) {
     if let Some(place) = labels.as_mut_slice().get_mut(index) {
@@ -130,8 +168,30 @@ fn join_own_labels(labels: &mut Vec<Labelling>, found: &[Found]) -> Result<(), N
     Ok(())
 }
 
-/// Gives the other addresses of these types the labels without a group and parameters: the first
-/// one the first, and so on.
+/// Gives the labels without a group and parameters to addresses with exactly the same types.
+fn join_equal_labels(labels: &mut Vec<Labelling>, found: &[Found]) -> Result<(), NoMemory> {
+    let mut count: usize = 0;
+    for item in found {
+        let AddressLine::Label(_, parts, text) = &item.line else {
+            continue;
+        };
+        if !parts.are_none() {
+            continue;
+        }
+        count = count.saturating_add(1);
+        if count > OWN_LABELS_MAX {
+            break;
+        }
+        if let Some(address) = address_of_types(labels.as_slice(), found, &item.types) {
+            set(labels, address, Labelling::Gets(text.try_copy()?));
+            set(labels, item.index, Labelling::Joined);
+        }
+    }
+    Ok(())
+}
+
+/// Gives the other addresses of these types the other labels without a group and parameters: the
+/// first one the first, and so on. Their further types may differ.
 fn join_labels(
     alloc: Global,
     labels: &mut Vec<Labelling>,
@@ -144,7 +204,7 @@ fn join_labels(
         let AddressLine::Label(its, parts, text) = &item.line else {
             continue;
         };
-        if !are_same(*its, types) || !parts.are_none() {
+        if !are_same(*its, types) || !parts.are_none() || !is_free(labels.as_slice(), item.index) {
             continue;
         }
         let Some((address, others)) = rest.split_first() else {
@@ -158,8 +218,9 @@ fn join_labels(
 }
 
 /// What the labels of a card make of each of its logical lines. A label belongs to the next address
-/// of the same types that has none; one with a group or with parameters only to an address that has
-/// the same. Empty if there are no labels, or in vCard 4.0, which has none.
+/// with exactly its types that has none, or else to the next that is as much of home and of work;
+/// one with a group or with parameters only to an address that has the same. Empty if there are no
+/// labels, or in vCard 4.0, which has none.
 pub(crate) fn labels_of(
     alloc: Global,
     raws: &[RawLine],
@@ -174,6 +235,7 @@ pub(crate) fn labels_of(
         labels.push(Labelling::Other)?;
     }
     join_own_labels(&mut labels, found.as_slice())?;
+    join_equal_labels(&mut labels, found.as_slice())?;
     for (home, work) in [(true, false), (false, true), (true, true), (false, false)] {
         join_labels(
             alloc,
