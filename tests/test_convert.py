@@ -335,6 +335,22 @@ class Convert(OrderTest):
             ended = self.convert(octets)
             self.assertEqual((1 - carried, carried), (ended.status, len(rows_of(ended.out))))
 
+    def test_a_line_of_many_pieces(self):
+        """A line in which a BEGIN:VCARD often follows a carriage return is cut there, in a time that
+        grows with its length: 1.6 MB took more than a minute when the rest of the line was looked
+        through for each piece."""
+        many = 114_000
+        octets = b"x\n" + many * b"\rBEGIN:VCARDaa" + b"\n" + 200_000 * b"NOTE:aaaaaaaaaaaaaaaaa\n"
+
+        def bounded():
+            resource.setrlimit(resource.RLIMIT_CPU, (20, 20))
+
+        (self.folder / "cards.vcf").write_bytes(octets)
+        ended = run("convert", "cards.vcf", cwd=self.folder, preexec_fn=bounded)
+        last = f"0 cards written, 0 changed, 0 with parts kept aside, {many + 1} not carried\n"
+        self.assertEqual((1, HEAD), (ended.status, ended.out))
+        self.assertTrue(ended.err.decode().endswith(last), ended.err[-200:])
+
     def test_a_uid_twice(self):
         """The same card is passed, however often it comes. Another one is kept under a UID that is
         computed from its text, which is canonical here."""

@@ -462,6 +462,9 @@ class ConvertContacts(OrderTest):
              [":19800415", ":19800415", ":19800415", ":--0415"]),
             (["1980-04-15T00:00:00", "15.04.1980 00:00"], [":19800415", ":19800415"]),
             (["30.02.1980", "in spring"], [";VALUE=text:30.02.1980", ";VALUE=text:in spring"]),
+            # 2000 was a leap year, 1900 and 2023 were none.
+            (["29.02.2000", "29.02.1900", "29.02.2023"],
+             [":20000229", ";VALUE=text:29.02.1900", ";VALUE=text:29.02.2023"]),
         ]:
             with self.subTest(cells):
                 rows = [[f"A{place}", "a@x.test", cell] for place, cell in enumerate(cells)]
@@ -599,6 +602,19 @@ class ConvertContacts(OrderTest):
             (workbook.getvalue(), "an Excel workbook; save it as CSV UTF-8"),
             (b"version: 1\ndn: cn=Ann\n", "LDIF; export the contacts as vCard or CSV"),
             (b"%PDF-1.4\n", "a PDF; export the contacts as vCard or CSV"),
+            *((octets, "XML or HTML; export the contacts as vCard or CSV") for octets in [
+                b"<?xml version='1.0'?>", b"\xef\xbb\xbf\n<!DOCTYPE html>\n", b"<HTML>", b"<table>"]),
+            *((octets, "JSON; export the contacts as vCard or CSV") for octets in [
+                b'[\n  {"name": "Ann"}]', b'{"vcards": []}', b'["vcard", [["version"]]]', b"[]\n"]),
+            (b"begin:VCALENDAR\r\n", "a calendar; export the contacts as vCard or CSV"),
+            (b"7z\xbc\xaf'\x1c", "a 7-Zip archive; unpack it, and convert its files"),
+            (b"Rar!\x1a\x07", "a RAR archive; unpack it, and convert its files"),
+            (b"\xfd7zXZ\x00", "compressed by xz; unpack it, and convert its files"),
+            (b"SQLite format 3\x00", "a database of SQLite; export the contacts as vCard or CSV"),
+            (b"bplist00\xd1", "a property list of Apple; export the contacts as vCard or CSV"),
+            (b"\xff\xd8\xff\xe0", "a picture; export the contacts as vCard or CSV"),
+            (b"\x89PNG\r\n", "a picture; export the contacts as vCard or CSV"),
+            (b"{\\rtf1 a}", "a text in RTF; export the contacts as vCard or CSV"),
         ]:
             for name in "a.csv", "a.vcf":
                 ended = self.convert(octets, name=name)

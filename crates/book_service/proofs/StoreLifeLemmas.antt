@@ -22,7 +22,9 @@ use Rattle.book_service.specs.declared.event.Event.{Event}
 use Rattle.book_service.specs.Crashes.{LedTo, LivedTo}
 use Rattle.book_service.specs.Resyncs.{IsResyncable, ResyncsContinueLives, whole_run}
 use Rattle.book_service.specs.Runs.{SystemState, MatchesRows, end_of}
-use Rattle.book_service.specs.StoreLives.{HasLived, ResyncsLeadOn, RestartsLeadOn}
+use Rattle.book_service.specs.Promise.{NewStoresStart}
+use Rattle.book_service.specs.StoreLives.{CreationsBeginLives, HasLived, OpeningsLeadOn}
+use Rattle.book_service.specs.StoreLives.{ResyncsLeadOn, RestartsLeadOn}
 use Rattle.book_service.specs.StoreLives.{RunsLeadOn, StoresBeginLives}
 use Rattle.book_service.proofs.LifeLemmas.{life-append}
 use Rattle.book_service.proofs.StepLemmas.{end-append}
@@ -162,6 +164,28 @@ module _ {S : Type 0} (model : StoreModel S) where
         has = λ holds. ∣ here ∣₁;
         leaves = settled_leaves now store now.devices premise settled ∣ here ∣₁;
       }
+
+  pub openings_lead_on : OpeningsLeadOn model
+  openings_lead_on now rows store devices lived limits opens =
+      let found : model.premise store → ∥ HasLived now (model.books store) devices ∥₁ =
+      λ holds. subst (λ (b : Books). ∥ HasLived now b devices ∥₁) (sym (opens.has holds)) lived in
+      record {
+        limits = limits;
+        has = found;
+        leaves = λ rows left. settled_leaves now store devices (opens.opened rows left)
+            opens.settled (found (opens.opened rows left)) rows left;
+      }
+
+  pub creations_begin_lives : NewStoresStart → CreationsBeginLives model
+  creations_begin_lives starts now store none limits opens =
+      let here : HasLived now finite.empty now.devices = record {
+        runs = [];
+        trace = [];
+        life = refl;
+        at = starts now none;
+        devices_are = refl;
+      } in
+      openings_lead_on now finite.empty store now.devices ∣ here ∣₁ limits opens
 
   pub runs_lead_on : RunsLeadOn model
   runs_lead_on now first last asked replied before after led premise settled same lives =

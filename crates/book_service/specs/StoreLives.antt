@@ -1,5 +1,6 @@
 -- The life of a store over all its calls: runs, restarts and resyncs, in any order.
 use Rattle.std.specs.Prelude.{ℕ, ◌≡◌, List, Result}
+use Rattle.std.specs.FinMap as finite
 use Rattle.book_model.specs.declared.denied.Denied.{Denied}
 use Rattle.book_model.specs.Books.{Books}
 use Rattle.book_model.specs.Devices.{DeviceState}
@@ -31,6 +32,13 @@ module _ {S : Type 0} (model : StoreModel S) where
     pub has : model.premise store → ∥ HasLived now (model.books store) devices ∥₁
     pub leaves : (rows : Books) → model.may_leave store rows → ∥ HasLived now rows devices ∥₁
 
+  -- A store that was opened, over files with these rows, or created: it has them, if its premise
+  -- holds. If a crash of it may leave any rows at all, the premise holds.
+  pub record OpensWith (rows : Books) (store : S) : Type 0 where
+    pub has : model.premise store → model.books store ≡ rows
+    pub settled : IsSettled model store
+    pub opened : (left : Books) → model.may_leave store left → model.premise store
+
   -- ---- laws
 
   -- the life of a store begins in each state that matches its rows
@@ -39,6 +47,18 @@ module _ {S : Type 0} (model : StoreModel S) where
       model.premise store → IsSettled model store →
       MatchesRows now (model.limits store) (model.books store) →
       HasLivedTo now store now.devices
+
+  -- A creation begins a life in each state without books, whatever was left of an earlier one.
+  abbrev pub CreationsBeginLives : Type 0
+  CreationsBeginLives = (now : SystemState) (store : S) →
+      now.model.books ≡ finite.empty → model.limits store ≡ now.model.limits →
+      OpensWith finite.empty store → HasLivedTo now store now.devices
+
+  -- an opening of files with rows that a life led to leads on
+  abbrev pub OpeningsLeadOn : Type 0
+  OpeningsLeadOn = (now : SystemState) (rows : Books) (store : S) (devices : List DeviceState) →
+      ∥ HasLived now rows devices ∥₁ → model.limits store ≡ now.model.limits →
+      OpensWith rows store → HasLivedTo now store devices
 
   -- the runs of `live` lead on
   abbrev pub RunsLeadOn : Type 0

@@ -113,8 +113,3 @@ all_cut (Some octets) None found pieces cut nothing at_end = absurd cut
 all_cut (Some octets) (Some a) None pieces cut nothing at_end = absurd nothing
 all_cut (Some octets) (Some a) (Some b) pieces cut nothing at_end =
     subst (AreCutOff octets pieces) (nothing ∙ at_end) cut
-
-pub third_by : (a b c : Bool) → a ≡ false → b ≡ false → c ≡ (a || b || c)
-third_by false false c p q = refl
-third_by false true c p q = cc
-third_by true b c p q = cc

@@ -1,8 +1,12 @@
 -- What a reader of pieces has left after it read and passed octets.
 use Rattle.std.proofs.Common.{◌≡◌, [], ◌++◌, ◌+◌, ℕ, List, Option, Some, None, take, drop, refl}
-use Rattle.std.proofs.Common.{sym, ap, ◌∙◌, append_assoc}
+use Rattle.std.proofs.Common.{sym, ap, ◌∙◌, append_assoc, ◌||◌, Bool, true, false}
 use Rattle.std.proofs.lemmas.List.{take-append-drop, drop-drop}
+use Rattle.std.proofs.lemmas.List.Folds.{list_any-append}
 use Rattle.std.specs.Io.KnownBytes.{Consumes, IsAtEnd, prepend_known}
+use Rattle.std.specs.Prelude.{◌==◌}
+use Rattle.base_types.specs.Octets.{line_feed}
+use Rattle.import_text.specs.PieceLaws.{has_line_end}
 
 -- what was read comes after what was unread
 pub read_on : (unread chunk : List ℕ) (a b : Option (List ℕ)) → Consumes a b chunk
@@ -36,3 +40,18 @@ pub ends : (unread : List ℕ) (a : Option (List ℕ)) → unread ≡ [] → IsA
     → IsAtEnd (prepend_known unread a)
 ends unread None e at_end = tt
 ends unread (Some x) e at_end = rw (e, at_end) refl
+
+-- ---- a line that ends
+
+either_way : (p q : Bool) → (p || q) ≡ (q || p)
+either_way true true = refl
+either_way true false = refl
+either_way false true = refl
+either_way false false = refl
+
+-- a line ends in the back or in the front
+pub in_either : (octets front back : List ℕ) → octets ≡ front ++ back
+    → (has_line_end back || has_line_end front) ≡ has_line_end octets
+in_either octets front back e =
+    either_way (has_line_end back) (has_line_end front)
+    ∙ sym (list_any-append (λ octet. octet == line_feed) front back) ∙ sym (ap has_line_end e)

@@ -1,5 +1,63 @@
 //! Files of other formats, which aren't converted.
 
+use import_text::begins_with_word;
+
+/// What files are that begin with these octets.
+const FORMATS: &[(&[u8], &str)] = &[
+    (
+        b"\xD0\xCF\x11\xE0",
+        "a file of an old version of Microsoft Office; save it as CSV",
+    ),
+    (
+        b"!BDN",
+        "a data file of Outlook (PST); export the contacts as CSV",
+    ),
+    (b"%PDF", "a PDF; export the contacts as vCard or CSV"),
+    (
+        b"{\\rtf",
+        "a text in RTF; export the contacts as vCard or CSV",
+    ),
+    (
+        b"\x1F\x8B",
+        "compressed by gzip; unpack it, and convert its files",
+    ),
+    (
+        b"\xFD7zXZ",
+        "compressed by xz; unpack it, and convert its files",
+    ),
+    (
+        b"7z\xBC\xAF",
+        "a 7-Zip archive; unpack it, and convert its files",
+    ),
+    (
+        b"Rar!\x1A",
+        "a RAR archive; unpack it, and convert its files",
+    ),
+    (
+        b"SQLite format 3\0",
+        "a database of SQLite; export the contacts as vCard or CSV",
+    ),
+    (
+        b"bplist00",
+        "a property list of Apple; export the contacts as vCard or CSV",
+    ),
+    (
+        b"\xFF\xD8\xFF",
+        "a picture; export the contacts as vCard or CSV",
+    ),
+    (b"\x89PNG", "a picture; export the contacts as vCard or CSV"),
+];
+
+/// What a file of a known format is, and what to do with it.
+fn format_words(head: &[u8]) -> Option<&'static str> {
+    for (front, words) in FORMATS {
+        if head.starts_with(*front) {
+            return Some(*words);
+        }
+    }
+    None
+}
+
 /// Whether the octets have these among them.
 fn has_octets(octets: &[u8], wanted: &[u8]) -> bool {
     for start in 0..octets.len() {
@@ -26,6 +84,47 @@ fn is_ldif(text: &[u8]) -> bool {
     text.starts_with(b"dn:")
         || text.starts_with(b"version: 1\n")
         || text.starts_with(b"version: 1\r\n")
+}
+
+/// Whether the text, which begins with no white space, is XML or HTML: a tag, a declaration or a
+/// comment.
+fn is_markup(text: &[u8]) -> bool {
+    match text.strip_prefix(b"<") {
+        Some([next, ..]) => next.is_ascii_alphabetic() || *next == b'?' || *next == b'!',
+        _ => false,
+    }
+}
+
+/// Whether the text, which begins with no white space, is JSON: an object or an array.
+fn is_json(text: &[u8]) -> bool {
+    match text.split_first() {
+        Some((b'{' | b'[', rest)) => matches!(
+            rest.trim_ascii_start().first(),
+            Some(b'"' | b'{' | b'[' | b'}' | b']')
+        ),
+        _ => false,
+    }
+}
+
+/// What a file of text is, and what to do with it, if it begins so and isn't converted.
+fn text_words(text: &[u8]) -> Option<&'static str> {
+    let start = text.trim_ascii_start();
+    if is_saved_export(text) {
+        Some(
+            "rows of cards that were saved again, without commas between uid and vcard; convert \
+             the file as it was exported",
+        )
+    } else if is_ldif(text) {
+        Some("LDIF; export the contacts as vCard or CSV")
+    } else if is_markup(start) {
+        Some("XML or HTML; export the contacts as vCard or CSV")
+    } else if is_json(start) {
+        Some("JSON; export the contacts as vCard or CSV")
+    } else if begins_with_word(start, b"BEGIN:VCALENDAR") {
+        Some("a calendar; export the contacts as vCard or CSV")
+    } else {
+        None
+    }
 }
 
 /// The octets after one that is the first, if it is; else all.
@@ -73,24 +172,7 @@ pub fn foreign_format(head: &[u8]) -> Option<&'static str> {
     let text = head.strip_prefix(b"\xEF\xBB\xBF").unwrap_or(head);
     if head.starts_with(b"PK\x03\x04") {
         Some(archive_words(head))
-    } else if head.starts_with(b"\xD0\xCF\x11\xE0") {
-        Some("a file of an old version of Microsoft Office; save it as CSV")
-    } else if head.starts_with(b"!BDN") {
-        Some("a data file of Outlook (PST); export the contacts as CSV")
-    } else if head.starts_with(b"%PDF") {
-        Some("a PDF; export the contacts as vCard or CSV")
-    } else if head.starts_with(b"\x1F\x8B") {
-        Some("compressed by gzip; unpack it, and convert its files")
-    } else if is_saved_export(text) {
-        Some(
-            "rows of cards that were saved again, without commas between uid and vcard; convert \
-             the file as it was exported",
-        )
-    } else if is_ldif(text) {
-        Some("LDIF; export the contacts as vCard or CSV")
-    } else if text.starts_with(b"<?xml") || text.starts_with(b"<html") {
-        Some("XML or HTML; export the contacts as vCard or CSV")
     } else {
-        None
+        format_words(head).or(text_words(text))
     }
 }

@@ -21,10 +21,29 @@ pub(crate) const PIECE_OCTETS_MAX: usize = 8_388_608;
 const READS_MAX: u32 = 64;
 
 /// Whether a line ends in the octets.
-fn has_line_end(octets: &[u8]) -> bool
+fn ends_line(octets: &[u8]) -> bool
     ensures { result ≡ has_line_end octets.now }
 {
     octets.iter().any(|octet| *octet == b'\n')
+}
+
+/// Whether a line ends in the octets. The last `count` of them are looked at first.
+#[tactic(auto, using(crate::proofs::PieceLemmas::in_either))]
+fn has_line_end(octets: &[u8], count: usize) -> bool
+    ensures { result ≡ has_line_end octets.now }
+{
+    let (front, back) = octets.split_at(octets.len().saturating_sub(count));
+    ends_line(back) || ends_line(front)
+}
+
+/// The number of octets from the last line feed on, or 0 if there is none.
+fn last_line_end(octets: &[u8]) -> usize {
+    let count = octets
+        .iter()
+        .rev()
+        .take_while(|octet| **octet != b'\n')
+        .count();
+    if count < octets.len() { count + 1 } else { 0 }
 }
 
 /// A reader and the octets that were read from it but not passed yet. It keeps one piece and at
@@ -35,6 +54,9 @@ pub(crate) struct PieceReader<R> {
     buffer: Vec<u8>,
     /// Where the first piece begins in the buffer.
     start: usize,
+    /// The number of octets from the buffer's last line feed on, or 0. It is only a hint: with it a
+    /// line of many pieces isn't looked through for each of them.
+    last_line_end: usize,
     is_at_end: bool,
 }
 
@@ -47,6 +69,7 @@ impl<R: Read + Drop> PieceReader<R> {
             reader,
             buffer: Vec::new(alloc),
             start: 0,
+            last_line_end: 0,
             is_at_end: false,
         }
     }
@@ -75,6 +98,7 @@ impl<R: Read + Drop> PieceReader<R> {
         let chunk = read_chunk(alloc, &mut self.reader, size)?;
         let buffer = joined(alloc, self.unread(), chunk.as_slice())?;
         self.is_at_end = chunk.len() < size;
+        self.last_line_end = last_line_end(buffer.as_slice());
         self.buffer = buffer;
         self.start = 0;
         Ok(())
@@ -87,13 +111,10 @@ impl<R: Read + Drop> PieceReader<R> {
         ensures { result ≡ (self.now.is_at_end || has_line_end rest.now
             || nat_le 8388608 (length (unread_of self.now))) }
     {
-        if self.is_at_end {
+        if self.is_at_end || self.unread().len() >= PIECE_OCTETS_MAX {
             return true;
         }
-        if has_line_end(rest) {
-            return true;
-        }
-        self.unread().len() >= PIECE_OCTETS_MAX
+        has_line_end(rest, self.last_line_end)
     }
 
     /// Reads until the first piece is whole, and returns its length; `None` at the end of the

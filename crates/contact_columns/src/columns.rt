@@ -312,11 +312,11 @@ pub fn read_columns(
 ) -> Result<Option<ContactColumns>, NoMemory> {
     let names = column_names(alloc, header)?;
     let wishes = read_wishes(alloc, wished)?;
-    contact_columns(alloc, names.as_slice(), wishes.as_slice())
+    columns_of_names(alloc, names.as_slice(), wishes.as_slice())
 }
 
 /// The columns of these names, if they are those of contacts, or all columns that are wished.
-fn contact_columns(
+fn columns_of_names(
     alloc: Global,
     names: &[Text],
     wishes: &[Wish<'_>],

@@ -103,10 +103,19 @@ fn month_of(name: &str) -> Option<u8> {
     None
 }
 
-/// The most days of a month.
-fn days_of(month: u8) -> u8 {
+/// Whether the year has a 29 February. One that isn't known may have.
+fn has_leap_day(year: Option<u16>) -> bool {
+    match year {
+        Some(year) => year % 4 == 0 && (year % 100 != 0 || year % 400 == 0),
+        None => true,
+    }
+}
+
+/// The most days of a month of the year.
+fn days_of(year: Option<u16>, month: u8) -> u8 {
     match month {
-        2 => 29,
+        2 if has_leap_day(year) => 29,
+        2 => 28,
         4 | 6 | 9 | 11 => 30,
         1..=12 => 31,
         _ => 0,
@@ -116,7 +125,7 @@ fn days_of(month: u8) -> u8 {
 /// The date of these numbers, if there is one. A year of zeros is none.
 fn valid_date(year: Option<u16>, month: u8, day: u8) -> Option<Date> {
     let year = if year == Some(0) { None } else { year };
-    if day > 0 && day <= days_of(month) {
+    if day > 0 && day <= days_of(year, month) {
         Some(Date { year, month, day })
     } else {
         None

@@ -1,2 +1,4 @@
 pub mod ConnectionLemmas
 pub mod RestartLemmas
+pub mod SealedLemmas
+pub mod NothingLemmas

@@ -4,6 +4,7 @@ use Rattle.std.proofs.Common.{◌∙◌, arith}
 use Rattle.std.proofs.Math.Logic.{∥∥₁_map}
 use Rattle.sqlite.specs.Effect.{Database}
 use Rattle.sqlite.specs.Files.{Finds, FailsToOpenFiles, HoldsDatabase, IsCleanLeft, IsOpened}
+use Rattle.sqlite.specs.Files.{LeavesFiles}
 use Rattle.sqlite.specs.Files.{file_state, image_of}
 use Rattle.sqlite.specs.Held.{Held, AreDatabases}
 use Rattle.sqlite.specs.State.{HasCleanDisk}
@@ -12,7 +13,6 @@ use Rattle.sqlite.specs.WalFiles.{outcomes}
 use Rattle.sqlite.specs.WalReads.{AreClean}
 use Rattle.sqlite.specs.declared.error.Error.{Error}
 use Rattle.sqlite.specs.declared.file.Leftover.{Leftover}
-use Rattle.sqlite.proofs.Theorems.{opens_again}
 use Rattle.sqlite_catalog.specs.Listing.{Lists}
 use Rattle.sqlite_catalog.proofs.ReadLemmas.{lists_once}
 use Rattle.sqlite_disk.specs.declared.Disk.{Ghosts}
@@ -22,24 +22,33 @@ use Rattle.sqlite_store.specs.declared.store.FileStore.{FileStore}
 use Rattle.sqlite_trees.specs.Objects.{catalog_tree}
 use Rattle.sqlite_trees.specs.View.{IsClean, IsQuiet}
 use Rattle.sqlite_trees.proofs.Doubt.{no_doubt}
-use Rattle.named_files.specs.Restarts.{HasOpenCause, HoldsListed, LeaveOneOf, ShowsOpened}
+use Rattle.named_files.specs.Leftovers.{LeavesTheSame}
+use Rattle.named_files.specs.Restarts.{HasOpenCause, HoldsListed, LeaveOneOf, LeaveSealedOneOf}
+use Rattle.named_files.specs.Restarts.{ShowsOpened}
+use Rattle.named_files.proofs.SealedLemmas.{leaves_the_same, sealed_holds, sealed_left}
 
 -- the files of a store that is sound and numbered, as `into_store` leaves it
-pub left_in_files : {D : Type 0} {g : Ghosts D} (it : FileStore D g) (Allowed : Trees
+pub sealed_in_files : {D : Type 0} {g : Ghosts D} (it : FileStore D g) (Allowed : Trees
     → Type 0) (files : Files D) → (files.log, files.db) ≡ store.files it
     → (IsClean (store.view it) → IsTrue (store.view it).is_numbered)
     → (IsClean (store.view it) → AreDatabases (store.recovers it))
     → ((db : Trees) → store.recovers it db → Allowed db)
-    → LeaveOneOf g files Allowed
+    → LeaveSealedOneOf g files Allowed
 unfolding Rattle.sqlite_pool.specs.Pool.state Rattle.sqlite_pool.specs.Pool.files
-left_in_files {D = D} {g = g} it Allowed files same numbered sound allowed clean image may =
+sealed_in_files {D = D} {g = g} it Allowed files same numbered sound allowed clean image may =
     let at : AreClean g (store.files it).0 (store.files it).1 =
     subst (λ (q : D × D). AreClean g q.0 q.1) same clean in
     let left : outcomes g (store.files it).0 (store.files it).1 image =
     subst (λ (q : D × D). outcomes g q.0 q.1 image) same may in
     let honest : IsClean (store.view it) = no_doubt _ at in
-    ∥∥₁_map (opens_again it (numbered honest) (sound honest) image (at, left))
+    ∥∥₁_map (sealed_left it (numbered honest) (sound honest) image (at, left))
     (λ db. (db.0, allowed db.0 db.1, db.2))
+
+-- an opening accepts them
+pub left_in_files : {D : Type 0} (g : Ghosts D) (files : Files D) (Allowed : Trees → Type 0)
+    → LeaveSealedOneOf g files Allowed → LeaveOneOf g files Allowed
+left_in_files g files Allowed leaves clean image may =
+    ∥∥₁_map (leaves clean image may) (λ db. (db.0, db.1, sealed_holds image db.0 db.2))
 
 -- if the disk has returned what was written until the store is closed, it had before
 pub clean_in_files : {D : Type 0} {g : Ghosts D} (c : Held (FileStore D g)) (it : FileStore D g)
@@ -91,3 +100,10 @@ pub found_honest : {D : Type 0} {g : Ghosts D} (files : Files D) (r : Result (He
     → IfOk r (λ c. HasCleanDisk (file_state c) → AreClean g files.log files.db)
 found_honest files (Ok c) found = λ clean. (found clean).honest
 found_honest files (Err e) found = tt
+
+-- a crash of what an opening that failed left leaves what it could leave, or the same database
+pub failed_leaves : {D : Type 0} {g : Ghosts D} {T : Type 0} (files : Files D) (r :
+    Result T (Error × Leftover D g)) → IfErr r (λ e. IsCleanLeft e.1 → LeavesFiles files e.1)
+    → IfErr r (λ e. LeavesTheSame files e.1)
+failed_leaves files (Ok c) leaves = tt
+failed_leaves files (Err e) leaves = leaves_the_same files e.1 leaves

@@ -1,5 +1,5 @@
 -- What the files of a database hold between two runs of a program, and what the next run opens.
-use Rattle.std.specs.Prelude.{◌≡◌, ◌⊎◌}
+use Rattle.std.specs.Prelude.{◌≡◌, ◌⊎◌, ℕ}
 use Rattle.sqlite.specs.Effect.{Database}
 use Rattle.sqlite.specs.Files.{HoldsDatabase, IsFullLeft, faults_left, faults_of}
 use Rattle.sqlite.specs.Recovery.{Image}
@@ -11,11 +11,14 @@ use Rattle.sqlite.specs.declared.error.Error.{Error}
 use Rattle.sqlite.specs.declared.error.Error.TheVariants.{SqliteFailure}
 use Rattle.sqlite.specs.declared.error.ErrorCode.TheVariants.{DiskFull, OutOfMemory}
 use Rattle.sqlite.specs.declared.file.Leftover.{Leftover}
+use Rattle.sqlite.specs.Opening.{HoldsAt}
 use Rattle.sqlite_catalog.specs.Listing.{Lists}
 use Rattle.sqlite_disk.specs.Disk.{MoreFaults}
 use Rattle.sqlite_disk.specs.declared.Disk.{Ghosts}
 use Rattle.sqlite_disk.specs.declared.Files.{Files}
+use Rattle.sqlite_pool.specs.Stored.{stored_size}
 use Rattle.sqlite_trees.specs.Objects.{catalog_tree}
+use Rattle.sqlite_wal.specs.PageSize.{IsPageSize}
 
 -- ---- what is left
 
@@ -23,12 +26,26 @@ use Rattle.sqlite_trees.specs.Objects.{catalog_tree}
 abbrev pub HoldsOneOf : Image → (Trees → Type 0) → Type 0
 HoldsOneOf image Allowed = ∥ ((db : Trees) × Allowed db × HoldsDatabase image db) ∥₁
 
+-- The bytes hold a database, as a store leaves it: if pages end in sums, each page has the right
+-- one. Of a database that sqlite3 left, the pages in the log may lack theirs.
+abbrev pub HoldsSealed : Image → Trees → Type 0
+HoldsSealed image db = (size : ℕ) × IsPageSize (stored_size size) × HoldsAt size image db
+
+-- they hold one of these, as a store leaves it
+abbrev pub HoldsSealedOneOf : Image → (Trees → Type 0) → Type 0
+HoldsSealedOneOf image Allowed = ∥ ((db : Trees) × Allowed db × HoldsSealed image db) ∥₁
+
 module _ {D : Type 0} (g : Ghosts D) (files : Files D) where
   -- Whatever a crash leaves of the files holds a database that is one of these, as long as the disk
   -- has returned what was written.
   abbrev pub LeaveOneOf : (Trees → Type 0) → Type 0
   LeaveOneOf Allowed = AreClean g files.log files.db → (image : Image) →
       outcomes g files.log files.db image → HoldsOneOf image Allowed
+
+  -- the same, as a store leaves it
+  abbrev pub LeaveSealedOneOf : (Trees → Type 0) → Type 0
+  LeaveSealedOneOf Allowed = AreClean g files.log files.db → (image : Image) →
+      outcomes g files.log files.db image → HoldsSealedOneOf image Allowed
 
 -- ---- what is opened
 

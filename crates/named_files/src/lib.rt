@@ -2,14 +2,16 @@
 //! between two runs of a program.
 #![tactic(auto)]
 
+mod laws;
 mod log_names;
 mod named_files;
 mod opening;
 mod runs;
 mod system;
 
+pub use laws::new_files_are_empty;
 pub use log_names::log_name;
 pub use named_files::{Connected, NamedFiles, Refused};
 pub use opening::{connect_found, is_empty_without_log};
-pub use runs::{crash_files, into_files, open_again};
+pub use runs::{crash_files, crash_left, into_files, open_again};
 pub use system::SystemFiles;

@@ -1,5 +1,7 @@
 //! The end of a run, a crash, and the opening of the next run.
-ghost use Rattle.named_files.specs.Restarts.{HasOpenCause, HoldsListed, LeaveOneOf, ShowsOpened};
+ghost use Rattle.named_files.specs.Leftovers.{LeavesTheSame, MayLeaveOf};
+ghost use Rattle.named_files.specs.Restarts.{HasOpenCause, HoldsListed, LeaveOneOf};
+ghost use Rattle.named_files.specs.Restarts.{LeaveSealedOneOf, ShowsOpened};
 ghost use Rattle.sqlite.specs.Effect.{Database};
 ghost use Rattle.sqlite.specs.Files.{Finds, HoldsDatabase, IsCleanLeft, IsOpened, LeavesFiles};
 ghost use Rattle.sqlite.specs.Files.{file_state, image_of};
@@ -22,6 +24,7 @@ use std::alloc::Global;
 /// before, also if the disk failed and the connection is closed.
 pub fn into_files<D: Disk + Drop>(connection: Connection<FileStore<D>>) -> Files<D>
     ensures leaves { LeaveOneOf D.Disk result (file_state connection).may_leave }
+    ensures sealed { LeaveSealedOneOf D.Disk result (file_state connection).may_leave }
     ensures clean { AreClean D.Disk result.log result.db → HasCleanDisk (file_state connection) }
 {
     connection.into_store().close()
@@ -40,6 +43,18 @@ pub fn crash_files<D: Crash>(files: Files<D>) -> Files<D>
     log.crash();
     db.crash();
     Files { log, db }
+}
+
+/// The files after a crash of what an opening that failed left of them.
+pub fn crash_left<D: Crash>(left: Leftover<D>) -> Files<D>
+    ensures crash { MayLeaveOf left (image_of D.Disk result) }
+    ensures again { (image : Image) → outcomes D.Disk result.log result.db image
+        → MayLeaveOf left image }
+    ensures clean { AreClean D.Disk result.log result.db → IsCleanLeft left }
+    ensures log { IsTrue (D.Disk.is_usable result.log) }
+    ensures db { IsTrue (D.Disk.is_usable result.db) }
+{
+    crash_files(left.into_files())
 }
 
 /// Opens the files. If they hold a database, the connection shows it, with the schema that it
@@ -65,6 +80,9 @@ pub fn open_again<D: Disk + Drop>(
     // An error harms nothing: what is left of the files stands for what they stood for.
     ensures unharmed { IfErr result (λ refused. IsCleanLeft refused.1
         → LeavesFiles files refused.1) }
+
+    // So a crash of it leaves what a crash of the files left, or the same database.
+    ensures leaves { IfErr result (λ refused. LeavesTheSame files refused.1) }
 {
     Connection::open_files(alloc, files, options)
 }

@@ -1,4 +1,5 @@
 //! Reads the members one at a time, and tests each.
+ghost use Rattle.store_tables.specs.Tables.{member_tree};
 ghost use Rattle.store_check.specs.MemberScans.{DoesTake, Scans, is_above};
 ghost use Rattle.store_check.specs.RowChecks.{int_cell};
 ghost use Rattle.store_tables.specs.Members.{AreMembers};
@@ -71,7 +72,7 @@ pub(crate) fn scan_members<S: Alter>(
     tallies: &mut [BookTally],
 ) -> Result<Option<FaultyRow>, Error>
     ensures scans { GivenTables S.Store conn.old conn.new (IfOk result
-        (Scans (table_rows S.Store conn.old 4) books.now tallies.old tallies.new)) }
+        (Scans (table_rows S.Store conn.old member_tree) books.now tallies.old tallies.new)) }
 
     // Where no two members share an id, it fails only for lack of memory or for an outside cause.
     ensures fails_from_outside { GivenMembers S.Store conn.old conn.new (λ members.

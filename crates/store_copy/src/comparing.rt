@@ -1,7 +1,7 @@
 //! Tests whether tables hold the rows of a store, with the new ids of its books.
+ghost use Rattle.store_tables.specs.Tables.{member_tree};
 ghost use Rattle.store_copy.specs.OnConnections.{HasNewRows};
 ghost use Rattle.store_copy.specs.RowsWithout.{HasNewId, HaveNewBooks, HaveNewIds, id_after};
-ghost use Rattle.store_check.specs.RowChecks.{int_cell};
 ghost use Rattle.store_tables.specs.Members.{member_cells};
 ghost use Rattle.store_tables.specs.OnConnections.{GivenTables, OnlyReads, table_rows};
 ghost use Rattle.sqlite.specs.declared.types.Value.TheVariants.{Int};
@@ -124,7 +124,7 @@ fn holds_members<S: Alter>(
 ) -> Result<bool, Error>
     ensures same { GivenTables S.Store conn.old conn.new (IfOk result (λ same. IsTrue same
         → (found : List Row)
-        × IsPermutation (map member_cells (table_rows S.Store conn.old 4)) found
+        × IsPermutation (map member_cells (table_rows S.Store conn.old member_tree)) found
         × HaveNewIds 1 5 left.now found members.now)) }
     ensures reads_only { OnlyReads S.Store conn.old conn.new }
 {

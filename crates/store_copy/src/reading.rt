@@ -1,4 +1,5 @@
 //! Reads all rows of the tables of a store.
+ghost use Rattle.store_tables.specs.Tables.{member_tree};
 ghost use Rattle.store_check.specs.OnConnections.{AreBookRows};
 ghost use Rattle.store_copy.specs.OnConnections.{HasRows};
 ghost use Rattle.store_tables.specs.Members.{member_cells};
@@ -53,7 +54,7 @@ pub(crate) fn list_others<S: Alter>(conn: &mut Connection<S>) -> Result<BookRows
 /// the number and the card.
 fn list_members<S: Alter>(conn: &mut Connection<S>) -> Result<Vec<Row>, Error>
     ensures lists { GivenTables S.Store conn.old conn.new
-        (ListsTable S.Store conn.old 4 member_cells result) }
+        (ListsTable S.Store conn.old member_tree member_cells result) }
     ensures reads_only { OnlyReads S.Store conn.old conn.new }
 {
     conn.query_all(

@@ -36,7 +36,7 @@ ghost use Rattle.std.specs.Prelude.{◌≡◌, ◌<◌, ◌^◌, IfErr, IfOk, fa
 use book_model::decisions::id_of_new_book;
 use book_model::{Denied, Limits};
 use sqlite::{Alter, Connection, Error, Transaction};
-use store_lookups::{column_of, count_in, fault_of};
+use store_lookups::{column_of, exact_count, fault_of};
 use store_tables::books::{count_books, find_book, insert_book};
 use store_tables::keeps::insert_keep;
 use store_tables::settled::assert_no_pending_writes;
@@ -145,7 +145,7 @@ fn number_of_books<S: Alter>(conn: &mut Connection<S>) -> Result<u64, Denied>
     ensures reads_only { OnlyReads S.Store conn.old conn.new }
 {
     match count_books(conn) {
-        Ok(row) => count_in(&row),
+        Ok(count) => exact_count(count),
         Err(error) => Err(fault_of(error)),
     }
 }

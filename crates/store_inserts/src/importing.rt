@@ -1,4 +1,5 @@
 //! Imports cards into a book: all of them in one transaction, or none.
+ghost use Rattle.store_tables.specs.Members.{member_table};
 ghost use Rattle.book_model.specs.ImportLaws.{HaveDistinctUids};
 ghost use Rattle.book_model.specs.Importing.{import_step, book_with_kept_import};
 ghost use Rattle.book_model.specs.declared.answers.ImportTally.{ImportTally};
@@ -29,21 +30,20 @@ ghost use Rattle.store_lookups.specs.OnConnections.{
   KeepsCounts,
   WriteFaultsFromOutside,
 };
-ghost use Rattle.store_tables.specs.Acceptance.{AcceptsMember, HasFreeIds, IsShort};
-ghost use Rattle.store_tables.specs.Books.{BookRow};
+ghost use Rattle.store_tables.specs.Acceptance.{IsShort};
 ghost use Rattle.store_tables.specs.OnConnections.{
   CountsFaults,
-  GivenMembersTx,
-  HasBooks,
+  GivenAcceptedMember,
+  GivenTx,
   HasCleanDisk,
   HoldsInTx,
   KeepsCommit,
-  PutsRow,
+  PutsMember,
   Survives,
   SurvivesAsBefore,
+  TakesOneId,
   WriteFailsFromOutside,
-  WritesOnly,
-  table_rows,
+  WritesTable,
 };
 ghost use Rattle.store_writes.specs.OnConnections.{
   AppliesStep,
@@ -81,22 +81,16 @@ fn put_planned<S: Alter>(
     likely_new: bool,
 ) -> Result<(), Error>
     ensures same_reference { tx.new.conn.ghost_name ≡ tx.old.conn.ghost_name }
-    ensures puts { GivenMembersTx S.Store tx.old.conn.now tx.new.conn.now
-        (λ ms. OnOk result
-        (PutsRow S.Store tx.new.conn.now book uid.now changed (option_copied card.entry) ms)) }
-    ensures writes { GivenMembersTx S.Store tx.old.conn.now tx.new.conn.now
-        (λ _. OnOk result (WritesOnly S.Store tx.old.conn.now tx.new.conn.now 4)) }
-    ensures takes_one_id { GivenMembersTx S.Store tx.old.conn.now tx.new.conn.now
-        (λ _. (count : ℕ) → HasFreeIds (count + 1) (table_rows S.Store tx.old.conn.now 4)
-        → OnOk result (HasFreeIds count (table_rows S.Store tx.new.conn.now 4))) }
-    ensures keeps_commit { GivenMembersTx S.Store tx.old.conn.now tx.new.conn.now
+    ensures puts { PutsMember S.Store tx.old.conn.now tx.new.conn.now book uid.now changed
+        (option_copied card.entry) result }
+    ensures writes { WritesTable S.Store tx.old.conn.now tx.new.conn.now member_table result }
+    ensures takes_one_id { TakesOneId S.Store tx.old.conn.now tx.new.conn.now member_table result }
+    ensures keeps_commit { GivenTx S.Store tx.old.conn.now tx.new.conn.now member_table
         (λ _. KeepsCommit S.Store tx.old.conn.now tx.new.conn.now) }
     ensures survives { SurvivesAsBefore S.Store tx.old.conn.now tx.new.conn.now }
-    ensures fails_from_outside { GivenMembersTx S.Store tx.old.conn.now tx.new.conn.now
-        (λ ms. (bs : List BookRow) → HasBooks S.Store tx.old.conn.now bs
-        → HasFreeIds 1 (table_rows S.Store tx.old.conn.now 4)
-        → AcceptsMember bs ms book uid.now changed (option_copied card.entry)
-        → WriteFailsFromOutside S.Store tx.old.conn.now tx.new.conn.now result) }
+    ensures fails_from_outside { GivenAcceptedMember S.Store tx.old.conn.now tx.new.conn.now
+        book uid.now changed (option_copied card.entry)
+        (WriteFailsFromOutside S.Store tx.old.conn.now tx.new.conn.now result) }
 {
     if !likely_new {
         return update_or_put(tx, book, uid, changed, card);

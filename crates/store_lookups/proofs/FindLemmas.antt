@@ -17,7 +17,7 @@ use Rattle.book_model.specs.declared.row.Row.{Row as Member}
 use Rattle.book_model.specs.Books.{Book, live_at, stored_in_row}
 use Rattle.book_model.specs.BookQueries.{is_tombstone_after, tombstone_count}
 use Rattle.book_model.specs.Counts.{is_tombstone_at}
-use Rattle.store_tables.specs.QueryResults.{FindsRow, count_value}
+use Rattle.store_tables.specs.QueryResults.{FindsRow, count_value, greatest_integer}
 use Rattle.store_tables.specs.Members.{MemberRow, has_uid, number_card_shown, is_removed_above}
 use Rattle.store_tables.specs.Imports.{has_key, import_shown}
 use Rattle.store_tables.specs.Keeps.{is_keep_of, keep_shown}
@@ -44,6 +44,12 @@ back z n e below = ap (λ k. to_z w64 (of_z w64 k)) e ∙ to_z_pos w64 below
 -- the same, for a number of a book
 pub back_of : (z : ℤ) (m n : ℕ) → z ≡ pos m → m < 2 ^ 63 → m ≡ n → to_z w64 (of_z w64 z) ≡ pos n
 back_of z m n e below same = back z m e below ∙ ap pos same
+
+-- an exact count, as the row of a counting query
+pub shows_exact : (n : ℕ) (r : Result ℕ Denied) → IfOk r (λ k. k ≡ n)
+    → IfOk r (λ k. k < greatest_integer) → IfOk r (ShowsCount (Int (pos n) ∷ []))
+shows_exact n (Ok k) same below = record { is = ap (λ m. Int (pos m)) (sym same); below = below }
+shows_exact n (Err denied) same below = tt
 
 -- ---- what a book has under a UID
 

@@ -21,7 +21,7 @@ use Rattle.store_lookups.specs.Faults.{denied_by_fault, error_fault}
 use Rattle.sqlite.specs.Effect.{Database}
 use Rattle.sqlite.specs.State.{State, HasCleanDisk, IsUnchanged, Survives}
 use Rattle.sqlite.specs.Tree.{Trees}
-use Rattle.store_tables.specs.QueryResults.{count_value}
+use Rattle.store_tables.specs.QueryResults.{counted, greatest_integer}
 use Rattle.store_tables.specs.StatementEffects.{GivenTables}
 use Rattle.store_tables.proofs.FailureLemmas.{outside_later}
 use Rattle.store_tables.proofs.KeyedRows.{all_has}
@@ -168,9 +168,7 @@ filter_short p (x ∷ xs) = step (p x) refl (filter_short p xs)
     step false e more = rw e (omega (arith, more))
 
 -- a count of some of few rows
-pub count_read : {X : Type 0} (p : X → Bool) (xs : List X) (row : Row) (r : Result ℕ Denied)
-    → row ≡ count_value (length (filter p xs)) ∷ [] → length xs < 9223372036854775807
-    → ((n : ℕ) → n < 9223372036854775807 → row ≡ count_value n ∷ [] → FailsOnlyForMemory r)
-    → FailsOnlyForMemory r
-count_read p xs row r is few memory =
-    memory (length (filter p xs)) (omega (arith, filter_short p xs, few)) is
+pub few_counted : {X : Type 0} (p : X → Bool) (xs : List X) (n : ℕ) (r : Result ℕ Denied)
+    → n ≡ counted (length (filter p xs)) → length xs < greatest_integer
+    → (n < greatest_integer → FailsOnlyForMemory r) → FailsOnlyForMemory r
+few_counted p xs n r is few memory = memory (omega (arith, filter_short p xs, few, is))

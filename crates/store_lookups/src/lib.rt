@@ -18,4 +18,4 @@ pub use lookups::{
     count_removals, fetch_keep, find_header, find_import_tally, find_live, find_member_state,
 };
 pub use member_states::MemberState;
-pub use row_values::{count_in, line_in, member_in};
+pub use row_values::{exact_count, line_in, member_in};

@@ -22,7 +22,7 @@ use crate::columns::number_in;
 use crate::faults::{column_of, fault_of};
 use crate::header::{BookHeader, header_in};
 use crate::member_states::MemberState;
-use crate::row_values::{count_in, live_in, member_state_in, tally_in};
+use crate::row_values::{exact_count, live_in, member_state_in, tally_in};
 use book_model::{Denied, ImportTally, Refusal, Stored};
 use sqlite::{Alter, Connection, Error};
 use std::alloc::Global;
@@ -148,7 +148,7 @@ pub fn count_removals<S: Alter>(conn: &mut Connection<S>, header: BookHeader) ->
     let id = column_of(header.id())?;
     let horizon = column_of(header.horizon())?;
     match count_removed(conn, id, horizon) {
-        Ok(row) => count_in(&row),
+        Ok(count) => exact_count(count),
         Err(error) => Err(fault_of(error)),
     }
 }

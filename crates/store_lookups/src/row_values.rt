@@ -1,10 +1,10 @@
 //! Reads the values in the result rows of `store_tables`.
 ghost use Rattle.store_rows.specs.ReadLaws.{ShowsLine};
-ghost use Rattle.store_rows.specs.ShownRows.{ShowsCount, ShowsLive, ShowsMember, ShowsTally};
+ghost use Rattle.store_rows.specs.ShownRows.{ShowsLive, ShowsMember, ShowsTally};
 ghost use Rattle.store_rows.specs.SoundTables.{IsReadableImport, IsReadableMember};
 ghost use Rattle.store_tables.specs.Imports.{ImportRow, import_shown};
 ghost use Rattle.store_tables.specs.Members.{MemberRow, number_card_shown};
-ghost use Rattle.store_tables.specs.QueryResults.{count_value};
+ghost use Rattle.store_tables.specs.QueryResults.{greatest_integer};
 ghost use Rattle.store_lookups.specs.Faults.{IsDeniedFault};
 ghost use Rattle.store_lookups.specs.MemberStates.{ShowsState};
 ghost use Rattle.store_lookups.specs.StoreFaults.{
@@ -88,15 +88,14 @@ pub(crate) fn tally_in(row: &Row) -> Result<ImportTally, Denied>
     })
 }
 
-/// Reads the count in a row of a counting query. Fails with `Store` for 2^63 - 1, which the query
-/// also returns for every greater count.
-pub fn count_in(row: &Row) -> Result<u64, Denied>
-    ensures count { IfOk result (ShowsCount row.now) }
+/// Returns the count of a query. Fails with `Store` for 2^63 - 1, which the query also returns for
+/// every greater count.
+pub fn exact_count(count: u64) -> Result<u64, Denied>
+    ensures count { IfOk result (λ exact. exact ≡ count) }
+    ensures below { IfOk result (λ exact. exact < greatest_integer) }
     ensures fault { IfErr result IsDeniedFault }
-    ensures memory { (n : ℕ) → n < 9223372036854775807 → row.now ≡ count_value n ∷ []
-        → FailsOnlyForMemory result }
+    ensures memory { count < greatest_integer → FailsOnlyForMemory result }
 {
-    let count = number_in(row, 0)?;
     if count >= COUNT_LIMIT {
         return Err(Denied::Fault(Fault::Store));
     }

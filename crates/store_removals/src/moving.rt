@@ -1,4 +1,5 @@
 //! Writes a move: the member is removed from one book and stored in another.
+ghost use Rattle.store_tables.specs.Tables.{member_tree};
 ghost use Rattle.book_model.specs.BookChanges.{book_after_drop, book_with_row};
 ghost use Rattle.book_model.specs.Counting.{counts_after_change};
 ghost use Rattle.book_model.specs.Forgetting.{book_after_forget};
@@ -66,8 +67,9 @@ fn add_to_target<S: Alter>(
     ensures obeys { InTxWithBook S.Store tx.old.conn.now tx.new.conn.now header
         (λ _ _. OnOk result (ObeyTables S.Store tx.new.conn.now)) }
     ensures takes_one_id { InTxWithBook S.Store tx.old.conn.now tx.new.conn.now header
-        (λ _ _. (count : ℕ) → HasFreeIds (count + 1) (table_rows S.Store tx.old.conn.now 4)
-        → OnOk result (HasFreeIds count (table_rows S.Store tx.new.conn.now 4))) }
+        (λ _ _. (count : ℕ)
+        → HasFreeIds (count + 1) (table_rows S.Store tx.old.conn.now member_tree)
+        → OnOk result (HasFreeIds count (table_rows S.Store tx.new.conn.now member_tree))) }
     ensures store_fault { header.number + 1 < 2 ^ 63 → (rows : TableRows) (name : List ℕ)
         → AcceptsMemberOf S.Store tx.old.conn.now rows name header uid.now
         (pos (header.number + 1)) (Some text.now) → header.id < 2 ^ 63

@@ -1,4 +1,5 @@
 //! Reads the schema number from the table `meta`, for tables of either schema.
+ghost use Rattle.store_tables.specs.Tables.{meta_tree};
 ghost use Rattle.store_tables.specs.Meta.{meta_listed};
 ghost use Rattle.store_schema.specs.internal.StatedNumber.{IsVerified, IsSchemaRow, IsNumberStated};
 ghost use Rattle.store_schema.specs.internal.StatedNumber.{RowStates};
@@ -16,7 +17,7 @@ use sqlite::{Alter, Connection, Error, Row, params};
 /// Returns the name and the value of every row of the table, whatever its columns hold.
 pub(crate) fn list_meta<S: Alter>(conn: &mut Connection<S>) -> Result<Vec<Row>, Error>
     ensures lists { GivenStoreSchema S.Store conn.old conn.new
-        (ListsTable S.Store conn.old 0 meta_listed result) }
+        (ListsTable S.Store conn.old meta_tree meta_listed result) }
     ensures unchanged { GivenStoreSchema S.Store conn.old conn.new
         (OnOk result (IsUnchanged S.Store conn.old conn.new)) }
     ensures fails_from_outside { GivenStoreSchema S.Store conn.old conn.new

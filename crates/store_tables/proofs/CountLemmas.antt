@@ -1,19 +1,21 @@
 -- The result of a count of members.
 use Rattle.std.proofs.Common.{◌≡◌, ℕ, ℤ, refl, Bool, true, false, List, [], ◌∷◌, map, filter}
-use Rattle.std.proofs.Common.{length, Some, Ok, Err, Result, IfOk, sym, ap, subst, ◌∙◌}
+use Rattle.std.proofs.Common.{length, Some, Ok, Err, Result, IfErr, IfOk, sym, ap, subst, ◌∙◌}
+use Rattle.std.proofs.Common.{pos, ◌≢◌}
+use Rattle.std.specs.Prelude.{⊤}
 use Rattle.std.specs.List.{AllZip}
 use Rattle.std.specs.List.Sorted.{IsPermutation}
 use Rattle.std.proofs.lemmas.List.{length-map}
-use Rattle.std.proofs.lemmas.List.Sorted.{length_permutation}
+use Rattle.std.proofs.lemmas.List.Sorted.{IsPermutation-refl, length_permutation}
 use Rattle.std.proofs.lemmas.List.Elements.{filter_agree}
 use Rattle.sqlite.specs.declared.types.Value.TheVariants.{Null, Int, Text}
 use Rattle.sqlite.specs.declared.error.Error.{Error}
-use Rattle.sqlite.specs.Order.{Row}
+use Rattle.sqlite.specs.Order.{Row, column}
 use Rattle.sqlite.specs.Tree.{Trees}
 use Rattle.sqlite.specs.Term.{Env}
 use Rattle.sqlite.specs.Program.{overlay}
 use Rattle.sqlite.specs.Query.{IsSureAnswer, IsAnswer, Output, output}
-use Rattle.sqlite.specs.State.{State, QueriesRow}
+use Rattle.sqlite.specs.State.{HasCleanDisk, IsUnchanged, QueriesRow, State}
 use Rattle.sqlite.proofs.Callers.{first_as, one_permutation}
 use Rattle.sqlite_sql.specs.Group.{Grouping, IsSummary, Aggregate, value_over}
 use Rattle.sqlite_sql.specs.declared.aggregate.AggregateOp.TheVariants.{CountRows}
@@ -24,7 +26,13 @@ use Rattle.sqlite_sql.specs.declared.ops.CompareOp.TheVariants.{Eq, Gt}
 use Rattle.sqlite_typed.proofs.TestLemmas.{at_ints, at_is_null, then_term, last_term}
 use Rattle.store_tables.specs.Tables.{book_schema}
 use Rattle.store_tables.proofs.Queries.{count_text, count_tests, counting, books_count_text}
-use Rattle.store_tables.specs.QueryResults.{count_value}
+use Rattle.store_tables.specs.QueryResults.{IfAnswered, count_value, counted}
+use Rattle.store_tables.specs.Failures.{FailsFromOutside}
+use Rattle.store_tables.specs.Reads.{ReadsTables}
+use Rattle.store_tables.specs.StatementEffects.{GivenTables}
+use Rattle.store_tables.proofs.ReturningLemmas.{if_err_weaker}
+use Rattle.sqlite.specs.declared.error.Error.TheVariants.{SqliteFailure}
+use Rattle.sqlite.specs.declared.error.ErrorCode.TheVariants.{OutOfMemory}
 use Rattle.store_tables.specs.Members.{MemberRow, member_row, member_cells, HoldMembers}
 use Rattle.store_tables.specs.Members.{is_removed_above}
 use Rattle.store_tables.proofs.Texts.{count_is, books_count_is}
@@ -146,3 +154,56 @@ counts_books old new bs r schema has h =
     subst (λ n. IfOk r (λ row. row ≡ count_value n ∷ [])) (ap length (every bs))
     (counts_row 2 [] [] book_cells book_row (λ _. true) (λ _. refl) (λ _. refl) bs books_count_text
     _ books_count_is old new refl r schema has h)
+
+-- every row of a query that counts is a count
+pub some_count : (sql : List ℕ) (params : Row) (old new : State) (tree : ℕ) (tests : List Term)
+    (names : List (List ℕ)) (is : (command_of (understood book_schema sql) ≡ Select (record {
+      lets = [];
+      body = counting tree tests;
+    }) names) × (reads_listing book_schema sql ≡ false) × IsPlain (understood book_schema sql))
+    (over : overlay old.now.trees [] tree ≡ old.now.trees tree) (row : Row)
+    → old.now.schema ≡ book_schema → QueriesRow sql params old new (Ok row)
+    → (n : ℕ) × (row ≡ count_value n ∷ [])
+some_count sql params old new tree tests names is over row schema h = (
+  _,
+  counts_row {X = Row} tree tests params (λ r. r) (λ r. r)
+      (passes tree tests (col 1 0 ∷ []) (λ _. []) params) (λ _. refl) (λ _. refl)
+      (old.now.trees tree) sql names is old new over (Ok row) schema (IsPermutation-refl _) h,
+)
+
+-- the count in such a row
+pub count_read : (row : Row) (n k : ℕ) → row ≡ count_value n ∷ [] → column row 0 ≡ Int (pos k)
+    → k ≡ counted n
+count_read row n k is there =
+    let same : Int (pos (counted n)) ≡ Int (pos k) = ap (λ r. column r 0) (sym is) ∙ there in cc
+
+-- a fact that holds after each answer
+answered : (r : Result ℕ Error) (Fact : Type 0) → Fact → IfAnswered r Fact
+answered (Ok n) Fact h = h
+answered (Err e) Fact h = λ none. h
+
+-- a query that counts, and then the count in its row
+pub counts_then : (old new : State) (row : Row) (r : Result ℕ Error)
+    → ReadsTables {T = Row} old new (Ok row) ⊤
+    → (HasCleanDisk new → old.now.schema ≡ book_schema → (n : ℕ) × (row ≡ count_value n ∷ []))
+    → ((n : ℕ) → row ≡ count_value n ∷ [] → IfErr r (λ e. e ≢ SqliteFailure OutOfMemory → ⊥))
+    → ReadsTables old new r ⊤
+counts_then old new row r query some memory = record {
+  returns = tt;
+  unchanged = λ clean has. answered r (IsUnchanged old new) (query.unchanged clean has);
+  fails_from_outside = λ clean has.
+      let it = some clean has in
+      if_err_weaker r (λ e none room. absurd (none room)) (memory it.0 it.1);
+  reads_only = query.reads_only;
+}
+
+-- a query that counts and fails
+pub count_fails_as : (old new : State) (e : Error) (r : Result ℕ Error)
+    → ReadsTables {T = Row} old new (Err e) ⊤ → r ≡ Err e → ReadsTables old new r ⊤
+count_fails_as old new e r query is = record {
+  returns = tt;
+  unchanged = subst (λ it. GivenTables old new (IfAnswered it (IsUnchanged old new))) (sym is)
+      query.unchanged;
+  fails_from_outside = subst (FailsFromOutside old new) (sym is) query.fails_from_outside;
+  reads_only = query.reads_only;
+}

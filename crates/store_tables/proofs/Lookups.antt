@@ -35,9 +35,11 @@ use Rattle.sqlite.specs.State.{Fails}
 use Rattle.sqlite.specs.State.{Survives, CommitsShowing}
 use Rattle.store_tables.proofs.Queries.{picks}
 use Rattle.store_tables.specs.QueryResults.{FindsRow, IfAnswered}
-use Rattle.std.specs.Prelude.{OnOk, IfOk, Vec}
+use Rattle.std.specs.Prelude.{OnOk, IfOk, Vec, ⊤}
 use Rattle.std.specs.declared.alloc.Global.{Global}
 use Rattle.store_tables.specs.Tables.{book_schema}
+use Rattle.store_tables.specs.Failures.{FailsFromOutside, MissesOrFailsFromOutside}
+use Rattle.store_tables.specs.Reads.{LooksUpRow, ReadsTables}
 use Rattle.store_tables.specs.StatementEffects.{KeepsState, HasNoPendingWrites, OnlyReads}
 use Rattle.store_tables.proofs.Picks.{passes, shows, picked}
 use Rattle.store_tables.proofs.Cells.{shaped}
@@ -333,9 +335,57 @@ all_reads sql params old new (Err e) select plain ok err mode survives =
     refused_reads sql params old new e select plain err mode survives
 
 pub all_unchanged : (sql : List ℕ) (params : Row) (old new : State) (r :
-    Result (Vec Row Global) Error) → IsPlain (understood book_schema sql)
-    → old.now.schema ≡ book_schema
-    → IfOk r (λ rows. Shown sql params old new rows.items) → OnOk r (IsUnchanged old new)
-all_unchanged sql params old new (Ok rows) plain has ok =
+    Result (Vec Row Global) Error) (q : Program) (names : List (List ℕ))
+    → command_of (understood book_schema sql) ≡ Select q names
+    → IsPlain (understood book_schema sql) → old.now.schema ≡ book_schema
+    → IfOk r (λ rows. Shown sql params old new rows.items)
+    → IfErr r (FailsToQuery sql params old new) → IfAnswered r (IsUnchanged old new)
+all_unchanged sql params old new (Ok rows) q names is plain has ok err =
     plain_shown sql params old new rows.items (plain_under sql old book_schema has plain) ok
-all_unchanged sql params old new (Err e) plain has ok = tt
+all_unchanged sql params old new (Err e) q names is plain has ok err =
+    λ none. absurd (never_none sql params old new book_schema has q names is plain
+    (subst (FailsToQuery sql params old new) none err))
+
+-- ---- a statement that reads, but for what it returns
+
+-- the text is a query of the declared tables
+abbrev pub IsQueryText : List ℕ → Program → List (List ℕ) → Type 0
+IsQueryText sql q names = (command_of (understood book_schema sql) ≡ Select q names)
+    × (reads_listing book_schema sql ≡ false) × IsPlain (understood book_schema sql)
+
+module _ {q : Program} {names : List (List ℕ)} (sql : List ℕ) (params : Row) (old new : State)
+    (select : IsSelectText sql) (is : IsQueryText sql q names)
+    (mode : old.in_transaction ≡ false → new.in_transaction ≡ false)
+    (survives : Survives old new (CommitsShowing sql params old)) where
+  -- a look-up
+  pub looks_up : (r : Result Row Error) → (HasCleanDisk new → QueriesRow sql params old new r)
+      → MissesOrFailsFromOutside old new r → LooksUpRow old new r ⊤
+  looks_up r row fails = record {
+    returns = tt;
+    unchanged = λ clean has. ok_unchanged sql params old new r q names is.0 is.2 has (row clean);
+    fails_from_outside = fails;
+    reads_only = only_reads sql params old new r select is.2 row mode survives;
+  }
+
+  -- a query that always finds one row
+  pub reads_row : (r : Result Row Error) → (HasCleanDisk new → QueriesRow sql params old new r)
+      → FailsFromOutside old new r → ReadsTables old new r ⊤
+  reads_row r row fails = record {
+    returns = tt;
+    unchanged = λ clean has. ok_unchanged sql params old new r q names is.0 is.2 has (row clean);
+    fails_from_outside = fails;
+    reads_only = only_reads sql params old new r select is.2 row mode survives;
+  }
+
+  -- a query of all rows
+  pub reads_rows : (r : Result (Vec Row Global) Error)
+      → (HasCleanDisk new → IfOk r (λ rows. Shown sql params old new rows.items))
+      → (HasCleanDisk new → IfErr r (FailsToQuery sql params old new))
+      → FailsFromOutside old new r → ReadsTables old new r ⊤
+  reads_rows r ok err fails = record {
+    returns = tt;
+    unchanged = λ clean has. all_unchanged sql params old new r q names is.0 is.2 has (ok clean)
+        (err clean);
+    fails_from_outside = fails;
+    reads_only = all_reads sql params old new r select is.2 ok err mode survives;
+  }

@@ -10,7 +10,8 @@ use Rattle.sqlite.specs.Order.{Row, column}
 use Rattle.sqlite.specs.State.{State}
 use Rattle.sqlite_trees.specs.Tree.{IsAscending}
 use Rattle.store_tables.specs.QueryResults.{AddsRow}
-use Rattle.store_tables.specs.StatementEffects.{GivenRows, GivenRowsTx}
+use Rattle.store_tables.specs.StatementEffects.{StoredTable}
+use Rattle.store_tables.specs.Tables.{book_tree}
 use Rattle.store_tables.specs.declared.books.BookNumbers.{BookNumbers}
 
 -- the nine number columns: the last change, the horizon and the counts
@@ -84,7 +85,7 @@ HoldBooks rows bs = IsPermutation (map book_row bs) (map book_cells rows)
 
 -- the table `book` holds these books
 abbrev pub HasBooks : State → List BookRow → Type 0
-HasBooks s bs = HoldBooks (s.now.trees 2) bs
+HasBooks s bs = HoldBooks (s.now.trees book_tree) bs
 
 abbrev pub has_name : List ℕ → BookRow → Bool
 has_name name b = bytes_eq b.name name
@@ -96,13 +97,8 @@ has_id id b = int_eq b.id id
 abbrev pub AreBooks : List BookRow → Type 0
 AreBooks = IsAscending (λ a b. (int_eq a.id b.id ≡ false) × (has_name a.name b ≡ false))
 
--- the condition of a read: the table holds these books before it
-abbrev pub GivenBooks : State → State → (List BookRow → Type 0) → Type 0
-GivenBooks = GivenRows HoldBooks 2
-
--- the condition of a write inside a transaction: the table holds these books before it
-abbrev pub GivenBooksTx : State → State → (List BookRow → Type 0) → Type 0
-GivenBooksTx = GivenRowsTx AreBooks HoldBooks 2
+abbrev pub book_table : StoredTable BookRow
+book_table = record { tree = book_tree; Hold = HoldBooks; AreDistinct = AreBooks }
 
 -- ---- result rows
 
@@ -136,4 +132,5 @@ blank_book id name = record {
 
 -- the table holds the old books and the empty book
 abbrev pub AddsBook : State → ℤ → List ℕ → List BookRow → Type 0
-AddsBook new id name bs = AddsRow HoldBooks (λ b. b.id) (blank_book id name) bs (new.now.trees 2)
+AddsBook new id name bs =
+    AddsRow HoldBooks (λ b. b.id) (blank_book id name) bs (new.now.trees book_tree)

@@ -7,7 +7,8 @@ use Rattle.sqlite.specs.Order.{Row, column}
 use Rattle.sqlite.specs.State.{State}
 use Rattle.sqlite_trees.specs.Tree.{IsAscending}
 use Rattle.store_tables.specs.QueryResults.{AddsRow}
-use Rattle.store_tables.specs.StatementEffects.{GivenRows, GivenRowsTx}
+use Rattle.store_tables.specs.StatementEffects.{StoredTable}
+use Rattle.store_tables.specs.Tables.{import_tree}
 
 -- the result of an import and the number of its last change; the id is the row id
 pub record ImportRow : Type 0 where
@@ -43,13 +44,8 @@ has_key book key i = int_eq i.book book && bytes_eq i.key key
 abbrev pub AreImports : List ImportRow → Type 0
 AreImports = IsAscending (λ a b. (int_eq a.id b.id ≡ false) × (has_key a.book a.key b ≡ false))
 
--- the condition of a read: the table holds these imports before it
-abbrev pub GivenImports : State → State → (List ImportRow → Type 0) → Type 0
-GivenImports = GivenRows HoldImports 7
-
--- the condition of a write inside a transaction: the table holds these imports before it
-abbrev pub GivenImportsTx : State → State → (List ImportRow → Type 0) → Type 0
-GivenImportsTx = GivenRowsTx AreImports HoldImports 7
+abbrev pub import_table : StoredTable ImportRow
+import_table = record { tree = import_tree; Hold = HoldImports; AreDistinct = AreImports }
 
 -- ---- result rows
 
@@ -73,4 +69,4 @@ new_import_row id book key added edited same number = record {
 abbrev pub AddsImport : State → ℤ → List ℕ → ℤ → ℤ → ℤ → ℤ → List ImportRow → Type 0
 AddsImport new book key added edited same number imports = (id : ℤ) ×
     AddsRow HoldImports (λ i. i.id) (new_import_row id book key added edited same number) imports
-    (new.now.trees 7)
+    (new.now.trees import_tree)

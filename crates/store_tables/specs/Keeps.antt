@@ -8,7 +8,8 @@ use Rattle.sqlite.specs.Order.{Row, column}
 use Rattle.sqlite.specs.State.{State}
 use Rattle.sqlite_trees.specs.Tree.{IsAscending}
 use Rattle.store_tables.specs.QueryResults.{AddsRow}
-use Rattle.store_tables.specs.StatementEffects.{GivenRows, GivenRowsTx}
+use Rattle.store_tables.specs.StatementEffects.{StoredTable}
+use Rattle.store_tables.specs.Tables.{keep_tree}
 
 -- the book's id is the row id
 pub record KeepRow : Type 0 where
@@ -36,13 +37,8 @@ is_keep_of book k = int_eq k.book book
 abbrev pub AreKeeps : List KeepRow → Type 0
 AreKeeps = IsAscending (λ a b. int_eq a.book b.book ≡ false)
 
--- the condition of a read: the table holds these keeps before it
-abbrev pub GivenKeeps : State → State → (List KeepRow → Type 0) → Type 0
-GivenKeeps = GivenRows HoldKeeps 9
-
--- the condition of a write inside a transaction: the table holds these keeps before it
-abbrev pub GivenKeepsTx : State → State → (List KeepRow → Type 0) → Type 0
-GivenKeepsTx = GivenRowsTx AreKeeps HoldKeeps 9
+abbrev pub keep_table : StoredTable KeepRow
+keep_table = record { tree = keep_tree; Hold = HoldKeeps; AreDistinct = AreKeeps }
 
 -- ---- result rows
 
@@ -61,4 +57,4 @@ keep_row_of book keep = record { book = book; keep = keep }
 -- the table holds the old keeps and the book's keep
 abbrev pub AddsKeep : State → ℤ → ℤ → List KeepRow → Type 0
 AddsKeep new book keep keeps =
-    AddsRow HoldKeeps (λ k. k.book) (keep_row_of book keep) keeps (new.now.trees 9)
+    AddsRow HoldKeeps (λ k. k.book) (keep_row_of book keep) keeps (new.now.trees keep_tree)

@@ -2,6 +2,7 @@ pub mod Tables
 pub mod StatementEffects
 pub mod Failures
 pub mod QueryResults
+pub mod Reads
 pub mod Members
 pub mod Books
 pub mod Imports

@@ -11,7 +11,8 @@ use Rattle.sqlite.specs.State.{State}
 use Rattle.sqlite.specs.Tree.{Trees}
 use Rattle.sqlite.specs.Values.{or_null}
 use Rattle.sqlite_trees.specs.Tree.{IsAscending}
-use Rattle.store_tables.specs.StatementEffects.{GivenRows, GivenRowsTx}
+use Rattle.store_tables.specs.StatementEffects.{GivenRows, StoredTable}
+use Rattle.store_tables.specs.Tables.{member_tree}
 
 -- the id is the row id; a member without a card is removed
 pub record MemberRow : Type 0 where
@@ -37,7 +38,7 @@ HoldMembers rows ms = IsPermutation (map member_row ms) (map member_cells rows)
 
 -- the table `member` holds these members
 abbrev pub HasMembers : State → List MemberRow → Type 0
-HasMembers s ms = HoldMembers (s.now.trees 4) ms
+HasMembers s ms = HoldMembers (s.now.trees member_tree) ms
 
 -- the member has the UID in the book
 abbrev pub has_uid : ℤ → List ℕ → MemberRow → Bool
@@ -47,13 +48,12 @@ has_uid book uid m = int_eq m.book book && bytes_eq m.uid uid
 abbrev pub AreMembers : List MemberRow → Type 0
 AreMembers = IsAscending (λ a b. (int_eq a.id b.id ≡ false) × (has_uid a.book a.uid b ≡ false))
 
+abbrev pub member_table : StoredTable MemberRow
+member_table = record { tree = member_tree; Hold = HoldMembers; AreDistinct = AreMembers }
+
 -- the condition of a read: the table holds these members before it
 abbrev pub GivenMembers : State → State → (List MemberRow → Type 0) → Type 0
 GivenMembers = GivenRows HoldMembers 4
-
--- the condition of a write inside a transaction: the table holds these members before it
-abbrev pub GivenMembersTx : State → State → (List MemberRow → Type 0) → Type 0
-GivenMembersTx = GivenRowsTx AreMembers HoldMembers 4
 
 -- ---- result rows and their order
 

@@ -1,7 +1,7 @@
 -- Definitions over connections, for contracts. Their parameters are the store's ghosts and a
 -- connection, or the connection before and after a call. Most apply the definition of the same name
 -- over states or databases to the state of the connection; the others combine such definitions.
-use Rattle.std.specs.Prelude.{◌≡◌, ℕ, ℤ, List, map, Option, Result, IfOk, OnErr, OnOk, IsTrue, ⊤}
+use Rattle.std.specs.Prelude.{◌≡◌, ◌+◌, ℕ, ℤ, List, map, Option, Result, IfOk, OnErr, OnOk, IsTrue, ⊤}
 use Rattle.std.specs.Prelude.{Vec}
 use Rattle.std.specs.declared.alloc.Global.{Global}
 use Rattle.std.specs.List.Sorted.{IsPermutation}
@@ -21,10 +21,11 @@ use Rattle.store_tables.specs.Keeps as keeps
 use Rattle.store_tables.specs.Members as members
 use Rattle.store_tables.specs.Meta as meta
 use Rattle.store_tables.specs.NamedMembers as named
-use Rattle.store_tables.specs.QueryResults.{IfAnswered}
+use Rattle.store_tables.specs.Reads as reads
 use Rattle.store_tables.specs.SchemaCreation as creation
 use Rattle.store_tables.specs.StatementEffects as effects
 use Rattle.store_tables.specs.Tables as tables
+use Rattle.store_tables.specs.Tables.{member_tree}
 
 -- ---- one connection
 
@@ -93,32 +94,11 @@ module _ {S : Type 0} (store : Ghosts S) (old new : Held S) where
   abbrev pub InsideTx : Type 0 → Type 0
   InsideTx = effects.InsideTx (state store old) (state store new)
 
-  abbrev pub GivenBooks : (List books.BookRow → Type 0) → Type 0
-  GivenBooks = books.GivenBooks (state store old) (state store new)
-
-  abbrev pub GivenBooksTx : (List books.BookRow → Type 0) → Type 0
-  GivenBooksTx = books.GivenBooksTx (state store old) (state store new)
-
   abbrev pub GivenMembers : (List members.MemberRow → Type 0) → Type 0
   GivenMembers = members.GivenMembers (state store old) (state store new)
 
-  abbrev pub GivenMembersTx : (List members.MemberRow → Type 0) → Type 0
-  GivenMembersTx = members.GivenMembersTx (state store old) (state store new)
-
   abbrev pub GivenBooksAndMembers : (List books.BookRow → List members.MemberRow → Type 0) → Type 0
   GivenBooksAndMembers = named.GivenBooksAndMembers (state store old) (state store new)
-
-  abbrev pub GivenImports : (List imports.ImportRow → Type 0) → Type 0
-  GivenImports = imports.GivenImports (state store old) (state store new)
-
-  abbrev pub GivenImportsTx : (List imports.ImportRow → Type 0) → Type 0
-  GivenImportsTx = imports.GivenImportsTx (state store old) (state store new)
-
-  abbrev pub GivenKeeps : (List keeps.KeepRow → Type 0) → Type 0
-  GivenKeeps = keeps.GivenKeeps (state store old) (state store new)
-
-  abbrev pub GivenKeepsTx : (List keeps.KeepRow → Type 0) → Type 0
-  GivenKeepsTx = keeps.GivenKeepsTx (state store old) (state store new)
 
   -- what a call does
 
@@ -150,15 +130,66 @@ module _ {S : Type 0} (store : Ghosts S) (old new : Held S) where
   abbrev pub StaysUncommitted : Type 0
   StaysUncommitted = creation.StaysUncommitted (state store old) (state store new)
 
+  -- what a statement does
+
+  abbrev pub ReadsTables : {T : Type 0} → Result T Error → Type 0 → Type 0
+  ReadsTables = reads.ReadsTables (state store old) (state store new)
+
+  abbrev pub LooksUpRow : Result Row Error → Type 0 → Type 0
+  LooksUpRow = reads.LooksUpRow (state store old) (state store new)
+
+  -- a read of one table, for the items that it held before
+  abbrev pub Reads :
+      {X T : Type 0} → effects.StoredTable X → Result T Error → (List X → Type 0) → Type 0
+  Reads table result Returns = ReadsTables result
+      (effects.GivenRows table.Hold table.tree (state store old) (state store new) Returns)
+
+  -- a look-up in one table, for the items that it held before
+  abbrev pub LooksUp :
+      {X : Type 0} → effects.StoredTable X → Result Row Error → (List X → Type 0) → Type 0
+  LooksUp table result Returns = LooksUpRow result
+      (effects.GivenRows table.Hold table.tree (state store old) (state store new) Returns)
+
+  -- the condition of a write: the transaction is open over the declared tables, and the table holds
+  -- these items, of which no two share the id or a key
+  abbrev pub GivenTx :
+      {X : Type 0} → effects.StoredTable X → (List X → Type 0) → Type 0
+  GivenTx table =
+      effects.GivenRowsTx table.AreDistinct table.Hold table.tree (state store old) (state store new)
+
+  -- after a success only this table was written, the rows obey the declared tables, and the
+  -- transaction is open
+  abbrev pub WritesTable : {X T E : Type 0} → effects.StoredTable X → Result T E → Type 0
+  WritesTable table result = GivenTx table (λ _. OnOk result (WritesOnly table.tree))
+
+  -- if the engine had ids for one more new row than a number, it has ids for that number of rows
+  -- after a success
+  abbrev pub TakesOneId : {X T E : Type 0} → effects.StoredTable X → Result T E → Type 0
+  TakesOneId table result = GivenTx table (λ _. (count : ℕ)
+      → acceptance.HasFreeIds (count + 1) (table_rows store old table.tree)
+      → OnOk result (acceptance.HasFreeIds count (table_rows store new table.tree)))
+
+  -- a success puts the member: it has the number and the card, in its own row or in a new one
+  abbrev pub PutsMember :
+      {T E : Type 0} → ℤ → List ℕ → ℤ → Option (List ℕ) → Result T E → Type 0
+  PutsMember book uid changed card result = GivenTx members.member_table
+      (λ ms. OnOk result (PutsRow store new book uid changed card ms))
+
+  -- The table accepts the member: a book has the id, none of its other members has the number, the
+  -- UID and the card are short, and the engine has an id for a new row. Given that, and the books
+  -- of the table `book`, the fact holds.
+  abbrev pub GivenAcceptedMember :
+      ℤ → List ℕ → ℤ → Option (List ℕ) → Type 0 → Type 0
+  GivenAcceptedMember book uid changed card Then = GivenTx members.member_table
+      (λ ms. (bs : List books.BookRow) → HasBooks store old bs
+      → acceptance.HasFreeIds 1 (table_rows store old member_tree)
+      → acceptance.AcceptsMember bs ms book uid changed card → Then)
+
   -- clauses of many functions
 
   -- a read of the declared tables that succeeds changes nothing
   abbrev pub UnchangedOnOk : {T E : Type 0} → Result T E → Type 0
   UnchangedOnOk result = GivenTables (OnOk result IsUnchanged)
-
-  -- the same, also for a read that finds no row
-  abbrev pub UnchangedIfAnswered : Result Row Error → Type 0
-  UnchangedIfAnswered result = GivenTables (IfAnswered result IsUnchanged)
 
   -- the cause of an error lies outside the tables
   abbrev pub HasOutsideCause : Type 0
@@ -171,10 +202,6 @@ module _ {S : Type 0} (store : Ghosts S) (old new : Held S) where
   -- a query of the declared tables fails only for lack of memory or for an outside cause
   abbrev pub FailsFromOutside : {T : Type 0} → Result T Error → Type 0
   FailsFromOutside = failures.FailsFromOutside (state store old) (state store new)
-
-  -- the same for a look-up, which may also find no row
-  abbrev pub MissesOrFailsFromOutside : {T : Type 0} → Result T Error → Type 0
-  MissesOrFailsFromOutside = failures.MissesOrFailsFromOutside (state store old) (state store new)
 
   -- inside a transaction over the declared tables, a write fails only for lack of memory or for an
   -- outside cause

@@ -18,18 +18,22 @@ abbrev pub FindsRow : {X : Type 0} → (X → Bool) → (X → Row) → List X �
 FindsRow {X} test show xs (Ok row) = (x : X) × Has (filter test xs) x × (row ≡ show x)
 FindsRow test show xs (Err e) = e ≡ QueryReturnedNoRows → filter test xs ≡ []
 
--- the query returned a row, or found none; after any other error nothing is required
-abbrev pub IfAnswered : Result Row Error → Type 0 → Type 0
-IfAnswered (Ok row) Then = Then
+-- the query returned a result, or found no row; after any other error nothing is required
+abbrev pub IfAnswered : {T : Type 0} → Result T Error → Type 0 → Type 0
+IfAnswered (Ok answer) Then = Then
 IfAnswered (Err e) Then = e ≡ QueryReturnedNoRows → Then
 
 -- the greatest integer of a column, 2^63 - 1
 abbrev pub greatest_integer : ℕ
 greatest_integer = 9223372036854775807
 
+-- what a query returns as the count of n rows: 2^63 - 1 if there are more
+abbrev pub counted : ℕ → ℕ
+counted n = min n greatest_integer
+
 -- a count as a column value
 abbrev pub count_value : ℕ → Value
-count_value n = Int (pos (min n greatest_integer))
+count_value n = Int (pos (counted n))
 
 -- the rows are those of all the items, sorted by the comparison
 pub record AreRowsInOrder {X : Type 0} (compare : X → X → Ordering) (show : X → Row) (xs : List X)

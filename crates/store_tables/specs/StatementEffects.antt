@@ -17,6 +17,15 @@ GivenTables old new Then = HasCleanDisk new → old.now.schema ≡ book_schema �
 abbrev pub InsideTx : State → State → Type 0 → Type 0
 InsideTx old new Then = HasCleanDisk new → IsTrue old.in_transaction → Then
 
+-- a declared table for rows of some kind
+pub record StoredTable (X : Type 0) : Type 1 where
+  -- the number of the tree with its rows
+  pub tree : ℕ
+  -- the rows are those of the items, in any order
+  pub Hold : List Row → List X → Type 0
+  -- no two items share the id or a key
+  pub AreDistinct : List X → Type 0
+
 -- the condition of a read: the table holds these items before it
 abbrev pub GivenRows :
     {X : Type 0} → (List Row → List X → Type 0) → ℕ → State → State → (List X → Type 0) → Type 0

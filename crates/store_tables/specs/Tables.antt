@@ -13,6 +13,23 @@ use Rattle.sqlite_schema.specs.declared.schema.Column.{Column}
 use Rattle.sqlite_schema.specs.declared.schema.Index.{Index}
 use Rattle.sqlite_schema.specs.declared.schema.Reference.{Reference}
 
+-- ---- the trees of the tables' rows
+
+abbrev pub meta_tree : ℕ
+meta_tree = 0
+
+abbrev pub book_tree : ℕ
+book_tree = 2
+
+abbrev pub member_tree : ℕ
+member_tree = 4
+
+abbrev pub import_tree : ℕ
+import_tree = 7
+
+abbrev pub keep_tree : ℕ
+keep_tree = 9
+
 -- ---- columns
 
 -- an integer column that is never null
@@ -70,7 +87,7 @@ table_of name tree columns = record {
 
 -- the schema number, under the name `schema`
 abbrev pub meta : Table
-meta = record (table_of (codes "meta") 0 (text (codes "name") ∷ integer (codes "val") ∷ [])) {
+meta = record (table_of (codes "meta") meta_tree (text (codes "name") ∷ integer (codes "val") ∷ [])) {
   primary = 1 ∷ [];
   uniques = (1 ∷ []) ∷ [];
   orders = record { digits = 0 } ∷ [];
@@ -84,7 +101,7 @@ book_columns =
     ∷ integer (codes "moved_out") ∷ []
 
 abbrev pub book : Table
-book = record (table_of (codes "book") 2 book_columns) {
+book = record (table_of (codes "book") book_tree book_columns) {
   key = Some 0;
   primary = 0 ∷ [];
   uniques = (2 ∷ []) ∷ [];
@@ -97,7 +114,7 @@ member_columns =
     ∷ text_or_null (codes "card") ∷ []
 
 abbrev pub member : Table
-member = record (table_of (codes "member") 4 member_columns) {
+member = record (table_of (codes "member") member_tree member_columns) {
   primary = 1 ∷ 2 ∷ [];
   uniques = (1 ∷ 2 ∷ []) ∷ (1 ∷ 3 ∷ []) ∷ [];
   orders = record { digits = 0 } ∷ record { digits = 0 } ∷ [];
@@ -111,7 +128,7 @@ import_columns =
     ∷ integer (codes "same") ∷ integer (codes "number") ∷ []
 
 abbrev pub import_key : Table
-import_key = record (table_of (codes "import_key") 7 import_columns) {
+import_key = record (table_of (codes "import_key") import_tree import_columns) {
   primary = 1 ∷ 2 ∷ [];
   uniques = (1 ∷ 2 ∷ []) ∷ [];
   orders = record { digits = 0 } ∷ [];
@@ -122,7 +139,7 @@ abbrev pub keeping_columns : List Column
 keeping_columns = row_id (codes "book") ∷ integer (codes "keep") ∷ []
 
 abbrev pub keeping : Table
-keeping = record (table_of (codes "keeping") 9 keeping_columns) {
+keeping = record (table_of (codes "keeping") keep_tree keeping_columns) {
   key = Some 0;
   primary = 0 ∷ [];
   references = book_reference 0 ∷ [];

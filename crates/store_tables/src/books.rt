@@ -1,18 +1,7 @@
 //! Statements over the table `book`.
 //!
-//! The clauses of a read, over a disk that returned what was written and the declared tables; `bs`
-//! are the books that the table held before the call:
-//! - `unchanged`: after a result, the connection is as it was; where the clause is
-//!   `UnchangedIfAnswered`, after `QueryReturnedNoRows` too.
-//! - `fails_from_outside`: an error but for lack of memory has an outside cause: the connection was
-//!   closed before, the disk failed during the call, or the connection limits the steps of a
-//!   statement. A look-up may also miss: it fails with `QueryReturnedNoRows`.
-//! - `reads_only`: on success and on error no transaction began, and a crash leaves what it could
-//!   leave before, whatever tables are declared. If no write was pending and the connection is
-//!   still open, it shows what it showed, and nothing was committed.
-//!
-//! The clauses of a write inside a transaction, over such a disk and such tables; no two of the
-//! books `bs` share an id or a name:
+//! The clauses of a write inside a transaction, over a disk that returned what was written and the
+//! declared tables; no two of the books `bs` share an id or a name:
 //! - `same_reference`: the transaction still borrows the same connection.
 //! - `writes`: after a success only this table was written, the rows obey the declared tables, and
 //!   the transaction is open.
@@ -23,13 +12,14 @@
 //!   but for lack of memory has an outside cause. A new book is accepted if no book has the id or
 //!   the name, and the name has at most 2^20 octets; new numbers are if a book has the id, and its
 //!   name has at most 2^20 octets.
-ghost use Rattle.store_tables.specs.QueryResults.{AreRowsInOrder, FindsRow};
-ghost use Rattle.store_tables.specs.QueryResults.{count_value};
+ghost use Rattle.store_tables.specs.Tables.{book_tree};
+ghost use Rattle.store_tables.specs.QueryResults.{AreRowsInOrder, FindsRow, counted};
 ghost use Rattle.store_tables.specs.Acceptance.{AcceptsBook, AcceptsNumbers};
 ghost use Rattle.store_tables.specs.Books.{
   BookRow,
   book_listed,
   book_shown,
+  book_table,
   by_name,
   has_name,
   numbers,
@@ -39,24 +29,22 @@ ghost use Rattle.store_tables.specs.Books.{
 };
 ghost use Rattle.store_tables.specs.OnConnections.{
   AddsBook,
-  FailsFromOutside,
-  GivenBooks,
-  GivenBooksTx,
   GivenTables,
+  GivenTx,
   HasBooks,
   ListsTable,
-  MissesOrFailsFromOutside,
+  LooksUp,
   NoCommit,
-  OnlyReads,
-  UnchangedIfAnswered,
-  UnchangedOnOk,
+  Reads,
   UndoneOnErr,
   WriteFailsFromOutside,
   WritesOnly,
+  WritesTable,
 };
 ghost use Rattle.sqlite_rules.specs.Lists.{Has};
-ghost use Rattle.std.specs.Prelude.{[], ◌∷◌, ◌≡◌, IfOk, OnOk, length};
+ghost use Rattle.std.specs.Prelude.{◌≡◌, IfOk, OnOk, length};
 
+use crate::counts::count_in;
 use sqlite::{Alter, Connection, Error, Row, Transaction, params};
 
 /// The nine number columns of a book: its last change, its horizon and its counts.
@@ -88,11 +76,8 @@ pub struct BookNumbers {
 pub fn find_book<S: Alter>(conn: &mut Connection<S>, name: &str) -> Result<Row, Error>
     // The row is that of a book with the name. `QueryReturnedNoRows` is returned only if no book
     // has it.
-    ensures finds { GivenBooks S.Store conn.old conn.new
+    ensures { LooksUp S.Store conn.old conn.new book_table result
         (λ bs. FindsRow (has_name name.now) numbers_shown bs result) }
-    ensures unchanged { UnchangedIfAnswered S.Store conn.old conn.new result }
-    ensures fails_from_outside { MissesOrFailsFromOutside S.Store conn.old conn.new result }
-    ensures reads_only { OnlyReads S.Store conn.old conn.new }
 {
     conn.query_row(
         "SELECT id, number, horizon, created, edited, imported, import_edited, moved_in, deleted, \
@@ -101,16 +86,14 @@ pub fn find_book<S: Alter>(conn: &mut Connection<S>, name: &str) -> Result<Row, 
     )
 }
 
-/// Returns the number of books, as a row of one integer. The error is that of the database.
-pub fn count_books<S: Alter>(conn: &mut Connection<S>) -> Result<Row, Error>
-    // The row is the number of books, or 2^63 - 1 if there are more.
-    ensures counts { GivenBooks S.Store conn.old conn.new
-        (λ bs. IfOk result (λ row. row ≡ count_value (length bs) ∷ [])) }
-    ensures unchanged { UnchangedIfAnswered S.Store conn.old conn.new result }
-    ensures fails_from_outside { FailsFromOutside S.Store conn.old conn.new result }
-    ensures reads_only { OnlyReads S.Store conn.old conn.new }
+/// Returns the number of books. The error is that of the database.
+pub fn count_books<S: Alter>(conn: &mut Connection<S>) -> Result<u64, Error>
+    // It is their number, or 2^63 - 1 if there are more.
+    ensures { Reads S.Store conn.old conn.new book_table result
+        (λ bs. IfOk result (λ count. count ≡ counted (length bs))) }
 {
-    conn.query_row("SELECT COUNT(*) FROM book", params![])
+    let row = conn.query_row("SELECT COUNT(*) FROM book", params![])?;
+    count_in(&row)
 }
 
 /// Inserts an empty book with this id and name; its nine numbers are 0.
@@ -124,13 +107,12 @@ pub fn insert_book<S: Alter>(
     ensures same_reference { tx.new.conn.ghost_name ≡ tx.old.conn.ghost_name }
 
     // The table holds the books and the empty one, and none of them had its id.
-    ensures adds { GivenBooksTx S.Store tx.old.conn.now tx.new.conn.now
+    ensures adds { GivenTx S.Store tx.old.conn.now tx.new.conn.now book_table
         (λ bs. OnOk result (AddsBook S.Store tx.new.conn.now id name.now bs)) }
-    ensures writes { GivenBooksTx S.Store tx.old.conn.now tx.new.conn.now
-        (λ _. OnOk result (WritesOnly S.Store tx.old.conn.now tx.new.conn.now 2)) }
+    ensures writes { WritesTable S.Store tx.old.conn.now tx.new.conn.now book_table result }
     ensures no_commit { NoCommit S.Store tx.old.conn.now tx.new.conn.now }
     ensures rolled_back { UndoneOnErr S.Store tx.old.conn.now tx.new.conn.now result }
-    ensures fails_from_outside { GivenBooksTx S.Store tx.old.conn.now tx.new.conn.now
+    ensures fails_from_outside { GivenTx S.Store tx.old.conn.now tx.new.conn.now book_table
         (λ bs. AcceptsBook bs id name.now
         → WriteFailsFromOutside S.Store tx.old.conn.now tx.new.conn.now result) }
 {
@@ -155,17 +137,17 @@ fn renumber<S: Alter>(
     moved_out: i64,
 ) -> Result<usize, Error>
     ensures same_reference { tx.new.conn.ghost_name ≡ tx.old.conn.ghost_name }
-    ensures renumbers { GivenBooksTx S.Store tx.old.conn.now tx.new.conn.now
+    ensures renumbers { GivenTx S.Store tx.old.conn.now tx.new.conn.now book_table
         (λ bs. (b : BookRow) → Has bs b → id ≡ b.id
         → OnOk result (HasBooks S.Store tx.new.conn.now (with_book_numbers id
         (numbers number horizon created edited imported import_edited moved_in deleted moved_out)
         bs))) }
-    ensures writes { GivenBooksTx S.Store tx.old.conn.now tx.new.conn.now
+    ensures writes { GivenTx S.Store tx.old.conn.now tx.new.conn.now book_table
         (λ bs. (b : BookRow) → Has bs b → id ≡ b.id
-        → OnOk result (WritesOnly S.Store tx.old.conn.now tx.new.conn.now 2)) }
+        → OnOk result (WritesOnly S.Store tx.old.conn.now tx.new.conn.now book_tree)) }
     ensures no_commit { NoCommit S.Store tx.old.conn.now tx.new.conn.now }
     ensures rolled_back { UndoneOnErr S.Store tx.old.conn.now tx.new.conn.now result }
-    ensures fails_from_outside { GivenBooksTx S.Store tx.old.conn.now tx.new.conn.now
+    ensures fails_from_outside { GivenTx S.Store tx.old.conn.now tx.new.conn.now book_table
         (λ bs. AcceptsNumbers bs id
         → WriteFailsFromOutside S.Store tx.old.conn.now tx.new.conn.now result) }
 {
@@ -195,16 +177,16 @@ pub fn renumber_book<S: Alter>(
     numbers: BookNumbers,
 ) -> Result<usize, Error>
     ensures same_reference { tx.new.conn.ghost_name ≡ tx.old.conn.ghost_name }
-    ensures renumbers { GivenBooksTx S.Store tx.old.conn.now tx.new.conn.now
+    ensures renumbers { GivenTx S.Store tx.old.conn.now tx.new.conn.now book_table
         (λ bs. (b : BookRow) → Has bs b → id ≡ b.id
         → OnOk result (HasBooks S.Store tx.new.conn.now
         (with_book_numbers id (numbers_of numbers) bs))) }
-    ensures writes { GivenBooksTx S.Store tx.old.conn.now tx.new.conn.now
+    ensures writes { GivenTx S.Store tx.old.conn.now tx.new.conn.now book_table
         (λ bs. (b : BookRow) → Has bs b → id ≡ b.id
-        → OnOk result (WritesOnly S.Store tx.old.conn.now tx.new.conn.now 2)) }
+        → OnOk result (WritesOnly S.Store tx.old.conn.now tx.new.conn.now book_tree)) }
     ensures no_commit { NoCommit S.Store tx.old.conn.now tx.new.conn.now }
     ensures rolled_back { UndoneOnErr S.Store tx.old.conn.now tx.new.conn.now result }
-    ensures fails_from_outside { GivenBooksTx S.Store tx.old.conn.now tx.new.conn.now
+    ensures fails_from_outside { GivenTx S.Store tx.old.conn.now tx.new.conn.now book_table
         (λ bs. AcceptsNumbers bs id
         → WriteFailsFromOutside S.Store tx.old.conn.now tx.new.conn.now result) }
 {
@@ -226,13 +208,10 @@ pub fn renumber_book<S: Alter>(
 /// Returns the id, the name and the nine numbers of every book, in the order of the octets of the
 /// names. No row is left out, whatever its columns hold.
 pub fn all_books<S: Alter>(conn: &mut Connection<S>) -> Result<Vec<Row>, Error>
-    ensures ordered { GivenBooks S.Store conn.old conn.new
+    ensures reads { Reads S.Store conn.old conn.new book_table result
         (λ bs. IfOk result (λ rows. AreRowsInOrder by_name book_shown bs rows.items)) }
     ensures lists { GivenTables S.Store conn.old conn.new
-        (ListsTable S.Store conn.old 2 book_listed result) }
-    ensures unchanged { UnchangedOnOk S.Store conn.old conn.new result }
-    ensures fails_from_outside { FailsFromOutside S.Store conn.old conn.new result }
-    ensures reads_only { OnlyReads S.Store conn.old conn.new }
+        (ListsTable S.Store conn.old book_tree book_listed result) }
 {
     conn.query_all(
         "SELECT id, name, number, horizon, created, edited, imported, import_edited, moved_in, \

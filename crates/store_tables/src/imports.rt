@@ -1,18 +1,7 @@
 //! Statements over the table `import_key`.
 //!
-//! The clauses of a read, over a disk that returned what was written and the declared tables;
-//! `imports` are the imports that the table held before the call:
-//! - `unchanged`: after a result, the connection is as it was; where the clause is
-//!   `UnchangedIfAnswered`, after `QueryReturnedNoRows` too.
-//! - `fails_from_outside`: an error but for lack of memory has an outside cause: the connection was
-//!   closed before, the disk failed during the call, or the connection limits the steps of a
-//!   statement. A look-up may also miss: it fails with `QueryReturnedNoRows`.
-//! - `reads_only`: on success and on error no transaction began, and a crash leaves what it could
-//!   leave before, whatever tables are declared. If no write was pending and the connection is
-//!   still open, it shows what it showed, and nothing was committed.
-//!
-//! The clauses of a write inside a transaction, over such a disk and such tables; no two of the
-//! `imports` share an id, or a key in one book:
+//! The clauses of a write inside a transaction, over a disk that returned what was written and the
+//! declared tables; no two of the `imports` share an id, or a key in one book:
 //! - `same_reference`: the transaction still borrows the same connection.
 //! - `writes`: after a success only this table was written, the rows obey the declared tables, and
 //!   the transaction is open.
@@ -23,26 +12,23 @@
 //!   but for lack of memory has an outside cause. An import is accepted if the engine has an id for
 //!   a new row, a book has the id but no import with the key, and the key has at most 2^20
 //!   octets.
+ghost use Rattle.store_tables.specs.Tables.{import_tree};
 ghost use Rattle.store_tables.specs.QueryResults.{FindsRow};
 ghost use Rattle.store_tables.specs.Acceptance.{AcceptsImport, HasFreeIds};
 ghost use Rattle.store_tables.specs.Books.{BookRow};
-ghost use Rattle.store_tables.specs.Imports.{import_cells, import_shown, has_key};
+ghost use Rattle.store_tables.specs.Imports.{import_cells, import_shown, has_key, import_table};
 ghost use Rattle.store_tables.specs.OnConnections.{
   AddsImport,
-  FailsFromOutside,
-  GivenImports,
-  GivenImportsTx,
   GivenTables,
+  GivenTx,
   HasBooks,
   ListsTable,
-  MissesOrFailsFromOutside,
+  LooksUp,
   NoCommit,
-  OnlyReads,
-  UnchangedIfAnswered,
-  UnchangedOnOk,
+  ReadsTables,
   UndoneOnErr,
   WriteFailsFromOutside,
-  WritesOnly,
+  WritesTable,
   table_rows,
 };
 ghost use Rattle.std.specs.Prelude.{◌≡◌, List, OnOk};
@@ -56,11 +42,8 @@ use sqlite::{Alter, Connection, Error, Row, Transaction, params};
 pub fn find_import<S: Alter>(conn: &mut Connection<S>, book: i64, key: &str) -> Result<Row, Error>
     // The row is that of an import of the book with the key. `QueryReturnedNoRows` is returned only
     // if there is none.
-    ensures finds { GivenImports S.Store conn.old conn.new
+    ensures { LooksUp S.Store conn.old conn.new import_table result
         (λ imports. FindsRow (has_key book key.now) import_shown imports result) }
-    ensures unchanged { UnchangedIfAnswered S.Store conn.old conn.new result }
-    ensures fails_from_outside { MissesOrFailsFromOutside S.Store conn.old conn.new result }
-    ensures reads_only { OnlyReads S.Store conn.old conn.new }
 {
     conn.query_row(
         "SELECT added, edited, same, number FROM import_key WHERE book = ?1 AND ikey = ?2",
@@ -85,16 +68,15 @@ pub fn insert_import<S: Alter>(
     ensures same_reference { tx.new.conn.ghost_name ≡ tx.old.conn.ghost_name }
 
     // The table holds the imports and the new one, under an id that none of them had.
-    ensures adds { GivenImportsTx S.Store tx.old.conn.now tx.new.conn.now
+    ensures adds { GivenTx S.Store tx.old.conn.now tx.new.conn.now import_table
         (λ imports. OnOk result
         (AddsImport S.Store tx.new.conn.now book key.now added edited same number imports)) }
-    ensures writes { GivenImportsTx S.Store tx.old.conn.now tx.new.conn.now
-        (λ _. OnOk result (WritesOnly S.Store tx.old.conn.now tx.new.conn.now 7)) }
+    ensures writes { WritesTable S.Store tx.old.conn.now tx.new.conn.now import_table result }
     ensures no_commit { NoCommit S.Store tx.old.conn.now tx.new.conn.now }
     ensures rolled_back { UndoneOnErr S.Store tx.old.conn.now tx.new.conn.now result }
-    ensures fails_from_outside { GivenImportsTx S.Store tx.old.conn.now tx.new.conn.now
+    ensures fails_from_outside { GivenTx S.Store tx.old.conn.now tx.new.conn.now import_table
         (λ imports. (bs : List BookRow) → HasBooks S.Store tx.old.conn.now bs
-        → HasFreeIds 1 (table_rows S.Store tx.old.conn.now 7)
+        → HasFreeIds 1 (table_rows S.Store tx.old.conn.now import_tree)
         → AcceptsImport bs imports book key.now
         → WriteFailsFromOutside S.Store tx.old.conn.now tx.new.conn.now result) }
 {
@@ -108,11 +90,9 @@ pub fn insert_import<S: Alter>(
 /// Returns every row of the table, whatever its columns hold: the row id, the book, the key, the
 /// cards added, edited and unchanged, and the number of the last change.
 pub fn all_imports<S: Alter>(conn: &mut Connection<S>) -> Result<Vec<Row>, Error>
-    ensures lists { GivenTables S.Store conn.old conn.new
-        (ListsTable S.Store conn.old 7 import_cells result) }
-    ensures unchanged { UnchangedOnOk S.Store conn.old conn.new result }
-    ensures fails_from_outside { FailsFromOutside S.Store conn.old conn.new result }
-    ensures reads_only { OnlyReads S.Store conn.old conn.new }
+    ensures { ReadsTables S.Store conn.old conn.new result
+        (GivenTables S.Store conn.old conn.new
+        (ListsTable S.Store conn.old import_tree import_cells result)) }
 {
     conn.query_all(
         "SELECT rowid, book, ikey, added, edited, same, number FROM import_key",

@@ -8,7 +8,7 @@
 //!   tables are declared; over the declared ones nothing was committed. `keeps_commit` says the
 //!   latter of any tables.
 //! - `rolled_back`: an error changed nothing, or rolled the whole transaction back.
-ghost use Rattle.store_tables.specs.Tables.{book_schema};
+ghost use Rattle.store_tables.specs.Tables.{book_schema, meta_tree};
 ghost use Rattle.store_tables.specs.OnConnections.{
   AddsSchema,
   InsideTx,
@@ -36,7 +36,7 @@ pub fn insert_schema<S: Alter>(tx: &mut Transaction<'_, S>, number: i64) -> Resu
         → OnOk result (AddsSchema S.Store tx.old.conn.now tx.new.conn.now number)) }
     ensures writes { InsideTx S.Store tx.old.conn.now tx.new.conn.now
         (tx.old.conn.now.schema ≡ book_schema
-        → OnOk result (WritesOnly S.Store tx.old.conn.now tx.new.conn.now 0)) }
+        → OnOk result (WritesOnly S.Store tx.old.conn.now tx.new.conn.now meta_tree)) }
     ensures no_commit { NoCommit S.Store tx.old.conn.now tx.new.conn.now }
     ensures keeps_commit { KeepsCommitInTx S.Store tx.old.conn.now tx.new.conn.now }
     ensures rolled_back { UndoneOnErr S.Store tx.old.conn.now tx.new.conn.now result }

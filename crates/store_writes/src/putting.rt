@@ -1,4 +1,5 @@
 //! Writes one member of a book together with the book's numbers.
+ghost use Rattle.store_tables.specs.Tables.{member_tree};
 ghost use Rattle.book_model.specs.BookChanges.{book_with_row};
 ghost use Rattle.book_model.specs.Counting.{counts_after_change};
 ghost use Rattle.book_model.specs.declared.change.Change.{Change};
@@ -67,8 +68,9 @@ pub fn write_member<S: Alter>(
         (λ _ _. OnOk result (ObeyTables S.Store tx.new.conn.now)) }
     ensures takes_one_id { (header : HeaderRow) → id ≡ pos header.id
         → InTxWithBook S.Store tx.old.conn.now tx.new.conn.now header
-        (λ _ _. (count : ℕ) → HasFreeIds (count + 1) (table_rows S.Store tx.old.conn.now 4)
-        → OnOk result (HasFreeIds count (table_rows S.Store tx.new.conn.now 4))) }
+        (λ _ _. (count : ℕ)
+        → HasFreeIds (count + 1) (table_rows S.Store tx.old.conn.now member_tree)
+        → OnOk result (HasFreeIds count (table_rows S.Store tx.new.conn.now member_tree))) }
     ensures keeps_commit { (header : HeaderRow) → id ≡ pos header.id
         → KeepsCommitWithBook S.Store tx.old.conn.now tx.new.conn.now header }
     ensures survives { SurvivesAsBefore S.Store tx.old.conn.now tx.new.conn.now }

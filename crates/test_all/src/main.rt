@@ -6,9 +6,10 @@
 use std::fs;
 use std::io::{Read, Write};
 use std::process::ExitCode;
+use test_connections::run_connection_rows;
 use test_faults::{run_all_cases, run_chosen, run_sweeps};
 use test_stores::{run_lines, run_sections};
-use test_support::{check_cards, check_formats, run_connection_rows};
+use test_support::{check_cards, check_formats};
 
 fn print(rt: &HostRuntime, octets: &[u8]) -> bool {
     rt.stdout().write_all(octets).is_ok()

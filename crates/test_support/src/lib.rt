@@ -1,10 +1,9 @@
 //! What the test programs share: the format of their rows, commands as lines of text, calls with
 //! little memory, and lists of commands for a disk that stops. Also the rows that need no tables:
-//! lines and cards, limits and pages, and connections whose store, reader or writer fails.
+//! lines and cards, limits and pages.
 #![tactic(auto)]
 
 mod cards;
-mod connections;
 pub mod crash_plans;
 mod feeding;
 mod formats;
@@ -13,6 +12,5 @@ pub mod rows;
 pub mod scripts;
 
 pub use cards::check_cards;
-pub use connections::run_connection_rows;
 pub use feeding::feed;
 pub use formats::check_formats;

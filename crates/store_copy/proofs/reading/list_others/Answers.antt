@@ -6,28 +6,31 @@ use Rattle.store_copy.proofs.reading.list_others.Goals as goal
 pub returns-in_err-imports-clause-reads_only : goal.returns-in_err-imports-clause-reads_only
 returns-in_err-imports-clause-reads_only g c =
     reads_then (state g.S.Store c.args.conn.now) (state g.S.Store c.all_books.new.conn)
-    (state g.S.Store c.all_imports.new.conn) c.all_books.ensures.reads_only
-    c.in_ok-books.ensures.unchanged c.all_imports.ensures.reads_only
+    (state g.S.Store c.all_imports.new.conn) c.all_books.ensures.reads.reads_only
+    c.in_ok-books.ensures.reads.unchanged c.all_imports.ensures.reads_only
 
 pub returns-in_err-keeps-clause-reads_only : goal.returns-in_err-keeps-clause-reads_only
 returns-in_err-keeps-clause-reads_only g c =
     reads_third (state g.S.Store c.args.conn.now) (state g.S.Store c.all_books.new.conn)
     (state g.S.Store c.all_imports.new.conn) (state g.S.Store c.all_keeps.new.conn)
-    c.in_ok-books.ensures.unchanged c.in_ok-imports.ensures.unchanged c.all_books.ensures.reads_only
+    c.in_ok-books.ensures.reads.unchanged c.in_ok-imports.ensures.unchanged
+    c.all_books.ensures.reads.reads_only
     c.all_imports.ensures.reads_only c.all_keeps.ensures.reads_only
 
 pub returns-clause-reads_only : goal.returns-clause-reads_only
 returns-clause-reads_only g c =
     reads_third (state g.S.Store c.args.conn.now) (state g.S.Store c.all_books.new.conn)
     (state g.S.Store c.all_imports.new.conn) (state g.S.Store c.all_keeps.new.conn)
-    c.in_ok-books.ensures.unchanged c.in_ok-imports.ensures.unchanged c.all_books.ensures.reads_only
+    c.in_ok-books.ensures.reads.unchanged c.in_ok-imports.ensures.unchanged
+    c.all_books.ensures.reads.reads_only
     c.all_imports.ensures.reads_only c.all_keeps.ensures.reads_only
 
 pub returns-clause-unchanged : goal.returns-clause-unchanged
 returns-clause-unchanged g c =
     all_unchanged (state g.S.Store c.args.conn.now) (state g.S.Store c.all_books.new.conn)
     (state g.S.Store c.all_imports.new.conn) (state g.S.Store c.all_keeps.new.conn)
-    c.in_ok-books.ensures.unchanged c.in_ok-imports.ensures.unchanged c.all_books.ensures.reads_only
+    c.in_ok-books.ensures.reads.unchanged c.in_ok-imports.ensures.unchanged
+    c.all_books.ensures.reads.reads_only
     c.all_imports.ensures.reads_only c.all_keeps.ensures.reads_only
     c.in_ok-keeps.ensures.unchanged
 
@@ -35,7 +38,8 @@ pub returns-clause-lists : goal.returns-clause-lists
 returns-clause-lists g c =
     lists_three (state g.S.Store c.args.conn.now) (state g.S.Store c.all_books.new.conn)
     (state g.S.Store c.all_imports.new.conn) (state g.S.Store c.all_keeps.new.conn)
-    c.in_ok-books.ensures.unchanged c.in_ok-imports.ensures.unchanged c.all_books.ensures.reads_only
+    c.in_ok-books.ensures.reads.unchanged c.in_ok-imports.ensures.unchanged
+    c.all_books.ensures.reads.reads_only
     c.all_imports.ensures.reads_only c.all_keeps.ensures.reads_only
     c.in_ok-books.books.items c.in_ok-imports.imports.items c.in_ok-keeps.keeps.items
-    c.in_ok-books.ensures.lists c.in_ok-imports.ensures.lists c.in_ok-keeps.ensures.lists
+    c.in_ok-books.ensures.lists c.in_ok-imports.ensures.returns c.in_ok-keeps.ensures.returns

@@ -1,5 +1,7 @@
-use Rattle.store_lookups.proofs.FindLemmas.{back_of, remembered_found}
-use Rattle.store_lookups.proofs.StoreFaultLemmas.{count_read, only_memory}
+use Rattle.std.proofs.Common.{[], ◌∷◌, ap, pos}
+use Rattle.sqlite.specs.declared.types.Value.TheVariants.{Int}
+use Rattle.store_lookups.proofs.FindLemmas.{back_of, remembered_found, shows_exact}
+use Rattle.store_lookups.proofs.StoreFaultLemmas.{few_counted, only_memory}
 use Rattle.store_lookups.proofs.lookups.count_removals.Goals as goal
 
 pub returns-in-Ok-clause-remembered : goal.returns-in-Ok-clause-remembered
@@ -8,12 +10,15 @@ returns-in-Ok-clause-remembered g c rows clean holds sound name =
     c.in_ok-id.ensures.fits c.id.ensures in
     let horizon = back_of c.in_ok-horizon.horizon c.horizon.result c.args.header.horizon
     c.in_ok-horizon.ensures.ok c.in_ok-horizon.ensures.fits c.horizon.ensures.value in
-    remembered_found rows name c.args.header c.in-Ok.row c.count_in.result sound
-    (rw (id, horizon) at (c.in-Ok.ensures.counts rows.members clean holds.schema holds.members))
-    c.count_in.ensures.count
+    remembered_found rows name c.args.header (Int (pos c.in-Ok.count) ∷ []) c.exact_count.result
+    sound (ap (λ n. Int (pos n) ∷ [])
+    (rw (id, horizon) at (c.in-Ok.ensures.returns rows.members clean holds.schema holds.members)))
+    (shows_exact c.in-Ok.count c.exact_count.result c.exact_count.ensures.count
+    c.exact_count.ensures.below)
 
 pub returns-in-Ok-clause-store_fault : goal.returns-in-Ok-clause-store_fault
 returns-in-Ok-clause-store_fault g c fits rows clean holds faultless =
-    only_memory c.count_in.result _ (count_read _ rows.members c.in-Ok.row c.count_in.result
-    (c.in-Ok.ensures.counts rows.members clean holds.schema holds.members) faultless.few_members
-    c.count_in.ensures.memory)
+    only_memory c.exact_count.result _ (few_counted _ rows.members c.in-Ok.count
+    c.exact_count.result
+    (c.in-Ok.ensures.returns rows.members clean holds.schema holds.members) faultless.few_members
+    c.exact_count.ensures.memory)

@@ -14,7 +14,7 @@ returns-in-Ok-clause-keep g c rows clean holds sound name =
     let id = back_of c.in_ok-id.id c.id.result c.args.header.id c.in_ok-id.ensures.ok
     c.in_ok-id.ensures.fits c.id.ensures in
     keep_found_in rows name c.args.header c.in-Ok.row c.number_in.result sound
-    (rw id at (c.in-Ok.ensures.finds rows.keeps clean holds.schema holds.keeps))
+    (rw id at (c.in-Ok.ensures.returns rows.keeps clean holds.schema holds.keeps))
     c.number_in.ensures.number
 
 pub returns-in_err-id-clause-store_fault : goal.returns-in_err-id-clause-store_fault
@@ -26,7 +26,7 @@ returns-in_err-id-clause-store_fault g c rows name clean holds accept free there
 
 pub returns-in-Ok-clause-store_fault : goal.returns-in-Ok-clause-store_fault
 returns-in-Ok-clause-store_fault g c rows name clean holds accept free there =
-    let found = c.in-Ok.ensures.finds rows.keeps clean holds.schema holds.keeps in
+    let found = c.in-Ok.ensures.returns rows.keeps clean holds.schema holds.keeps in
     let readable = all_has IsReadableKeep rows.keeps found.0 accept.keeps
     (has_filtered _ rows.keeps found.0 found.1).0 in
     only_memory c.number_in.result _ (c.number_in.ensures.memory (natural found.0.keep)
@@ -38,5 +38,5 @@ returns-in-Err-clause-store_fault g c rows name clean holds accept free there st
     c.in_ok-id.ensures.fits c.id.ensures in
     c.in-Err.ensures.fails_from_outside clean holds.schema
     (λ none. keep_there rows name c.args.header accept there
-    ((rw id at (c.in-Err.ensures.finds rows.keeps clean holds.schema holds.keeps)) none))
+    ((rw id at (c.in-Err.ensures.returns rows.keeps clean holds.schema holds.keeps)) none))
     (not_memory c.in-Err.error c.fault_of.result c.fault_of.ensures.value store)

@@ -12,7 +12,7 @@ returns-in-Ok-clause-state g c rows clean holds sound name =
     let id = back_of c.in_ok-id.id c.id.result c.args.header.id c.in_ok-id.ensures.ok
     c.in_ok-id.ensures.fits c.id.ensures in
     state_found rows name c.args.header c.args.uid.now c.in-Ok.row c.member_state_in.result sound
-    (rw id at (c.in-Ok.ensures.finds rows.members clean holds.schema holds.members))
+    (rw id at (c.in-Ok.ensures.returns rows.members clean holds.schema holds.members))
     (subst (λ h. IfOk c.member_state_in.result (ShowsState h c.in-Ok.row))
     c.horizon.ensures.value c.member_state_in.ensures.state)
 
@@ -22,12 +22,12 @@ returns-in-Err-QueryReturnedNoRows-clause-state g c rows clean holds sound name 
     let id = back_of c.in_ok-id.id c.id.result c.args.header.id c.in_ok-id.ensures.ok
     c.in_ok-id.ensures.fits c.id.ensures in
     state_missing rows name c.args.header c.args.uid.now
-    (λ _. (rw id at (c.in-Err-QueryReturnedNoRows.ensures.finds rows.members clean holds.schema
+    (λ _. (rw id at (c.in-Err-QueryReturnedNoRows.ensures.returns rows.members clean holds.schema
     holds.members)) c.in-Err-QueryReturnedNoRows.field-0-is)
 
 pub returns-in-Ok-clause-store_fault : goal.returns-in-Ok-clause-store_fault
 returns-in-Ok-clause-store_fault g c fits rows clean holds faultless =
-    let found = c.in-Ok.ensures.finds rows.members clean holds.schema holds.members in
+    let found = c.in-Ok.ensures.returns rows.members clean holds.schema holds.members in
     only_memory c.member_state_in.result _ (c.member_state_in.ensures.memory found.0
     (all_has IsFaultlessMember rows.members found.0 faultless.members
     (has_filtered _ rows.members found.0 found.1).0).readable found.2)

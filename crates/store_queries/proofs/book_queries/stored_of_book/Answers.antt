@@ -18,18 +18,18 @@ use Rattle.store_queries.proofs.book_queries.stored_of_book.Goals as goal
 pub returns-in-Some-clause-answers : goal.returns-in-Some-clause-answers
 returns-in-Some-clause-answers g c rows clean holds sound =
     live_found rows c.args.name.now c.args.uid.now c.in-Ok.row c.in_ok-stored.field-0
-    c.in-Some.stored sound (c.in-Ok.ensures.finds rows.books rows.members clean holds.schema
+    c.in-Some.stored sound (c.in-Ok.ensures.returns rows.books rows.members clean holds.schema
     holds.books holds.members) c.in_ok-stored.ensures.live c.in-Some.is
 
 pub returns-clause-answers : goal.returns-clause-answers
 returns-clause-answers g c rows clean holds sound =
     removed_found rows c.args.name.now c.args.uid.now c.in-Ok.row c.in_ok-stored.field-0 sound
-    (c.in-Ok.ensures.finds rows.books rows.members clean holds.schema holds.books holds.members)
+    (c.in-Ok.ensures.returns rows.books rows.members clean holds.schema holds.books holds.members)
     c.in_ok-stored.ensures.live c.in-None.is
 
 pub returns-in_err-stored-clause-store_fault : goal.returns-in_err-stored-clause-store_fault
 returns-in_err-stored-clause-store_fault g c rows clean holds faultless =
-    let found = c.in-Ok.ensures.finds rows.books rows.members clean holds.schema holds.books
+    let found = c.in-Ok.ensures.returns rows.books rows.members clean holds.schema holds.books
     holds.members in
     let m = found.2 in
     let readable = (all_has IsFaultlessMember rows.members m.0 faultless.members
@@ -49,7 +49,7 @@ returns-in-Err-QueryReturnedNoRows-clause-answers g c rows clean holds sound =
     c.in-Err-QueryReturnedNoRows.field-0-is in
     let early = clean_before _ mid new c.refuse_missing.ensures.reads_only.survives clean in
     let missing = card_missing rows name c.args.uid.now (λ b named _.
-    c.in-Err-QueryReturnedNoRows.ensures.finds rows.books rows.members early holds.schema
+    c.in-Err-QueryReturnedNoRows.ensures.returns rows.books rows.members early holds.schema
     holds.books holds.members b named c.in-Err-QueryReturnedNoRows.field-0-is) in
     subst (FollowsStep IsExactly c.refuse_missing.result) (sym missing)
     (over_then old mid new _ (λ k. FollowsStep IsExactly c.refuse_missing.result

@@ -13,7 +13,7 @@ returns-in-Ok-clause-answers g c rows clean holds sound name =
     let id = back_of c.in_ok-id.id c.id.result c.args.header.id c.in_ok-id.ensures.ok
     c.in_ok-id.ensures.fits c.id.ensures in
     cards_returned octet_map rows name c.args.header c.in-Ok.rows.items c.card_map.result sound
-    (rw id at (c.in-Ok.ensures.lists rows.members clean holds.schema holds.members))
+    (rw id at (c.in-Ok.ensures.returns rows.members clean holds.schema holds.members))
     (rw c.as_slice.ensures.value at c.card_map.ensures.cards) c.card_map.ensures.fault
 
 pub returns-in_err-id-clause-store_fault : goal.returns-in_err-id-clause-store_fault
@@ -24,7 +24,7 @@ pub returns-in-Ok-clause-store_fault : goal.returns-in-Ok-clause-store_fault
 returns-in-Ok-clause-store_fault g c fits rows clean holds faultless =
     let shown = all_in_order IsFaultlessMember by_changed member_shown _ c.in-Ok.rows.items
     (all_filtered IsFaultlessMember _ rows.members faultless.members)
-    (c.in-Ok.ensures.lists rows.members clean holds.schema holds.members) in
+    (c.in-Ok.ensures.returns rows.members clean holds.schema holds.members) in
     only_memory c.card_map.result _ ((rw c.as_slice.ensures.value at c.card_map.ensures.memory)
     shown)
 

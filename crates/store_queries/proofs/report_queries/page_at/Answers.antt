@@ -22,7 +22,7 @@ returns-in-Ok-clause-answers g c rows clean holds sound name =
       at,
       base,
       sym c.as_slice.ensures.value,
-    ) at (c.in-Ok.ensures.first rows.members clean holds.schema
+    ) at (c.in-Ok.ensures.returns rows.members clean holds.schema
     holds.members))) c.page_of_rows.ensures.fault
 
 pub returns-in_err-id-clause-store_fault : goal.returns-in_err-id-clause-store_fault
@@ -41,7 +41,7 @@ pub returns-in-Ok-clause-store_fault : goal.returns-in-Ok-clause-store_fault
 returns-in-Ok-clause-store_fault g c at base fits rows clean holds faultless =
     let shown = first_in_order IsFaultlessMember by_changed member_shown _ _ c.in-Ok.rows.items
     (all_filtered IsFaultlessMember _ rows.members faultless.members)
-    (c.in-Ok.ensures.first rows.members clean holds.schema holds.members) in
+    (c.in-Ok.ensures.returns rows.members clean holds.schema holds.members) in
     only_memory c.page_of_rows.result _
     ((rw c.as_slice.ensures.value at c.page_of_rows.ensures.memory) shown)
 

@@ -13,7 +13,7 @@ returns-clause-first g c rows clean holds sound name =
     let horizon = back_of c.in_ok-horizon.horizon c.horizon.result c.args.header.horizon
     c.in_ok-horizon.ensures.ok c.in_ok-horizon.ensures.fits c.horizon.ensures.value in
     first_found rows name c.args.header c.in-Ok.row c.in_ok-number.number sound
-    (rw (id, horizon) at (c.in-Ok.ensures.first rows.members clean holds.schema holds.members))
+    (rw (id, horizon) at (c.in-Ok.ensures.returns rows.members clean holds.schema holds.members))
     c.in_ok-number.ensures.number
 
 pub returns-in-Err-QueryReturnedNoRows-clause-first :
@@ -24,7 +24,7 @@ returns-in-Err-QueryReturnedNoRows-clause-first g c rows clean holds sound name 
     let horizon = back_of c.in_ok-horizon.horizon c.horizon.result c.args.header.horizon
     c.in_ok-horizon.ensures.ok c.in_ok-horizon.ensures.fits c.horizon.ensures.value in
     first_missing rows name c.args.header sound
-    (λ _. (rw (id, horizon) at (c.in-Err-QueryReturnedNoRows.ensures.first rows.members clean
+    (λ _. (rw (id, horizon) at (c.in-Err-QueryReturnedNoRows.ensures.returns rows.members clean
     holds.schema holds.members)) c.in-Err-QueryReturnedNoRows.field-0-is)
 
 pub returns-in_err-id-clause-store_fault : goal.returns-in_err-id-clause-store_fault
@@ -51,7 +51,7 @@ returns-in_err-number-clause-store_fault g c rows name clean holds accept free t
     c.in_ok-horizon.ensures.ok c.in_ok-horizon.ensures.fits c.horizon.ensures.value in
     let found = first_readable (pos c.args.header.horizon) (pos c.args.header.id) rows.members
     c.in-Ok.row accept.faultless.members
-    (rw (id, horizon) at (c.in-Ok.ensures.first rows.members clean holds.schema
+    (rw (id, horizon) at (c.in-Ok.ensures.returns rows.members clean holds.schema
     holds.members)) in
     memory_cause c.from_residual-in_err-number.result c.in_err-number.field-0.0 _
     c.from_residual-in_err-number.ensures.1 (c.in_err-number.ensures.memory found.0 found.1)

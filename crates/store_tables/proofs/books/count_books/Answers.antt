@@ -1,28 +1,48 @@
+use Rattle.std.proofs.Common.{rules, refl, ◌≡◌, Err, Ok, []}
 use Rattle.sqlite.specs.Held.{state}
+use Rattle.store_tables.proofs.Lookups.{reads_row}
 use Rattle.store_tables.proofs.Queries.{books_count_text}
 use Rattle.store_tables.proofs.Texts.{books_count_is, books_count_selects}
-use Rattle.store_tables.proofs.CountLemmas.{counts_books}
-use Rattle.store_tables.proofs.Lookups.{only_reads, ok_unchanged}
+use Rattle.store_tables.proofs.CountLemmas.{count_fails_as, counts_books, counts_then, some_count}
 use Rattle.store_tables.proofs.QueryFailures.{count_books_fails}
 use Rattle.store_tables.proofs.books.count_books.Goals as goal
 
-pub returns-clause-counts : goal.returns-clause-counts
-returns-clause-counts g c xs clean has rows =
-    counts_books (state g.S.Store c.args.conn.now) (state g.S.Store c.query_row.new.self) xs
-    c.query_row.result has rows (c.query_row.ensures.row clean)
+pub returns : goal.returns
+returns g c =
+    let old = state g.S.Store c.args.conn.now in
+    let new = state g.S.Store c.query_row.new.self in
+    let query = reads_row books_count_text _ old new books_count_selects books_count_is
+    c.query_row.ensures.mode
+    c.query_row.ensures.survives (Ok c.in_ok-row.row) c.in_ok-row.ensures.row
+    (λ clean has. count_books_fails old new (Ok c.in_ok-row.row) has
+    (c.in_ok-row.ensures.row clean)) in
+    let rest = counts_then old new c.in_ok-row.row c.count_in.result query
+    (λ clean has. some_count books_count_text _ old new 2 [] _ books_count_is refl c.in_ok-row.row
+    has
+    (c.in_ok-row.ensures.row clean)) c.count_in.ensures.memory in
+    record {
+      returns = λ xs clean has rows. c.count_in.ensures.count _
+          (counts_books old new xs (Ok c.in_ok-row.row) has rows
+          (c.in_ok-row.ensures.row clean));
+      unchanged = rest.unchanged;
+      fails_from_outside = rest.fails_from_outside;
+      reads_only = rest.reads_only;
+    }
 
-pub returns-clause-reads_only : goal.returns-clause-reads_only
-returns-clause-reads_only g c = only_reads books_count_text _ (state g.S.Store c.args.conn.now)
-    (state g.S.Store c.query_row.new.self) c.query_row.result books_count_selects books_count_is.2
-    c.query_row.ensures.row c.query_row.ensures.mode c.query_row.ensures.survives
-
-pub returns-clause-unchanged : goal.returns-clause-unchanged
-returns-clause-unchanged g c clean has =
-    ok_unchanged books_count_text _ (state g.S.Store c.args.conn.now)
-    (state g.S.Store c.query_row.new.self) c.query_row.result _ _ books_count_is.0 books_count_is.2
-    has (c.query_row.ensures.row clean)
-
-pub returns-clause-fails_from_outside : goal.returns-clause-fails_from_outside
-returns-clause-fails_from_outside g c clean has =
-    count_books_fails (state g.S.Store c.args.conn.now) (state g.S.Store c.query_row.new.self)
-    c.query_row.result has (c.query_row.ensures.row clean)
+pub returns-in_err-row : goal.returns-in_err-row
+returns-in_err-row g c =
+    let old = state g.S.Store c.args.conn.now in
+    let new = state g.S.Store c.query_row.new.self in
+    let said : c.from_residual.result ≡ Err c.in_err-row.field-0.0 = search rules in
+    let query = reads_row books_count_text _ old new books_count_selects books_count_is
+    c.query_row.ensures.mode
+    c.query_row.ensures.survives (Err c.in_err-row.field-0.0) c.in_err-row.ensures.row
+    (λ clean has. count_books_fails old new (Err c.in_err-row.field-0.0) has
+    (c.in_err-row.ensures.row clean)) in
+    let rest = count_fails_as old new c.in_err-row.field-0.0 c.from_residual.result query said in
+    record {
+      returns = λ xs clean has rows. rw said tt;
+      unchanged = rest.unchanged;
+      fails_from_outside = rest.fails_from_outside;
+      reads_only = rest.reads_only;
+    }

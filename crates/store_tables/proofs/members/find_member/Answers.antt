@@ -1,37 +1,33 @@
 use Rattle.std.proofs.Math.Facts.{to_z-of_z}
 use Rattle.sqlite.specs.Held.{state}
+use Rattle.store_tables.proofs.Lookups.{looks_up}
 use Rattle.store_tables.proofs.Queries.{find_text}
 use Rattle.store_tables.proofs.Texts.{find_is, find_selects}
 use Rattle.store_tables.proofs.FindLemmas.{finds_member}
-use Rattle.store_tables.proofs.Lookups.{only_reads, ok_unchanged}
 use Rattle.store_tables.proofs.QueryFailures.{find_member_fails}
 use Rattle.store_tables.proofs.members.find_member.Goals as goal
 
-pub returns-clause-finds : goal.returns-clause-finds
-returns-clause-finds g c xs clean has rows =
-    finds_member (state g.S.Store c.args.conn.now) (state g.S.Store c.query_row.new.self)
-    c.args.book c.args.uid.now xs c.query_row.result has rows (rw (
+pub returns : goal.returns
+returns g c =
+    let old = state g.S.Store c.args.conn.now in
+    let new = state g.S.Store c.query_row.new.self in
+    let rest = looks_up find_text _ old new find_selects find_is c.query_row.ensures.mode
+    c.query_row.ensures.survives c.query_row.result c.query_row.ensures.row
+    (λ clean has. find_member_fails old new c.args.book c.args.uid.now c.query_row.result has
+    (rw (
       c.params-to_sql.ensures,
       c.params-to_sql-2.ensures,
       to_z-of_z c.ranges.book,
-    ) at (c.query_row.ensures.row clean))
-
-pub returns-clause-reads_only : goal.returns-clause-reads_only
-returns-clause-reads_only g c = only_reads find_text _ (state g.S.Store c.args.conn.now)
-    (state g.S.Store c.query_row.new.self) c.query_row.result find_selects find_is.2
-    c.query_row.ensures.row c.query_row.ensures.mode c.query_row.ensures.survives
-
-pub returns-clause-unchanged : goal.returns-clause-unchanged
-returns-clause-unchanged g c clean has =
-    ok_unchanged find_text _ (state g.S.Store c.args.conn.now)
-    (state g.S.Store c.query_row.new.self) c.query_row.result _ _ find_is.0 find_is.2 has
-    (c.query_row.ensures.row clean)
-
-pub returns-clause-fails_from_outside : goal.returns-clause-fails_from_outside
-returns-clause-fails_from_outside g c clean has =
-    find_member_fails (state g.S.Store c.args.conn.now) (state g.S.Store c.query_row.new.self)
-    c.args.book c.args.uid.now c.query_row.result has (rw (
-      c.params-to_sql.ensures,
-      c.params-to_sql-2.ensures,
-      to_z-of_z c.ranges.book,
-    ) at (c.query_row.ensures.row clean))
+    ) at (c.query_row.ensures.row clean))) in
+    record {
+      returns = λ xs clean has rows. finds_member old new c.args.book c.args.uid.now xs
+          c.query_row.result has rows
+          (rw (
+            c.params-to_sql.ensures,
+            c.params-to_sql-2.ensures,
+            to_z-of_z c.ranges.book,
+          ) at (c.query_row.ensures.row clean));
+      unchanged = rest.unchanged;
+      fails_from_outside = rest.fails_from_outside;
+      reads_only = rest.reads_only;
+    }

@@ -1,8 +1,8 @@
 //! The order `try` with an input or an output that fails at some call, and the lines of stops that
 //! no order reaches.
 
-use crate::connections::devices::{FailingReader, FailingWriter};
-use crate::connections::parts::Row;
+use crate::devices::{FailingReader, FailingWriter};
+use crate::parts::Row;
 use base_types::NoMemory;
 use book_http::ServeFault;
 use cli_orders::{Stop, run_try};

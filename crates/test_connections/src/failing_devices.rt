@@ -1,9 +1,9 @@
 //! Serves a row's first connection with a device that fails at one read or write, for each in turn,
 //! until none fails. The row's other connections then show the books.
 
-use crate::connections::devices::{FailingReader, FailingWriter};
-use crate::connections::parts::{Connection, Row};
-use crate::connections::serving::push_replies;
+use crate::devices::{FailingReader, FailingWriter};
+use crate::parts::{Connection, Row};
+use crate::serving::push_replies;
 use base_types::NoMemory;
 use book_http::{ServeFault, Service, serve};
 use http_requests::Handler;

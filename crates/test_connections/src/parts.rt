@@ -1,6 +1,6 @@
 //! Parses the input. Each part begins with a mark and a title in one line.
 
-use crate::connections::settings::{Setting, parse_setting};
+use crate::settings::{Setting, parse_setting};
 use base_types::NoMemory;
 use std::alloc::Global;
 

@@ -1,10 +1,10 @@
 //! Feeds connections to a service.
 
-use crate::connections::parts::{CONNECTION, Connection};
-use crate::feeding::feed;
+use crate::parts::{CONNECTION, Connection};
 use base_types::NoMemory;
 use http_requests::{Handler, Session};
 use std::alloc::Global;
+use test_support::feed;
 
 /// Adds the replies to a new connection with these octets, and whether it is closed then.
 pub(crate) fn push_replies<H: Handler>(

@@ -1,17 +1,17 @@
 //! Runs the rows.
 
-use crate::connections::failing_devices::push_failures;
-use crate::connections::first_path::{push_paths, push_stops};
-use crate::connections::parts::{ROW, Row, first_line, parse_row, split_at_mark};
-use crate::connections::serving::push_connections;
-use crate::connections::settings::Setting;
-use crate::scripts::FailingStore;
+use crate::failing_devices::push_failures;
+use crate::first_path::{push_paths, push_stops};
+use crate::parts::{ROW, Row, first_line, parse_row, split_at_mark};
+use crate::serving::push_connections;
+use crate::settings::Setting;
 use base_types::NoMemory;
 use book_http::Service;
 use http_requests::Handler;
 use http_requests::laws::{cuts_make_no_difference, pieces_are_fed_as_one, streams_can_be_cut};
 use std::alloc::Global;
 use sync_core::{Fault, Limits, PlainStore};
+use test_support::scripts::FailingStore;
 
 /// Laws, without effect at run time: the replies to a connection depend only on the octets that it
 /// sends, not on how these are cut into pieces.
