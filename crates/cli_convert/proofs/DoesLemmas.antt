@@ -9,7 +9,7 @@ use Rattle.cli_convert.specs.Readers.{ReadsHead}
 use Rattle.cli_convert.specs.declared.charset_reader.Encoding.{Encoding}
 use Rattle.cli_convert.specs.declared.charset_reader.Encoding.TheVariants.{Found}
 use Rattle.cli_convert.specs.declared.options.ConvertOptions.{ConvertOptions}
-use Rattle.cli_convert.proofs.TextLemmas.{file_known, parts_known}
+use Rattle.cli_convert.proofs.TextLemmas.{file_seen, parts_known}
 
 if_more : {A : Type 0} {P Q : A → Type 0} (chosen : Option A) → ((a : A) → P a → Q a)
     → IfSome chosen P → IfSome chosen Q
@@ -40,10 +40,10 @@ does_known place written wanted texts whole known before after summary same does
 
 -- what is known of a file that was opened
 pub opened_known : {C : Type 0} (charset : Option C) (encoding : Encoding)
-    (octets rest text : Option (List ℕ)) (front : List ℕ)
+    (octets rest text : Option (List ℕ)) (front seen : List ℕ) → seen ≡ front
     → (charset ≡ None → encoding ≡ Found) → ReadsHead 64 octets rest front
     → (encoding ≡ Found → IfSome rest (λ more. text
-    ≡ Some (text_octets ((shown_mark front ++ front) ++ more))))
+    ≡ Some (text_octets ((shown_mark seen ++ seen) ++ more))))
     → IfSome (known_text charset octets) (λ known. text ≡ Some known)
-opened_known charset encoding octets rest text front found opens reads =
-    file_known charset octets rest text front found opens reads
+opened_known charset encoding octets rest text front seen is found opens reads =
+    file_seen charset octets rest text front seen is found opens reads

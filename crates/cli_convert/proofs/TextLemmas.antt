@@ -1,6 +1,6 @@
 -- The text of a file, from its octets to what is converted.
 use Rattle.std.proofs.Common.{◌≡◌, ◌++◌, ◌∷◌, ◌∙◌, [], ℕ, Bool, List, Option, Some, None, IsTrue}
-use Rattle.std.proofs.Common.{IfSome, refl, sym, ap, subst, take, drop, append_assoc}
+use Rattle.std.proofs.Common.{IfSome, refl, sym, ap, subst, subst₂, take, drop, append_assoc}
 use Rattle.std.proofs.lemmas.List.{take-append-drop}
 use Rattle.core.specs.Fmt.{option_append}
 use Rattle.import_text.specs.Texts.{text_octets}
@@ -54,6 +54,16 @@ file_known None (Some octets) rest left front found head reads =
     ≡ Some (text_octets ((shown_mark front ++ front) ++ more)))) head.1
     (reads (found refl)))
 
+-- the same, if the first octets were read through a slice of them
+pub file_seen : {C Found : Type 0} (charset : Option C) (octets rest left : Option (List ℕ))
+    (front seen : List ℕ) → seen ≡ front → (charset ≡ None → Found) → ReadsHead 64 octets rest front
+    → (Found → IfSome rest (λ more. left ≡ Some (text_octets ((shown_mark seen ++ seen) ++ more))))
+    → IfSome (known_text charset octets) (λ text. left ≡ Some text)
+file_seen charset octets rest left front seen is found head reads =
+    file_known charset octets rest left front found head
+    (λ known. subst (λ xs. IfSome rest (λ more. left
+    ≡ Some (text_octets ((shown_mark xs ++ xs) ++ more)))) is (reads known))
+
 -- what is read of a text once its head is known
 pub gives_text : (content dated : Content) (whole rest left : Option (List ℕ))
     (above head : List ℕ) → ReadsHead 1048576 whole rest head
@@ -75,6 +85,21 @@ gives_text content dated (Some text) rest left above head reads cards date none 
     ap (λ xs. (xs ++ head) ++ drop 1048576 text) (none taken)
     ∙ ap (λ xs. xs ++ drop 1048576 text) reads.0 ∙ take-append-drop 1048576 text in
     (taken, (given.0, given.1 ∙ ap (λ xs. Some (with_line_feeds given.0 xs)) same))
+
+-- the same, if it is read through slices of what stands above it and of its head
+pub gives_seen : (content dated : Content) (whole rest left : Option (List ℕ))
+    (above head above-seen head-seen : List ℕ) → above-seen ≡ above → head-seen ≡ head
+    → ReadsHead 1048576 whole rest head
+    → (IsTrue (is_card_head head) → content ≡ Cards) → (content ≡ Cards → dated ≡ Cards)
+    → (dated ≡ Cards → above ≡ [])
+    → (dated ≡ Cards → IfSome rest (λ more. (returns : Bool)
+    × (left ≡ Some (with_line_feeds returns ((above-seen ++ head-seen) ++ more)))))
+    → GivesText dated left whole
+gives_seen content dated whole rest left above head above-seen head-seen up is reads cards date none
+    ends =
+    gives_text content dated whole rest left above head reads cards date none
+    (λ taken. subst₂ (λ xs ys. IfSome rest (λ more. (returns : Bool)
+    × (left ≡ Some (with_line_feeds returns ((xs ++ ys) ++ more))))) up is (ends taken))
 
 -- a text that is known to a reader gives what is known of the file's
 pub gives_known : (content : Content) (left whole known : Option (List ℕ))
@@ -142,18 +167,20 @@ parts_known texts (p ∷ parts) whole (Some text) same are =
 
 -- what one more file gives, from its opening on
 pub next_gives : {C : Type 0} (charset : Option C) (encoding : Encoding)
-    (octets rest text after left : Option (List ℕ)) (front above head : List ℕ)
-    (content dated : Content) → (charset ≡ None → encoding ≡ Found)
-    → ReadsHead 64 octets rest front
+    (octets rest text after left : Option (List ℕ))
+    (front above head front-seen above-seen head-seen : List ℕ) (content dated : Content)
+    → front-seen ≡ front → above-seen ≡ above → head-seen ≡ head
+    → (charset ≡ None → encoding ≡ Found) → ReadsHead 64 octets rest front
     → (encoding ≡ Found → IfSome rest (λ more. text
-    ≡ Some (text_octets ((shown_mark front ++ front) ++ more))))
+    ≡ Some (text_octets ((shown_mark front-seen ++ front-seen) ++ more))))
     → ReadsHead 1048576 text after head → (IsTrue (is_card_head head) → content ≡ Cards)
     → (content ≡ Cards → dated ≡ Cards) → (dated ≡ Cards → above ≡ [])
     → (dated ≡ Cards → IfSome after (λ more. (returns : Bool)
-    × (left ≡ Some (with_line_feeds returns ((above ++ head) ++ more)))))
+    × (left ≡ Some (with_line_feeds returns ((above-seen ++ head-seen) ++ more)))))
     → GivesText dated left (known_text charset octets)
-next_gives charset encoding octets rest text after left front above head content dated found opens
-    reads begins cards date none ends =
+next_gives charset encoding octets rest text after left front above head front-seen above-seen
+    head-seen content dated at up is found opens reads begins cards date none ends =
     gives_known dated left text (known_text charset octets)
-    (gives_text content dated text after left above head begins cards date none ends)
-    (file_known charset octets rest text front found opens reads)
+    (gives_seen content dated text after left above head above-seen head-seen up is begins cards
+    date none ends)
+    (file_seen charset octets rest text front front-seen at found opens reads)
