@@ -1,6 +1,6 @@
 -- Files that are converted one after another.
-use Rattle.std.proofs.Common.{◌≡◌, ◌≢◌, ◌∷◌, ◌++◌, ◌+◌, ◌∙◌, [], ℕ, List, Option, refl, sym, ap}
-use Rattle.std.proofs.Common.{subst, map, length, append_assoc, append-nil}
+use Rattle.std.proofs.Common.{◌≡◌, ◌≢◌, ◌∷◌, ◌++◌, ◌∙◌, [], ℕ, List, Option, refl, sym, ap}
+use Rattle.std.proofs.Common.{subst, map, append_assoc, append-nil}
 use Rattle.std.specs.Prelude.{flat_map}
 use Rattle.std.specs.List.{AllByRecursion, AllPairs}
 use Rattle.std.specs.Io.KnownBytes.{Appends}
@@ -21,6 +21,7 @@ use Rattle.card_conversion.specs.declared.course.Course.{Course}
 use Rattle.card_conversion.specs.declared.ledger.Summary.{Summary}
 use Rattle.card_conversion.proofs.RowLemmas.{rows_written}
 use Rattle.cli_convert.specs.Endings.{Converts, Prints}
+use Rattle.cli_convert.specs.FileTexts.{ArePartsOf}
 
 more_uids : (parts : List Part) (part : Part) → uids_of_all (parts ++ part ∷ []) ≡ uids_of_all parts
     ++ uids_of part
@@ -75,22 +76,22 @@ module _ {A : Type 0} (writes : List Line → A → A → Type 0) where
   }
 
   -- all of them were
-  pub all_done : (parts : List Part) (count : ℕ) (course : Course) (before now : A)
-      → length parts ≡ count → ConvertsParts writes parts course before now
-      → Converts writes count before now (counts_of course)
-  all_done parts count course before now many sofar = record {
+  pub all_done : (parts : List Part) (texts : List (Option (List ℕ))) (course : Course)
+      (before now : A) → ArePartsOf texts parts → ConvertsParts writes parts course before now
+      → Converts writes texts before now (counts_of course)
+  all_done parts texts course before now are sofar = record {
     parts = parts;
-    many = many;
+    are = are;
     fates = sofar.fates;
     written = sofar.written;
     counts = sofar.counts;
   }
 
 -- their cards were written as rows
-pub printed : {A : Type 0} (contents : A → Option (List ℕ)) (count : ℕ) (before : Option (List ℕ))
-    (start now : A) (summary : Summary)
+pub printed : {A : Type 0} (contents : A → Option (List ℕ)) (texts : List (Option (List ℕ)))
+    (before : Option (List ℕ)) (start now : A) (summary : Summary)
     → Appends before (contents start) header_row_text
-    → Converts (λ card a b. Appends (contents a) (contents b) (card_row_text card)) count start
+    → Converts (λ card a b. Appends (contents a) (contents b) (card_row_text card)) texts start
     now summary
     → ((cards : List (List Line)) → csv_text Cards cards ≡ header_row_text ++ flat_map card_row_text
     cards)
@@ -99,10 +100,10 @@ pub printed : {A : Type 0} (contents : A → Option (List ℕ)) (count : ℕ) (b
     → ((parts : List Part) → AllHaveFates [] parts → AllByRecursion IsCard (cards_of_all parts))
     → ((parts : List Part) → AllHaveFates [] parts
     → AllPairs (λ a b. a ≢ b) (map uid_of (cards_of_all parts)))
-    → Prints count before (contents now) summary
-printed contents count before start now summary header converts text read rules distinct = record {
+    → Prints texts before (contents now) summary
+printed contents texts before start now summary header converts text read rules distinct = record {
   parts = converts.parts;
-  many = converts.many;
+  are = converts.are;
   fates = converts.fates;
   counts = converts.counts;
   rows = rows_written contents (cards_of_all converts.parts) before start now header

@@ -1,11 +1,11 @@
 //! A sink that writes a file for each card into a folder.
 
 use crate::create::write_new;
+use crate::file_system::FileSystem;
 use crate::names::card_path;
 use base_types::Text;
 use card_conversion::{CardSink, Delivery, SinkFault};
 use std::alloc::Global;
-use std::fs::Files;
 use vcard_text::{Card, write_card};
 
 /// Writes a file for each card into a folder.
@@ -15,10 +15,14 @@ pub(crate) struct CardFiles<'a, F> {
     pub(crate) folder: &'a str,
 }
 
-impl<'a, F: Files> CardSink for CardFiles<'a, F> {
+impl<'a, F: FileSystem> CardSink for CardFiles<'a, F> {
     ghost use Rattle.std.specs.Prelude.{◌≡◌};
+    ghost use Rattle.cli_convert.specs.CardFolders.{IsCardFile};
 
-    ghost writes = { λ _ before after. after ≡ before };
+    // A card is written to a file of its own, with its canonical text and nothing else.
+    ghost writes = { λ card before after. (after ≡ before)
+        × IsCardFile (F.place before.files.now) (F.written before.files.now) before.folder.now
+        card };
 
     fn put(&mut self, alloc: Global, number: u64, card: &Card) -> Result<Delivery, SinkFault> {
         let text = write_card(alloc, card)?;

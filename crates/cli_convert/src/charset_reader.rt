@@ -1,5 +1,10 @@
 //! `CharsetReader`: reads a file in a named encoding as UTF-8.
 
+ghost use Rattle.std.specs.Prelude.{◌≡◌, IfOk, None, Some};
+ghost use Rattle.cli_convert.specs.FileTexts.{shown_mark, shows_big, shows_little};
+ghost use Rattle.cli_convert.specs.declared.charset_reader.Decoding.TheVariants.{Plain};
+ghost use Rattle.cli_convert.specs.declared.charset_reader.Encoding.TheVariants.{Found};
+
 use base_types::NoMemory;
 use import_text::{Charset, begins_with_word, charset_named, joined, read_charset};
 use std::alloc::Global;
@@ -7,7 +12,7 @@ use std::io;
 use std::io::{Error, ErrorKind, Read};
 
 /// The number of octets that show whether a file is of UTF-16.
-const MARK_OCTETS: usize = 4;
+const SHOWN_OCTETS: usize = 4;
 
 /// The number of octets that are read at once.
 const CHUNK_OCTETS: usize = 4096;
@@ -41,7 +46,9 @@ fn is_named(name: &str, one: &str, other: &str) -> bool {
 pub(crate) fn encoding_named(
     alloc: Global,
     name: Option<&str>,
-) -> Result<Option<Encoding>, NoMemory> {
+) -> Result<Option<Encoding>, NoMemory>
+    ensures { IfOk result (λ encoding. name.entry ≡ None → encoding ≡ Some Found) }
+{
     let Some(name) = name else {
         return Ok(Some(Encoding::Found));
     };
@@ -63,12 +70,32 @@ pub(crate) fn encoding_named(
     }
 }
 
+/// Whether the octets begin with two characters of ASCII in UTF-16, the less significant octet of
+/// each first.
+fn shows_little(front: &[u8]) -> bool
+    ensures { result ≡ shows_little front.now }
+{
+    front.len() >= SHOWN_OCTETS && front[0] != 0 && front[1] == 0 && front[2] != 0 && front[3] == 0
+}
+
+/// Whether the octets begin with two characters of ASCII in UTF-16, the more significant octet of
+/// each first.
+fn shows_big(front: &[u8]) -> bool
+    ensures { result ≡ shows_big front.now }
+{
+    front.len() >= SHOWN_OCTETS && front[0] == 0 && front[1] != 0 && front[2] == 0 && front[3] != 0
+}
+
 /// The mark of the order that the first octets show, if these are UTF-16 of ASCII; else empty.
-fn shown_mark(front: &[u8]) -> &'static [u8] {
-    match front.get(..MARK_OCTETS).unwrap_or(front) {
-        [a, 0, b, 0] if *a != 0 && *b != 0 => b"\xFF\xFE",
-        [0, a, 0, b] if *a != 0 && *b != 0 => b"\xFE\xFF",
-        _ => b"",
+fn shown_mark(front: &[u8]) -> &'static [u8]
+    ensures { result.now ≡ shown_mark front.now }
+{
+    if shows_little(front) {
+        b"\xFF\xFE"
+    } else if shows_big(front) {
+        b"\xFE\xFF"
+    } else {
+        b""
     }
 }
 
@@ -86,24 +113,30 @@ fn begins_card(front: &[u8]) -> bool {
 impl Encoding {
     /// The byte order mark that a file in UTF-16 lacks that begins with these octets. Empty for any
     /// other file.
-    pub(crate) fn missing_mark(self, front: &[u8]) -> &'static [u8] {
+    pub(crate) fn missing_mark(self, front: &[u8]) -> &'static [u8]
+        ensures { self ≡ Found → result.now ≡ shown_mark front.now }
+    {
+        if matches!(self, Encoding::Found) {
+            return shown_mark(front);
+        }
         if has_mark(front) {
             return b"";
         }
         match self {
-            Encoding::Found => shown_mark(front),
             Encoding::Utf16 if shown_mark(front).is_empty() => b"\xFE\xFF",
             Encoding::Utf16 => shown_mark(front),
             Encoding::Utf16Little => b"\xFF\xFE",
             Encoding::Utf16Big => b"\xFE\xFF",
-            Encoding::Utf8 | Encoding::Octets(_) => b"",
+            Encoding::Found | Encoding::Utf8 | Encoding::Octets(_) => b"",
         }
     }
 
     /// How a file is decoded that begins with these octets. One with a byte order mark of UTF-16 is
     /// decoded later; so is one of cards in UTF-8, line by line, since a line may have another
     /// character set, or be folded within a character.
-    pub(crate) fn decoding(self, front: &[u8]) -> Decoding {
+    pub(crate) fn decoding(self, front: &[u8]) -> Decoding
+        ensures { self ≡ Found → result ≡ Plain }
+    {
         match self {
             Encoding::Octets(charset) => Decoding::Octets(charset),
             Encoding::Utf8 if !has_mark(front) && !begins_card(front) => Decoding::Utf8,
@@ -169,7 +202,9 @@ impl<R: Read + Drop> CharsetReader<R> {
     }
 
     /// Takes the next octets of UTF-8. None are the end of the source.
-    fn take_utf8(&mut self, more: &[u8]) -> Result<(), NoMemory> {
+    fn take_utf8(&mut self, more: &[u8]) -> Result<(), NoMemory>
+        ensures { self.new.decoding ≡ self.old.decoding }
+    {
         let octets = joined(self.alloc, self.begun.as_slice(), more)?;
         let octets = octets.as_slice();
         let open = if more.is_empty() { 0 } else { open_len(octets) };
@@ -184,7 +219,9 @@ impl<R: Read + Drop> CharsetReader<R> {
 
     /// Reads some octets of UTF-8. There is no text only at the end of the source: a character has
     /// ended after as many reads as it has octets.
-    fn read_utf8(&mut self) -> io::Result<()> {
+    fn read_utf8(&mut self) -> io::Result<()>
+        ensures { self.new.decoding ≡ self.old.decoding }
+    {
         for _read in 0..CHAR_OCTETS_MAX {
             let mut chunk = [0; CHUNK_OCTETS];
             let count = self.reader.read(&mut chunk)?;
@@ -199,7 +236,9 @@ impl<R: Read + Drop> CharsetReader<R> {
     }
 
     /// Reads some octets of a character set. There are none at the end of the source.
-    fn read_octets(&mut self, charset: Charset) -> io::Result<()> {
+    fn read_octets(&mut self, charset: Charset) -> io::Result<()>
+        ensures { self.new.decoding ≡ self.old.decoding }
+    {
         let mut chunk = [0; CHUNK_OCTETS];
         let count = self.reader.read(&mut chunk)?;
         let octets = chunk.get(..count).unwrap_or(&[]);
@@ -214,7 +253,9 @@ impl<R: Read + Drop> CharsetReader<R> {
     }
 
     /// Reads some text. There is none at the end of the source.
-    fn read_more(&mut self) -> io::Result<()> {
+    fn read_more(&mut self) -> io::Result<()>
+        ensures { self.new.decoding ≡ self.old.decoding }
+    {
         match self.decoding {
             Decoding::Plain => Ok(()),
             Decoding::Utf8 => self.read_utf8(),
@@ -224,6 +265,11 @@ impl<R: Read + Drop> CharsetReader<R> {
 }
 
 impl<R: Read + Drop> Read for CharsetReader<R> {
+    ghost use Rattle.cli_convert.specs.Readers.{charset_left};
+
+    // What is known is only what is given on as it is.
+    ghost remaining = { λ text. charset_left R.remaining text };
+
     fn read(&mut self, buf: &mut [u8]) -> io::Result<usize> {
         if matches!(self.decoding, Decoding::Plain) {
             return self.reader.read(buf);

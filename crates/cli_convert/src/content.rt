@@ -1,21 +1,21 @@
 //! What a file has: cards, rows of cards, or contacts.
-ghost use Rattle.std.specs.Prelude.{◌≡◌, IfOk, IsTrue};
+ghost use Rattle.std.specs.Prelude.{◌≡◌, ◌≤◌, ◌<◌, IfOk, IsTrue, length};
+ghost use Rattle.std.specs.Io.KnownBytes.{Consumes, IsAtEnd};
 ghost use Rattle.csv_cards.specs.Exports.{is_export};
-ghost use Rattle.cli_convert.specs.declared.content.Content.TheVariants.{Export};
+ghost use Rattle.cli_convert.specs.FileTexts.{is_card_head};
+ghost use Rattle.cli_convert.specs.declared.content.Content.TheVariants.{Cards, Export};
+ghost use Rattle.vcard_text.specs.Spelling.{without_bom};
 
 use base_types::NoMemory;
 use card_conversion::is_quoted_export;
 use contact_csv::{Header, find_header};
 use csv_cards::is_export;
-use import_text::begins_with_word;
+use import_text::{begins_with_word, fill};
 use std::alloc::Global;
-use std::io::{ErrorKind, Read};
+use std::io::{Error, ErrorKind, Read};
 
 /// The number of octets from which a file's content is known.
 pub(crate) const HEAD_OCTETS: usize = 1_048_576;
-
-/// The most reads of the head. Each returns at least one octet, is interrupted, or is the last.
-const READS_MAX: u32 = 1_000_000;
 
 /// What a file has.
 #[derive(Clone, Copy)]
@@ -38,6 +38,20 @@ fn is_csv_path(path: &str) -> bool {
     }
 }
 
+/// The octets without a byte order mark.
+fn without_bom(octets: &[u8]) -> &[u8]
+    ensures { result.now ≡ without_bom octets.now }
+{
+    octets.strip_prefix(b"\xEF\xBB\xBF").unwrap_or(octets)
+}
+
+/// Whether a text that begins with these octets is taken for cards.
+fn is_card_head(head: &[u8]) -> bool
+    ensures { result ≡ is_card_head head.now }
+{
+    !is_export(head) && begins_with_word(without_bom(head), b"BEGIN:VCARD")
+}
+
 /// What a file at the path has that begins with these octets. `columns` says what its columns
 /// become, and may be empty.
 pub(crate) fn content_of<'a>(
@@ -46,14 +60,14 @@ pub(crate) fn content_of<'a>(
     head: &[u8],
     columns: &'a str,
 ) -> Result<Content<'a>, NoMemory>
-    ensures { IfOk result (λ content. IsTrue (is_export head.now) → content ≡ Export) }
+    ensures export { IfOk result (λ content. IsTrue (is_export head.now) → content ≡ Export) }
+    ensures cards { IfOk result (λ content. IsTrue (is_card_head head.now) → content ≡ Cards) }
 {
+    if is_card_head(head) {
+        return Ok(Content::Cards);
+    }
     if is_export(head) || is_quoted_export(head) {
         return Ok(Content::Export);
-    }
-    let text = head.strip_prefix(b"\xEF\xBB\xBF").unwrap_or(head);
-    if begins_with_word(text, b"BEGIN:VCARD") {
-        return Ok(Content::Cards);
     }
     if let Some(header) = find_header(alloc, head, columns)? {
         return Ok(Content::Contacts(header));
@@ -79,30 +93,33 @@ impl From<std::alloc::AllocError> for HeadFault {
     }
 }
 
+/// The fault for an error of reading.
+fn head_fault(error: Error) -> HeadFault {
+    match error.kind() {
+        ErrorKind::OutOfMemory => HeadFault::Memory,
+        _ => HeadFault::Unreadable,
+    }
+}
+
 /// The first octets of a reader, at most `size`.
 pub(crate) fn read_head<R: Read>(
     alloc: Global,
     reader: &mut R,
     size: usize,
-) -> Result<Vec<u8>, HeadFault> {
+) -> Result<Vec<u8>, HeadFault>
+    ensures len { IfOk result (λ head. length head.items ≤ size) }
+    ensures read { IfOk result (λ head.
+        Consumes (R.remaining reader.old) (R.remaining reader.new) head.items) }
+    ensures end { IfOk result (λ head. length head.items < size
+        → IsAtEnd (R.remaining reader.new)) }
+{
     let mut head = Vec::new(alloc);
     head.resize(size, 0)?;
-    let mut count = 0;
-    for _read in 0..READS_MAX {
-        let Some(room) = head.as_mut_slice().get_mut(count..) else {
-            break;
-        };
-        if room.is_empty() {
-            break;
+    match fill(reader, head.as_mut_slice()) {
+        Ok(count) => {
+            head.truncate(count);
+            Ok(head)
         }
-        match reader.read(room) {
-            Ok(0) => break,
-            Ok(more) => count = count.saturating_add(more),
-            Err(error) if error.kind() == ErrorKind::Interrupted => {}
-            Err(error) if error.kind() == ErrorKind::OutOfMemory => return Err(HeadFault::Memory),
-            Err(_) => return Err(HeadFault::Unreadable),
-        }
+        Err(error) => Err(head_fault(error)),
     }
-    head.truncate(count);
-    Ok(head)
 }

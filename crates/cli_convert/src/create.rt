@@ -1,11 +1,13 @@
 //! Creates files, and never overwrites one.
+ghost use Rattle.std.specs.Prelude.{IfOk, IfSome, IsTrue, ◌≡◌};
+ghost use Rattle.cli_convert.specs.MadeFiles.{IsEmpty, IsMade};
+ghost use Rattle.cli_convert.specs.CreatedFiles.{IsCreated};
 
+use crate::file_system::FileSystem;
 use base_types::{NoMemory, Text};
 use card_conversion::SinkFault;
 use std::alloc::Global;
-use std::fs;
-use std::fs::{File, Files};
-use std::io::{ErrorKind, Write};
+use std::io::ErrorKind;
 
 /// What came of creating a file.
 #[derive(Drop)]
@@ -17,53 +19,60 @@ pub(crate) enum Created<T> {
 }
 
 /// The fault for a file that can't be written.
-pub(crate) fn unwritten(alloc: Global, path: &str) -> Result<SinkFault, NoMemory> {
+fn unwritten(alloc: Global, path: &str) -> Result<SinkFault, NoMemory> {
     let words = Text::new(format!(in alloc; "{path} can't be written")?);
     Ok(SinkFault::Failed(words))
 }
 
 /// Creates a file, unless there is one of that name.
-pub(crate) fn create_new<F: Files>(
+pub(crate) fn create_new<F: FileSystem>(
     alloc: Global,
     files: &F,
     path: &str,
-) -> Result<Created<F::File>, SinkFault> {
-    match File::create_new(files, path) {
+) -> Result<Created<F::NewFile>, SinkFault>
+    ensures { IfOk result (IsCreated (F.place files.now) (F.written files.now) path.now) }
+{
+    match files.create_new(path) {
         Ok(file) => Ok(Created::File(file)),
         Err(error) if error.kind() == ErrorKind::AlreadyExists => Ok(Created::Exists),
         Err(_) => Err(unwritten(alloc, path)?),
     }
 }
 
-/// Writes all octets to a file.
-pub(crate) fn write_to<W: Write>(
+/// Writes all octets to the end of a file that was made.
+pub(crate) fn write_to<F: FileSystem>(
     alloc: Global,
-    file: &mut W,
+    files: &F,
+    file: &mut F::NewFile,
     path: &str,
     octets: &[u8],
 ) -> Result<(), SinkFault> {
-    match file.write_all(octets) {
+    match files.write_all(file, octets) {
         Ok(()) => Ok(()),
         Err(_) => Err(unwritten(alloc, path)?),
     }
 }
 
 /// Writes octets to a new file. `false` if there is a file or a folder of that name.
-pub(crate) fn write_new<F: Files>(
+pub(crate) fn write_new<F: FileSystem>(
     alloc: Global,
     files: &F,
     path: &str,
     octets: &[u8],
-) -> Result<bool, SinkFault> {
-    match create_new(alloc, files, path)? {
-        Created::File(mut file) => {
-            if let Err(fault) = write_to(alloc, &mut file, path, octets) {
-                // No part of it stays, if the system lets it be removed.
-                let _removed = fs::remove_file(files, path);
-                return Err(fault);
-            }
-            Ok(true)
+) -> Result<bool, SinkFault>
+    ensures { IfOk result (λ made. IsTrue made
+        → IsMade (F.place files.now) (F.written files.now) path.now octets.now) }
+{
+    let mut file = match create_new(alloc, files, path)? {
+        Created::File(file) => file,
+        Created::Exists => return Ok(false),
+    };
+    match files.write_all(&mut file, octets) {
+        Ok(()) => Ok(true),
+        Err(_) => {
+            // No part of it stays, if the system lets it be removed.
+            let _removed = files.remove_new(path, file);
+            Err(unwritten(alloc, path)?)
         }
-        Created::Exists => Ok(false),
     }
 }

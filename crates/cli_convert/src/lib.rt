@@ -6,6 +6,7 @@ mod charset_reader;
 mod content;
 mod create;
 mod exit;
+mod file_system;
 mod media_files;
 mod names;
 mod opening;
@@ -14,8 +15,10 @@ mod row_files;
 mod run;
 mod several;
 mod sources;
+mod system;
 
 pub use card_conversion::RowsSink;
 pub use contact_columns::DateOrder;
+pub use file_system::FileSystem;
 pub use options::ConvertOptions;
 pub use run::run_convert;

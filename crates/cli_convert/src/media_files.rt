@@ -1,11 +1,11 @@
 //! A sink that writes a file for each picture or sound that a card is carried without.
 
 use crate::create::write_new;
+use crate::file_system::FileSystem;
 use crate::names::media_path;
 use base_types::Text;
 use card_conversion::{MediaDelivery, MediaOwner, MediaSink, SinkFault};
 use std::alloc::Global;
-use std::fs::Files;
 
 /// Writes files into a folder, if one is given.
 #[derive(Drop)]
@@ -14,7 +14,7 @@ pub(crate) struct MediaFiles<'a, F> {
     pub(crate) folder: Option<&'a str>,
 }
 
-impl<'a, F: Files> MediaSink for MediaFiles<'a, F> {
+impl<'a, F: FileSystem> MediaSink for MediaFiles<'a, F> {
     ghost use Rattle.std.specs.Prelude.{◌≡◌};
 
     ghost takes = { λ _ _ before after. after ≡ before };

@@ -1,4 +1,11 @@
 //! Opens the file that is converted, and finds what it has.
+ghost use Rattle.std.specs.Prelude.{◌≡◌, ◌++◌, IfOk, IfSome, IsTrue, None, Some, ℕ, List};
+ghost use Rattle.import_text.specs.Readers.{text_left};
+ghost use Rattle.import_text.specs.Texts.{text_octets};
+ghost use Rattle.cli_convert.specs.FileTexts.{is_card_head, shown_mark};
+ghost use Rattle.cli_convert.specs.Readers.{ReadsHead, whole_left};
+ghost use Rattle.cli_convert.specs.declared.charset_reader.Encoding.TheVariants.{Found};
+ghost use Rattle.cli_convert.specs.declared.content.Content.TheVariants.{Cards};
 
 use crate::charset_reader::{CharsetReader, Encoding, encoding_named};
 use crate::content::{Content, HEAD_OCTETS, HeadFault, content_of, read_head};
@@ -6,13 +13,12 @@ use crate::exit::{
     ConvertStop, foreign_file, open_dates, unknown_charset, unknown_header, unreadable,
     wrong_columns,
 };
+use crate::file_system::FileSystem;
 use crate::options::ConvertOptions;
 use card_conversion::foreign_format;
 use contact_columns::{DateOrder, Header, RowText, made_header, read_date_order, wish_fault};
 use import_text::TextReader;
 use std::alloc::Global;
-use std::fs;
-use std::fs::Files;
 use std::io::{Chain, ErrorKind, Read};
 
 /// The number of octets from which it is known how a file is decoded.
@@ -24,7 +30,10 @@ fn head_of<R: Read>(
     path: &str,
     reader: &mut R,
     size: usize,
-) -> Result<Vec<u8>, ConvertStop> {
+) -> Result<Vec<u8>, ConvertStop>
+    ensures { IfOk result (λ head.
+        ReadsHead size (R.remaining reader.old) (R.remaining reader.new) head.items) }
+{
     match read_head(alloc, reader, size) {
         Ok(head) => Ok(head),
         Err(HeadFault::Memory) => Err(ConvertStop::Memory),
@@ -37,7 +46,10 @@ fn read_as_text<R: Read + Drop>(
     alloc: Global,
     path: &str,
     file: R,
-) -> Result<TextReader<R>, ConvertStop> {
+) -> Result<TextReader<R>, ConvertStop>
+    ensures { IfOk result (λ text. IfSome (R.remaining file) (λ octets.
+        text_left R.remaining text ≡ Some (text_octets octets))) }
+{
     match TextReader::new(alloc, file) {
         Ok(reader) => Ok(reader),
         Err(error) if error.kind() == ErrorKind::OutOfMemory => Err(ConvertStop::Memory),
@@ -46,12 +58,15 @@ fn read_as_text<R: Read + Drop>(
 }
 
 /// Opens the file, and reads its first octets.
-pub(crate) fn open_file<F: Files>(
+pub(crate) fn open_file<F: FileSystem>(
     alloc: Global,
     files: &F,
     path: &str,
-) -> Result<(Vec<u8>, F::File), ConvertStop> {
-    let Ok(mut file) = fs::open(files, path) else {
+) -> Result<(Vec<u8>, F::Source), ConvertStop>
+    ensures { IfOk result (λ opened. ReadsHead 64 (F.octets files.now path.now)
+        (F.Source.remaining opened.1) opened.0.items) }
+{
+    let Ok(mut file) = files.open(path) else {
         return Err(unreadable(alloc, path));
     };
     let front = head_of(alloc, path, &mut file, FRONT_OCTETS)?;
@@ -68,7 +83,11 @@ pub(crate) fn text_after<'a, R: Read + Drop>(
     encoding: Encoding,
     front: &'a [u8],
     file: R,
-) -> Result<FileText<'a, R>, ConvertStop> {
+) -> Result<FileText<'a, R>, ConvertStop>
+    ensures { IfOk result (λ text. encoding ≡ Found → IfSome (R.remaining file) (λ rest.
+        whole_left R.remaining text
+        ≡ Some (text_octets ((shown_mark front.now ++ front.now) ++ rest)))) }
+{
     let whole = encoding.missing_mark(front).chain(front).chain(file);
     let reader = CharsetReader {
         alloc,
@@ -85,7 +104,9 @@ pub(crate) fn text_after<'a, R: Read + Drop>(
 pub(crate) fn wanted_encoding(
     alloc: Global,
     wanted: ConvertOptions<'_>,
-) -> Result<Encoding, ConvertStop> {
+) -> Result<Encoding, ConvertStop>
+    ensures { IfOk result (λ encoding. wanted.entry.charset ≡ None → encoding ≡ Found) }
+{
     match encoding_named(alloc, wanted.charset)? {
         Some(encoding) => Ok(encoding),
         None => Err(unknown_charset(alloc, wanted.file, wanted.charset.unwrap_or(""))),
@@ -112,7 +133,12 @@ pub(crate) fn read_content<'a, R: Read>(
     alloc: Global,
     wanted: ConvertOptions<'a>,
     reader: &mut R,
-) -> Result<(Vec<u8>, Content<'a>), ConvertStop> {
+) -> Result<(Vec<u8>, Content<'a>), ConvertStop>
+    ensures head { IfOk result (λ read. ReadsHead 1048576 (R.remaining reader.old)
+        (R.remaining reader.new) read.0.items) }
+    ensures cards { IfOk result (λ read. IsTrue (is_card_head read.0.items)
+        → read.1 ≡ Cards) }
+{
     let path = wanted.file;
     let head = head_of(alloc, path, reader, HEAD_OCTETS)?;
     if let Some(words) = foreign_format(head.as_slice()) {
@@ -126,14 +152,6 @@ pub(crate) fn read_content<'a, R: Read>(
             Err(wrong_columns(alloc, path, "the file has cards, and no columns"))
         }
         content => Ok((head, content)),
-    }
-}
-
-/// Whether there is a file at the path, which can be read twice.
-pub(crate) fn is_file<F: Files>(files: &F, path: &str) -> bool {
-    match fs::metadata(files, path) {
-        Ok(found) => found.is_file(),
-        Err(_) => false,
     }
 }
 
@@ -159,7 +177,7 @@ fn dates_in<R: Read + Drop>(
 
 /// The order of day and month in the dates of the file, which is opened once more for it. A stop if
 /// it can't be read, or if its dates don't show the order.
-fn file_dates<F: Files>(
+fn file_dates<F: FileSystem>(
     alloc: Global,
     files: &F,
     wanted: ConvertOptions<'_>,
@@ -174,19 +192,21 @@ fn file_dates<F: Files>(
 
 /// What the file has. If it has contacts, with the order of day and month in its dates: the one
 /// that is wanted, or else the one that they show, if the file can be read twice.
-pub(crate) fn with_dates<'a, F: Files>(
+pub(crate) fn with_dates<'a, F: FileSystem>(
     alloc: Global,
     files: &F,
     wanted: ConvertOptions<'a>,
     content: Content<'a>,
-) -> Result<Content<'a>, ConvertStop> {
+) -> Result<Content<'a>, ConvertStop>
+    ensures { content.entry ≡ Cards → IfOk result (λ dated. dated ≡ Cards) }
+{
     let Content::Contacts(header) = content else {
         return Ok(content);
     };
     if let Some(dates) = wanted.dates {
         return Ok(Content::Contacts(header.with_dates(dates)));
     }
-    if !is_file(files, wanted.file) {
+    if !files.is_file(wanted.file) {
         return Ok(content);
     }
     let dates = file_dates(alloc, files, wanted, header)?;

@@ -31,7 +31,10 @@ pub struct ConvertOptions<'a> {
 
 impl<'a> ConvertOptions<'a> {
     /// These options for another file: all but the path are as they were.
-    pub(crate) fn of_file(self, file: &'a str) -> ConvertOptions<'a> {
+    pub(crate) fn of_file(self, file: &'a str) -> ConvertOptions<'a>
+        ensures file { result.file.now ≡ file.now }
+        ensures charset { result.charset ≡ self.entry.charset }
+    {
         ConvertOptions {
             file,
             more: self.more,

@@ -1,10 +1,10 @@
 //! A sink that writes rows to files, each within the bounds of an import.
 
 use crate::create::{Created, create_new, write_to};
+use crate::file_system::FileSystem;
 use base_types::{NoMemory, Text};
 use card_conversion::{CardSink, Delivery, SinkFault, header_text, row_text};
 use std::alloc::Global;
-use std::fs::Files;
 use vcard_text::Card;
 
 /// The file to which rows are written, with the room that it has left.
@@ -18,7 +18,7 @@ struct RowFile<T> {
 
 /// Writes rows to files that are numbered from 1.
 #[derive(Drop)]
-pub(crate) struct RowFiles<'a, F: Files> {
+pub(crate) struct RowFiles<'a, F: FileSystem> {
     files: &'a F,
     /// What stands before the number in the name of each file.
     front: Text,
@@ -26,10 +26,10 @@ pub(crate) struct RowFiles<'a, F: Files> {
     octets_max: u64,
     /// The number of files so far.
     pub(crate) count: u64,
-    current: Option<RowFile<F::File>>,
+    current: Option<RowFile<F::NewFile>>,
 }
 
-impl<'a, F: Files> RowFiles<'a, F> {
+impl<'a, F: FileSystem> RowFiles<'a, F> {
     /// Files whose paths begin with `front`, with at most these numbers of rows and octets.
     pub(crate) fn new(
         files: &'a F,
@@ -65,7 +65,7 @@ impl<'a, F: Files> RowFiles<'a, F> {
                 return Err(SinkFault::Failed(Text::new(words)));
             }
         };
-        write_to(alloc, &mut file, path.as_str(), header)?;
+        write_to(alloc, self.files, &mut file, path.as_str(), header)?;
         self.count = number;
         self.current = Some(RowFile {
             file,
@@ -88,7 +88,13 @@ impl<'a, F: Files> RowFiles<'a, F> {
     fn write_row(&mut self, alloc: Global, row: &[u8]) -> Result<(), SinkFault> {
         match &mut self.current {
             Some(current) => {
-                write_to(alloc, &mut current.file, current.path.as_str(), row)?;
+                write_to(
+                    alloc,
+                    self.files,
+                    &mut current.file,
+                    current.path.as_str(),
+                    row,
+                )?;
                 current.rows_left = current.rows_left.saturating_sub(1);
                 current.octets_left = current.octets_left.saturating_sub(row.len() as u64);
                 Ok(())
@@ -98,7 +104,7 @@ impl<'a, F: Files> RowFiles<'a, F> {
     }
 }
 
-impl<'a, F: Files> CardSink for RowFiles<'a, F> {
+impl<'a, F: FileSystem> CardSink for RowFiles<'a, F> {
     ghost use Rattle.std.specs.Prelude.{⊤};
 
     ghost writes = { λ _ _ _. ⊤ };

@@ -5,13 +5,18 @@
 //! `card_conversion`): its card was written, which is called carried; or it is white space, or a
 //! row without a value; or it has the UID of an earlier card, which it repeats; or it is refused.
 //! The summary counts the written ones, those of them that were changed, and the refused ones.
-ghost use Rattle.std.specs.Prelude.{◌≡◌, ◌⊎◌, ◌+◌, ◌<◌, IfOk, IsTrue, is_some, length};
-ghost use Rattle.cli_convert.specs.Endings.{EndsConversion, Prints, prints_rows};
+ghost use Rattle.std.specs.Prelude.{◌≡◌, ◌⊎◌, ◌<◌, ◌∷◌, ℕ, List, Option, IfOk, IfSome, IsTrue};
+ghost use Rattle.std.specs.Prelude.{is_some};
+ghost use Rattle.cli_convert.specs.CardFolders.{FillsFolder};
+ghost use Rattle.cli_convert.specs.Endings.{Does, Ends, Prints, is_for_cards, prints_rows};
+ghost use Rattle.cli_convert.specs.FileTexts.{more_texts, texts_of};
+ghost use Rattle.cli_convert.specs.Sources.{GivesText};
 
 use crate::card_files::CardFiles;
 use crate::content::Content;
 use crate::create::{Created, create_new};
 use crate::exit::{ConvertStop, end, existing_file, stop_of};
+use crate::file_system::FileSystem;
 use crate::names::rows_front;
 use crate::opening::{open_file, read_content, text_after, wanted_encoding, with_dates};
 use crate::options::ConvertOptions;
@@ -22,8 +27,6 @@ use card_conversion::laws::{written_cards_differ, written_rows_are_read};
 use card_conversion::{ConversionFault, Report, RowsSink, Summary, ends_with_returns};
 use contact_columns::left_out_columns;
 use std::alloc::Global;
-use std::fs;
-use std::fs::Files;
 use std::io::{Read, Write};
 
 /// The most rows of an import.
@@ -32,22 +35,14 @@ const ROWS_MAX: u64 = 10_000;
 /// The most octets of an import.
 const OCTETS_MAX: u64 = 8_388_608;
 
-/// Whether there is a folder at the path.
-fn is_folder<F: Files>(files: &F, path: &str) -> bool {
-    match fs::metadata(files, path) {
-        Ok(found) => found.is_dir(),
-        Err(_) => false,
-    }
-}
-
 /// Fails if a folder is given but there is none.
-fn check_folder<F: Files>(
+fn check_folder<F: FileSystem>(
     alloc: Global,
     files: &F,
     folder: Option<&str>,
 ) -> Result<(), ConvertStop> {
     match folder {
-        Some(folder) if !is_folder(files, folder) => match format!(in alloc;
+        Some(folder) if !files.is_folder(folder) => match format!(in alloc;
             "{folder} is no folder"
         ) {
             Ok(words) => Err(ConvertStop::Device(Text::new(words))),
@@ -58,11 +53,11 @@ fn check_folder<F: Files>(
 }
 
 /// Creates the file for the report, if one is wanted.
-fn wanted_report<F: Files>(
+fn wanted_report<F: FileSystem>(
     alloc: Global,
     files: &F,
     wanted: ConvertOptions<'_>,
-) -> Result<Option<F::File>, ConvertStop> {
+) -> Result<Option<F::NewFile>, ConvertStop> {
     let Some(path) = wanted.report else {
         return Ok(None);
     };
@@ -107,13 +102,13 @@ fn report_end<E: Write, T: Write>(
 }
 
 /// Converts the first file, whose text this is, and those after it to files of rows.
-fn convert_to_row_files<F: Files, R: Read + Drop, E: Write>(
+fn convert_to_row_files<F: FileSystem, R: Read + Drop, E: Write>(
     alloc: Global,
     files: &F,
     wanted: ConvertOptions<'_>,
     content: Content<'_>,
     text: R,
-    report: &mut Report<E, F::File>,
+    report: &mut Report<E, F::NewFile>,
 ) -> Result<Summary, ConvertStop> {
     let front = rows_front(alloc, wanted.file, wanted.folder)?;
     let rows_max = wanted.rows.unwrap_or(ROWS_MAX);
@@ -125,15 +120,19 @@ fn convert_to_row_files<F: Files, R: Read + Drop, E: Write>(
 }
 
 /// Converts the first file, whose text this is, and those after it to a file for each card.
-fn convert_to_card_files<F: Files, R: Read + Drop, E: Write>(
+fn convert_to_card_files<F: FileSystem, R: Read + Drop, E: Write>(
     alloc: Global,
     files: &F,
     wanted: ConvertOptions<'_>,
     folder: &str,
     content: Content<'_>,
     text: R,
-    report: &mut Report<E, F::File>,
-) -> Result<Summary, ConvertStop> {
+    report: &mut Report<E, F::NewFile>,
+) -> Result<Summary, ConvertStop>
+    ensures { (whole : Option (List ℕ)) → GivesText content.entry (R.remaining text) whole
+        → IfOk result (λ summary. FillsFolder (F.place files.now) (F.written files.now) folder.now
+        (whole ∷ more_texts (F.octets files.now) wanted.entry) summary) }
+{
     let mut sink = CardFiles { files, folder };
     let summary = convert_all(alloc, files, wanted, content, text, &mut sink, report)?;
     report_end(alloc, wanted, summary, Some(summary.written), report)?;
@@ -141,16 +140,17 @@ fn convert_to_card_files<F: Files, R: Read + Drop, E: Write>(
 }
 
 /// Converts the first file, whose text this is, and those after it to rows on a writer.
-fn convert_to_writer<F: Files, R: Read + Drop, W: Write, E: Write>(
+fn convert_to_writer<F: FileSystem, R: Read + Drop, W: Write, E: Write>(
     alloc: Global,
     files: &F,
     wanted: ConvertOptions<'_>,
     content: Content<'_>,
     text: R,
     rows: &mut RowsSink<W>,
-    report: &mut Report<E, F::File>,
+    report: &mut Report<E, F::NewFile>,
 ) -> Result<Summary, ConvertStop>
-    ensures { IfOk result (λ summary. Prints (length wanted.entry.more.now + 1)
+    ensures { (whole : Option (List ℕ)) → GivesText content.entry (R.remaining text) whole
+        → IfOk result (λ summary. Prints (whole ∷ more_texts (F.octets files.now) wanted.entry)
         (W.contents rows.old.writer) (W.contents rows.new.writer) summary) }
 {
     // Laws: the cards of files have different UIDs, and rows of such cards are read back.
@@ -166,18 +166,19 @@ fn convert_to_writer<F: Files, R: Read + Drop, W: Write, E: Write>(
 }
 
 /// Converts the first file, whose text this is, and those after it to what is wanted.
-fn convert_opened<F: Files, R: Read + Drop, W: Write, E: Write>(
+fn convert_opened<F: FileSystem, R: Read + Drop, W: Write, E: Write>(
     alloc: Global,
     files: &F,
     wanted: ConvertOptions<'_>,
     content: Content<'_>,
     text: R,
     rows: &mut RowsSink<W>,
-    report: &mut Report<E, F::File>,
+    report: &mut Report<E, F::NewFile>,
 ) -> Result<Summary, ConvertStop>
-    ensures { IfOk result (λ summary. IsTrue (prints_rows wanted.entry)
-        → Prints (length wanted.entry.more.now + 1) (W.contents rows.old.writer)
-        (W.contents rows.new.writer) summary) }
+    ensures { (whole : Option (List ℕ)) → GivesText content.entry (R.remaining text) whole
+        → IfOk result (Does (F.place files.now) (F.written files.now) wanted.entry
+        (whole ∷ more_texts (F.octets files.now) wanted.entry) (W.contents rows.old.writer)
+        (W.contents rows.new.writer)) }
 {
     if wanted.has_bounds() {
         return convert_to_row_files(alloc, files, wanted, content, text, report);
@@ -191,17 +192,17 @@ fn convert_opened<F: Files, R: Read + Drop, W: Write, E: Write>(
 }
 
 /// Converts the text of the first file, and the files after it, once all of them are known.
-fn convert_text<F: Files, R: Read + Drop, W: Write, E: Write>(
+fn convert_text<F: FileSystem, R: Read + Drop, W: Write, E: Write>(
     alloc: Global,
     files: &F,
     wanted: ConvertOptions<'_>,
     text: R,
     rows: &mut RowsSink<W>,
-    report: &mut Report<E, F::File>,
+    report: &mut Report<E, F::NewFile>,
 ) -> Result<Summary, ConvertStop>
-    ensures { IfOk result (λ summary. IsTrue (prints_rows wanted.entry)
-        → Prints (length wanted.entry.more.now + 1) (W.contents rows.old.writer)
-        (W.contents rows.new.writer) summary) }
+    ensures { IfOk result (Does (F.place files.now) (F.written files.now) wanted.entry
+        (R.remaining text ∷ more_texts (F.octets files.now) wanted.entry)
+        (W.contents rows.old.writer) (W.contents rows.new.writer)) }
 {
     let mut reader = text;
     let (head, content) = read_content(alloc, wanted, &mut reader)?;
@@ -216,16 +217,16 @@ fn convert_text<F: Files, R: Read + Drop, W: Write, E: Write>(
 }
 
 /// Opens the first file, and converts it and those after it.
-fn convert<F: Files, W: Write, E: Write>(
+fn convert<F: FileSystem, W: Write, E: Write>(
     alloc: Global,
     files: &F,
     wanted: ConvertOptions<'_>,
     rows: &mut RowsSink<W>,
-    report: &mut Report<E, F::File>,
+    report: &mut Report<E, F::NewFile>,
 ) -> Result<Summary, ConvertStop>
-    ensures { IfOk result (λ summary. IsTrue (prints_rows wanted.entry)
-        → Prints (length wanted.entry.more.now + 1) (W.contents rows.old.writer)
-        (W.contents rows.new.writer) summary) }
+    ensures { IfOk result (Does (F.place files.now) (F.written files.now) wanted.entry
+        (texts_of (F.octets files.now) wanted.entry) (W.contents rows.old.writer)
+        (W.contents rows.new.writer)) }
 {
     let encoding = wanted_encoding(alloc, wanted)?;
     let (front, file) = open_file(alloc, files, wanted.file)?;
@@ -244,7 +245,7 @@ fn convert<F: Files, W: Write, E: Write>(
 /// standard output or standard error can't be used, or there is no memory. It is only tested what
 /// becomes of files, a folder and standard error, and of standard output if the conversion stopped,
 /// and that nothing is written before each file was opened.
-pub fn run_convert<F: Files, W: Write, E: Write + Drop>(
+pub fn run_convert<F: FileSystem, W: Write, E: Write + Drop>(
     alloc: Global,
     files: &F,
     wanted: ConvertOptions<'_>,
@@ -253,18 +254,30 @@ pub fn run_convert<F: Files, W: Write, E: Write + Drop>(
 ) -> u8
     ensures status { (result ≡ 0) ⊎ ((result ≡ 1) ⊎ (result ≡ 3)) }
 
+    // The cards that were carried are those of the files that are given, each file once, in order.
+    // Where it is known what a file holds, no character set is given, and it begins as a card, they
+    // are those of pieces that together are its whole text. Of rows no clause says that they are
+    // the file's own. Each piece or row has its fate after all before it; that a row which counts
+    // as a repeat is the same contact as the earlier one is only tested. The status is 0 if the
+    // summary counts none as refused, and otherwise 1. With `photos` it may also be 1 where that
+    // says 0: no clause says when a photo is lost.
+
     // A conversion to standard output that didn't stop wrote one header and a row for each card
     // that was carried, and nothing else. They are read back as these cards, of which no two have
-    // one UID. The cards are those of as many lists of pieces or rows as files are given, and each
-    // piece or row has its fate after all before it; no clause says that these are the files' own.
-    // The status is 0 if the summary counts none as refused, and otherwise 1. With `photos` it may
-    // also be 1 where that says 0: no clause says when a photo is lost. That a row which counts as
-    // a repeat is the same contact as the earlier one is only tested.
+    // one UID.
     ensures printed { result < 3 → IsTrue (prints_rows wanted.entry)
-        → EndsConversion (is_some wanted.entry.photos) (length wanted.entry.more.now + 1)
-        (W.contents rows.old.writer) (W.contents rows.new.writer) result }
+        → Ends (is_some wanted.entry.photos) (Prints (texts_of (F.octets files.now) wanted.entry)
+        (W.contents rows.old.writer) (W.contents rows.new.writer)) result }
+
+    // A conversion to a file for each card that didn't stop made a file in the folder for each card
+    // that was carried, with its canonical text and nothing else, where something is known of new
+    // files. A file that was there stays as it is: no call of a file system changes one.
+    ensures filled { result < 3 → IfSome wanted.entry.folder (λ folder.
+        IsTrue (is_for_cards wanted.entry) → Ends (is_some wanted.entry.photos)
+        (FillsFolder (F.place files.now) (F.written files.now) folder.now
+        (texts_of (F.octets files.now) wanted.entry)) result) }
 {
-    let mut report: Report<E, F::File> = Report::new(alloc, errors);
+    let mut report: Report<E, F::NewFile> = Report::new(alloc, errors);
     let done = convert(alloc, files, wanted, rows, &mut report);
     let lost = report.has_lost_media();
     end(alloc, done, wanted.photos.is_some(), lost, &mut report)

@@ -1,12 +1,19 @@
 //! Converts one file, and others after it.
-ghost use Rattle.std.specs.Prelude.{◌≡◌, ◌+◌, ℕ, List, IfOk, OnOk, length};
-ghost use Rattle.card_conversion.specs.Courses.{ConvertsPart, Knows, Part};
+ghost use Rattle.std.specs.Prelude.{◌≡◌, ◌++◌, ◌∷◌, ℕ, Bool, List, Option, IfOk, IfSome, OnOk};
+ghost use Rattle.std.specs.Prelude.{Some, [], map, drop};
+ghost use Rattle.card_conversion.specs.Courses.{Knows};
+ghost use Rattle.card_conversion.specs.LineEnds.{with_line_feeds};
 ghost use Rattle.cli_convert.specs.Endings.{Converts};
+ghost use Rattle.cli_convert.specs.FileTexts.{known_text, more_texts};
+ghost use Rattle.cli_convert.specs.Sources.{ConvertsFile, GivesText};
+ghost use Rattle.cli_convert.specs.Readers.{ends_left};
+ghost use Rattle.cli_convert.specs.declared.content.Content.TheVariants.{Cards};
 
 use crate::content::Content;
 use crate::exit::{ConvertStop, no_second_reading, stop_of};
+use crate::file_system::FileSystem;
 use crate::media_files::MediaFiles;
-use crate::opening::{is_file, open_file, read_content, text_after, wanted_encoding, with_dates};
+use crate::opening::{open_file, read_content, text_after, wanted_encoding, with_dates};
 use crate::options::ConvertOptions;
 use crate::sources::convert_to;
 use base_types::{NoMemory, Text};
@@ -15,11 +22,12 @@ use card_conversion::{
 };
 use contact_columns::made_header;
 use std::alloc::Global;
-use std::fs::Files;
 use std::io::{Chain, Read, Write};
 
 /// The number of octets before what is converted.
-fn start_of(content: Content<'_>) -> usize {
+fn start_of(content: Content<'_>) -> usize
+    ensures { content.entry ≡ Cards → result ≡ 0 }
+{
     match content {
         Content::Contacts(header) => header.start,
         _ => 0,
@@ -36,7 +44,9 @@ pub(crate) fn text_above(
     alloc: Global,
     content: Content<'_>,
     head: &[u8],
-) -> Result<Vec<u8>, NoMemory> {
+) -> Result<Vec<u8>, NoMemory>
+    ensures { content.entry ≡ Cards → IfOk result (λ above. above.items ≡ []) }
+{
     match content {
         Content::Contacts(header) => {
             made_header(alloc, header, head.get(header.start..).unwrap_or(&[]))
@@ -52,7 +62,12 @@ pub(crate) fn content_text<'a, R: Read>(
     head: &'a [u8],
     content: Content<'_>,
     reader: R,
-) -> LineEnds<Chain<Chain<&'a [u8], &'a [u8]>, R>> {
+) -> LineEnds<Chain<Chain<&'a [u8], &'a [u8]>, R>>
+    // All that is read of cards, perhaps with line feeds for carriage returns.
+    ensures { content.entry ≡ Cards → IfSome (R.remaining reader) (λ rest. (returns : Bool)
+        × (ends_left R.remaining result
+        ≡ Some (with_line_feeds returns ((above.now ++ head.now) ++ rest)))) }
+{
     let are_returns = is_of_cards(content) && ends_with_returns(head);
     let rest = head.get(start_of(content)..).unwrap_or(&[]);
     let reader = above.chain(rest).chain(reader);
@@ -64,14 +79,14 @@ pub(crate) fn content_text<'a, R: Read>(
 
 /// Fails if a file can't be converted: it can't be read, or isn't known, or not which number of its
 /// dates is the day; or it can't be read twice.
-fn check_file<F: Files>(
+fn check_file<F: FileSystem>(
     alloc: Global,
     files: &F,
     wanted: ConvertOptions<'_>,
 ) -> Result<(), ConvertStop> {
     let encoding = wanted_encoding(alloc, wanted)?;
     let (front, file) = open_file(alloc, files, wanted.file)?;
-    if !is_file(files, wanted.file) {
+    if !files.is_file(wanted.file) {
         return Err(no_second_reading(alloc, wanted.file));
     }
     let mut text = text_after(alloc, wanted.file, encoding, front.as_slice(), file)?;
@@ -81,7 +96,7 @@ fn check_file<F: Files>(
 }
 
 /// Fails if one of the files that come after the first can't be converted.
-pub(crate) fn check_more<F: Files>(
+pub(crate) fn check_more<F: FileSystem>(
     alloc: Global,
     files: &F,
     wanted: ConvertOptions<'_>,
@@ -94,7 +109,7 @@ pub(crate) fn check_more<F: Files>(
 
 /// Converts the text of one more file. Its name stands before each line of the report, if there are
 /// several files.
-fn convert_content<F: Files, R: Read + Drop, O: CardSink, E: Write>(
+fn convert_content<F: FileSystem, R: Read + Drop, O: CardSink, E: Write>(
     alloc: Global,
     files: &F,
     course: &mut Course,
@@ -102,10 +117,12 @@ fn convert_content<F: Files, R: Read + Drop, O: CardSink, E: Write>(
     content: Content<'_>,
     text: R,
     sink: &mut O,
-    report: &mut Report<E, F::File>,
+    report: &mut Report<E, F::NewFile>,
 ) -> Result<(), ConvertStop>
-    ensures { OnOk result ((uids : List (List ℕ)) → Knows course.old uids → (part : Part)
-        × ConvertsPart O.writes part uids course.old course.new sink.old sink.new) }
+    ensures { OnOk result ((whole : Option (List ℕ))
+        → GivesText content.entry (R.remaining text) whole
+        → (uids : List (List ℕ)) → Knows course.old uids
+        → ConvertsFile O.writes whole uids course.old course.new sink.old sink.new) }
 {
     if !wanted.more.is_empty() {
         report.set_source(alloc, wanted.file)?;
@@ -121,16 +138,18 @@ fn convert_content<F: Files, R: Read + Drop, O: CardSink, E: Write>(
 }
 
 /// Opens one more file and converts it.
-fn convert_next<F: Files, O: CardSink, E: Write>(
+fn convert_next<F: FileSystem, O: CardSink, E: Write>(
     alloc: Global,
     files: &F,
     course: &mut Course,
     wanted: ConvertOptions<'_>,
     sink: &mut O,
-    report: &mut Report<E, F::File>,
+    report: &mut Report<E, F::NewFile>,
 ) -> Result<(), ConvertStop>
-    ensures { OnOk result ((uids : List (List ℕ)) → Knows course.old uids → (part : Part)
-        × ConvertsPart O.writes part uids course.old course.new sink.old sink.new) }
+    ensures { OnOk result ((uids : List (List ℕ)) → Knows course.old uids
+        → ConvertsFile O.writes
+        (known_text wanted.entry.charset (F.octets files.now wanted.entry.file.now)) uids
+        course.old course.new sink.old sink.new) }
 {
     let encoding = wanted_encoding(alloc, wanted)?;
     let (front, file) = open_file(alloc, files, wanted.file)?;
@@ -144,17 +163,18 @@ fn convert_next<F: Files, O: CardSink, E: Write>(
 }
 
 /// Converts the text of the first file, and then all files after it.
-pub(crate) fn convert_all<F: Files, R: Read + Drop, O: CardSink, E: Write>(
+pub(crate) fn convert_all<F: FileSystem, R: Read + Drop, O: CardSink, E: Write>(
     alloc: Global,
     files: &F,
     wanted: ConvertOptions<'_>,
     content: Content<'_>,
     text: R,
     sink: &mut O,
-    report: &mut Report<E, F::File>,
+    report: &mut Report<E, F::NewFile>,
 ) -> Result<Summary, ConvertStop>
-    ensures { IfOk result (λ summary. Converts O.writes (length wanted.entry.more.now + 1)
-        sink.old sink.new summary) }
+    ensures { (whole : Option (List ℕ)) → GivesText content.entry (R.remaining text) whole
+        → IfOk result (λ summary. Converts O.writes
+        (whole ∷ more_texts (F.octets files.now) wanted.entry) sink.old sink.new summary) }
 {
     let mut course = Course::new(alloc);
     convert_content::<F, R, O, E>(

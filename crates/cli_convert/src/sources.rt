@@ -1,12 +1,13 @@
 //! Converts what a file has.
-ghost use Rattle.std.specs.Prelude.{ℕ, List, IfOk, OnOk};
-ghost use Rattle.card_conversion.specs.Courses.{ConvertsPart, Knows, Part};
+ghost use Rattle.std.specs.Prelude.{ℕ, List, Option, IfOk, OnOk};
+ghost use Rattle.card_conversion.specs.Courses.{Knows};
+ghost use Rattle.cli_convert.specs.Sources.{ConvertsFile, GivesText};
 ghost use Rattle.contact_csv.specs.Contacts.{IsReady};
 
 use crate::content::Content;
 use card_conversion::{
     CardSink, ConversionFault, Course, MediaSink, Report, convert_contacts_under,
-    convert_more_exports, convert_more_file,
+    convert_more_cards, convert_more_exports,
 };
 use contact_columns::RowText;
 use contact_csv::{ContactFault, ContactReader, Header};
@@ -41,8 +42,10 @@ pub(crate) fn convert_to<R: Read + Drop, O: CardSink, P: MediaSink, E: Write, T:
     media: &mut P,
     report: &mut Report<E, T>,
 ) -> Result<(), ConversionFault>
-    ensures { OnOk result ((uids : List (List ℕ)) → Knows course.old uids → (part : Part)
-        × ConvertsPart O.writes part uids course.old course.new sink.old sink.new) }
+    ensures { OnOk result ((whole : Option (List ℕ))
+        → GivesText content.entry (R.remaining reader) whole
+        → (uids : List (List ℕ)) → Knows course.old uids
+        → ConvertsFile O.writes whole uids course.old course.new sink.old sink.new) }
 {
     match content {
         Content::Export => {
@@ -54,7 +57,7 @@ pub(crate) fn convert_to<R: Read + Drop, O: CardSink, P: MediaSink, E: Write, T:
             convert_contacts_under(alloc, course, &header.above, contacts, sink, report)
         }
         Content::Cards | Content::OtherRows => {
-            convert_more_file(alloc, course, reader, sink, media, report)
+            convert_more_cards(alloc, course, reader, sink, media, report)
         }
     }
 }
