@@ -2,7 +2,7 @@
 use Rattle.std.proofs.Common.{◌≡◌, ◌++◌, ◌∷◌, ◌∙◌, [], ℕ, Bool, List, Option, Some, None, IsTrue}
 use Rattle.std.proofs.Common.{IfSome, refl, sym, ap, subst, subst₂, take, drop, append_assoc}
 use Rattle.std.proofs.lemmas.List.{take-append-drop}
-use Rattle.core.specs.Fmt.{option_append}
+use Rattle.std.specs.Fmt.{option_append}
 use Rattle.import_text.specs.Texts.{text_octets}
 use Rattle.card_conversion.specs.Courses.{Part, of_pieces}
 use Rattle.card_conversion.specs.Cuts.{AreCutOff}
