@@ -10,6 +10,7 @@ import shutil
 import socket
 import subprocess
 import tempfile
+import time
 from collections import namedtuple
 from pathlib import Path
 
@@ -63,6 +64,14 @@ def processor_time(pid):
     # After the program's name in brackets comes the third word.
     words = text.rpartition(")")[2].split()
     return (int(words[11]) + int(words[12])) / os.sysconf("SC_CLK_TCK")
+
+
+def million_steps():
+    """The processor seconds that a million steps of Python take here: a measure for other work."""
+    begun, total = time.process_time(), 0
+    for number in range(1_000_000):
+        total += number
+    return time.process_time() - begun
 
 
 class Folder:

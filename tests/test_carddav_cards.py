@@ -10,7 +10,7 @@ from carddav_client import SPACES, STAFF, GatewayTest, card3
 from histories import UIDS, Drawing
 from http_requests import card
 from model.cards import read_card
-from program import Folder
+from program import Folder, million_steps
 
 import vcard3
 from gateway import cards, files, unseen
@@ -203,7 +203,8 @@ class Unseen(unittest.TestCase):
         made = unseen.edited(self.edit(text, lines[:900], []), unseen.read_by(text).said,
                              card("a", "Ann", *lines, "TEL:+n"))
         self.assertEqual([*lines[900:], "TEL:+n"], lines_of(made)[-1_002:-1])
-        self.assertLess(time.process_time() - begun, 5)  # it takes a fifth of one
+        # It takes as long as 3 million steps.
+        self.assertLess(time.process_time() - begun, 60 * million_steps())
         for more in [f"TEL:+{it}" for it in range(2_000)], ["CATEGORIES:" + ",".join(
                 map(str, range(2_000)))]:
             text = card("a", "Ann", *more)

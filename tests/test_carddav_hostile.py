@@ -7,7 +7,7 @@ from collections import Counter
 
 from carddav_client import CLIENTS, D, PASSWORD, STAFF, Client, GatewayTest, card3
 from http_requests import card
-from program import PATIENCE
+from program import PATIENCE, million_steps
 
 from tosculai import lines_of
 
@@ -106,7 +106,8 @@ class Bodies(GatewayTest):
                               (["A:"] * 70_000, 403), ([photo] * 3_000, 403)]:
             reply = self.dav.ask("PUT", STAFF + "many.vcf", card3("many", "M", *lines))
             self.assertEqual(status, reply.status)
-        self.assertLess(self.stack.processor_time() - begun, 6)  # it takes less than one
+        # It takes as long as 15 million steps.
+        self.assertLess(self.stack.processor_time() - begun, 60 * million_steps())
         stored = Counter(lines_of(self.staff.get("many").text))
         self.assertEqual((3_000, 3_000, 0), tuple(stored[it] for it in ("B:", "A:1", "A:")))
         self.assertFalse((self.stack.state / "photos").exists())  # nothing of a refused card stays
