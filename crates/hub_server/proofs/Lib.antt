@@ -3,6 +3,7 @@ pub mod NeedLemmas
 pub mod RunLemmas
 pub mod PlaceCountLemmas
 pub mod PlaceStepLemmas
+pub mod FeedingLemmas
 pub mod KeepingLemmas
 pub mod ExpiringLemmas
 pub mod AwaitingLemmas
@@ -10,4 +11,5 @@ pub mod AcceptingLemmas
 pub mod ServingLemmas
 pub mod NumberLemmas
 pub mod ServerLawLemmas
+pub mod UnfedLemmas
 pub mod BoundLemmas

@@ -30,16 +30,16 @@ act_places limits (FindsNoConnection place) a b done = ap (λ (s : ServerValue).
 act_places limits (DefersAccepting place) a b done = ap (λ (s : ServerValue). length s.seats) done.1
 act_places limits (ReadsFrom place serial octets) a b done =
     ap (λ (s : ServerValue). length s.seats) done.after_is
-    ∙ set_length a.seats place (seat_after_step done.seat octets)
+    ∙ set_length a.seats place (seat_after_step done.needs.seat octets)
 act_places limits (FindsNoInput place serial) a b done =
     ap (λ (s : ServerValue). length s.seats) done.after_is
-    ∙ set_length a.seats place (seat_asleep done.seat)
+    ∙ set_length a.seats place (seat_asleep done.needs.seat)
 act_places limits (WritesTo place serial offered count) a b done =
     ap (λ (s : ServerValue). length s.seats) done.after_is
-    ∙ set_length a.seats place (seat_after_step done.seat done.seat.unfed)
+    ∙ set_length a.seats place (seat_after_step done.needs.seat done.needs.seat.unfed)
 act_places limits (FindsNoOutput place serial offered) a b done =
     ap (λ (s : ServerValue). length s.seats) done.after_is
-    ∙ set_length a.seats place (seat_asleep done.seat)
+    ∙ set_length a.seats place (seat_asleep done.needs.seat)
 act_places limits (ClosesAt place serial cause) a b done =
     ap (λ (s : ServerValue). length s.seats) done.after_is ∙ set_length a.seats place new_seat
 
@@ -49,7 +49,7 @@ module _ {S : Type 0} (does : HandlerRelation S) (fault_reply : FaultReplies) wh
   step_places limits (Acts act) a b w v done = act_places limits act a b done.1
   step_places limits (Feeds place serial piece) a b w v done =
       ap (λ (s : ServerValue). length s.seats) done.after_is
-      ∙ set_length a.seats place (seat_after_step done.seat (drop (length piece) done.seat.unfed))
+      ∙ set_length a.seats place (seat_after_step done.needs.seat (drop (length piece) done.needs.seat.unfed))
 
   run_places : (limits : ServeLimits) (xs : List ServerStep) (a b : ServerValue) (w v : S)
       → ServerRuns does fault_reply limits a w xs v b → length b.seats ≡ length a.seats

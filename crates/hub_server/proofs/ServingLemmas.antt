@@ -14,10 +14,11 @@ use Rattle.hub_server.specs.Expiries.{KeepsNoneExpired, KeepsTurnsOver}
 use Rattle.hub_server.specs.Needs.{HasTurnAt, KeepsOthers}
 use Rattle.hub_server.specs.Rounds.{FailsAfterSteps, FailsInRound, ServesRound}
 use Rattle.hub_server.specs.Seats.{new_seat}
-use Rattle.hub_server.specs.ServedEndpoints.{FailsToAccept, FailsToAwait, StopsAtEndpoint}
+use Rattle.hub_server.specs.ServedEndpoints.{FailsToAccept, FailsToAwait, ServesAll}
+use Rattle.hub_server.specs.ServedEndpoints.{StopsAtEndpoint}
 use Rattle.hub_server.specs.ServerRuns.{ReachesBySteps}
-use Rattle.hub_server.specs.Servers.{AreSeatedBelow, AreTurnsOver, IsReadyToWait, NoneExpired}
-use Rattle.hub_server.specs.Servers.{ServerValue, accepts_at, has_room, new_server}
+use Rattle.hub_server.specs.Servers.{AreSeatedBelow, AreTurnsOver, IsReadyToWait, IsServerDone}
+use Rattle.hub_server.specs.Servers.{NoneExpired, ServerValue, accepts_at, has_room, new_server}
 use Rattle.hub_server.specs.declared.endpoint_fault.EndpointFault.{EndpointFault}
 use Rattle.hub_server.specs.declared.endpoint_fault.EndpointFault.TheVariants as fault
 use Rattle.hub_server.specs.declared.limits.ServeLimits.{ServeLimits}
@@ -195,6 +196,16 @@ module _ {S Endpoint : Type 0} (does : HandlerRelation S) (fault_reply : FaultRe
     places = round.places ∙ far.places;
   }
 
+  -- all connections were served
+  pub rounds_served : (limits : ServeLimits) (waits : ℕ) (b : ServerValue) (w v : S) (s t : Endpoint)
+      → RoundsSoFar limits waits w s b v t → IsServerDone limits.connections b
+      → ServesAll does fault_reply calls limits w s v t
+  rounds_served limits waits b w v s t far done = record {
+    after = b;
+    run = record { waits = waits; reached = far.reached };
+    done = done;
+  }
+
   -- a round failed
   rounds_failed_waiting : (limits : ServeLimits) (why : EndpointFault) (waits : ℕ) (b c :
       ServerValue) (w v x : S) (s t u : Endpoint) → RoundsSoFar limits waits w s b v t
@@ -202,10 +213,9 @@ module _ {S Endpoint : Type 0} (does : HandlerRelation S) (fault_reply : FaultRe
       why w s x u
   rounds_failed_waiting limits why waits b c w v x s t u far failed same =
       let stops : FailsToAwait does fault_reply calls limits w s v u = record {
-        waits = waits;
         after = b;
         between = t;
-        reached = far.reached;
+        run = record { waits = waits; reached = far.reached };
         until = failed.until;
         may_wait = failed.may_wait;
         failed = failed.failed;
@@ -220,15 +230,17 @@ module _ {S Endpoint : Type 0} (does : HandlerRelation S) (fault_reply : FaultRe
       → StopsAtEndpoint does fault_reply calls limits why w s x u
   rounds_failed_accepting limits why waits b c w v x s t u far fails =
       let stops : FailsToAccept does fault_reply calls limits w s x u = record {
-        waits = (waits + fails.waits) + 0;
         after = c;
         between = fails.failed.between;
-        reached = steps_on calls does fault_reply limits (waits + fails.waits) 0
-            (new_server limits.together) fails.between c w x x s fails.middle fails.failed.between
-            (steps_on calls does fault_reply limits waits fails.waits (new_server limits.together) b
-            fails.between w v x s t fails.middle far.reached fails.steps)
-            (steps_of_acts calls does fault_reply limits fails.between c x fails.middle
-            fails.failed.between fails.failed.acts);
+        run = record {
+          waits = (waits + fails.waits) + 0;
+          reached = steps_on calls does fault_reply limits (waits + fails.waits) 0
+              (new_server limits.together) fails.between c w x x s fails.middle
+              fails.failed.between (steps_on calls does fault_reply limits waits fails.waits
+              (new_server limits.together) b fails.between w v x s t fails.middle far.reached
+              fails.steps) (steps_of_acts calls does fault_reply limits fails.between c x
+              fails.middle fails.failed.between fails.failed.acts);
+        };
         place = fails.failed.place;
         may_accept = fails.failed.may_accept;
         failed = fails.failed.failed;

@@ -1,14 +1,35 @@
 -- What a connection of a server needs next.
-use Rattle.std.specs.Prelude.{◌≡◌, ◌-◌, ℕ, [], Option, Some, None, slice_get}
+use Rattle.std.specs.Prelude.{◌≡◌, ◌<◌, ◌-◌, ℕ, List, [], length, Option, Some, None, slice_get}
 use Rattle.http_hub.specs.Hubs.{EndsAt, HubValue}
+use Rattle.http_hub.specs.Links.{LinkValue}
 use Rattle.http_hub.specs.declared.slot.Slot.{Slot}
 use Rattle.hub_server.specs.Seats.{HasTurn, SeatValue, most_steps, new_seat}
-use Rattle.hub_server.specs.ServerActs.{WantsFeeding, WantsInput, WantsOutput}
 use Rattle.hub_server.specs.Servers.{IsSeatedAt, ServerValue, with_seat}
 use Rattle.hub_server.specs.declared.need.Need.{Need}
 use Rattle.hub_server.specs.declared.need.Need.TheVariants as need
 use Rattle.hub_server.specs.declared.turn.Turn.{Turn}
 use Rattle.hub_server.specs.declared.turn.Turn.TheVariants.{Asleep, Awake}
+
+-- octets are to be read: none are pending, none wait to be fed, and the session is open
+pub record WantsInput (link : LinkValue) (seat : SeatValue) : Type 0 where
+  pub none_pending : link.pending ≡ []
+  pub none_unfed : seat.unfed ≡ []
+  pub held : List ℕ
+  pub open_session : link.session ≡ Some held
+
+-- octets wait to be fed: none are pending, and the session is open
+pub record WantsFeeding (link : LinkValue) (seat : SeatValue) : Type 0 where
+  pub none_pending : link.pending ≡ []
+  pub some_unfed : 0 < length seat.unfed
+  pub held : List ℕ
+  pub open_session : link.session ≡ Some held
+
+-- these octets are to be written: they are all that are pending
+pub record WantsOutput (link : LinkValue) (offered : List ℕ) : Type 0 where
+  pub all_pending : offered ≡ link.pending
+  pub some_pending : 0 < length offered
+
+-- ---- what the connection at a place needs
 
 -- the place has a connection, and its turn isn't over
 pub record HasTurnAt (server : ServerValue) (place : ℕ) : Type 0 where

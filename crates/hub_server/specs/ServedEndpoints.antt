@@ -16,26 +16,30 @@ most_waits = 18446744073709551615
 
 module _ {State Endpoint : Type 0} (does : HandlerRelation State) (fault_reply : FaultReplies)
     (calls : EndpointRelation Endpoint) where
+  -- the server made a run from its start on, to this server, handler and endpoint
+  pub record RunsFromStart
+      (limits : ServeLimits) (old : State) (start : Endpoint) (after : ServerValue) (new : State)
+      (end : Endpoint) : Type 0 where
+    pub waits : ℕ
+    pub reached : ReachesBySteps does fault_reply calls limits waits
+        (new_server limits.together) old start after new end
+
   -- The server made a run from its start on. Every connection that was to be accepted was, and none
   -- is open any more.
   pub record ServesAll
       (limits : ServeLimits) (old : State) (start : Endpoint) (new : State) (end : Endpoint)
       : Type 0 where
-    pub waits : ℕ
     pub after : ServerValue
-    pub reached : ReachesBySteps does fault_reply calls limits waits
-        (new_server limits.together) old start after new end
+    pub run : RunsFromStart limits old start after new end
     pub done : IsServerDone limits.connections after
 
   -- The server made a run from its start on. Then a wait, which was due, failed.
   pub record FailsToAwait
       (limits : ServeLimits) (old : State) (start : Endpoint) (new : State) (end : Endpoint)
       : Type 0 where
-    pub waits : ℕ
     pub after : ServerValue
     pub between : Endpoint
-    pub reached : ReachesBySteps does fault_reply calls limits waits
-        (new_server limits.together) old start after new between
+    pub run : RunsFromStart limits old start after new between
     pub until : Option ℕ
     pub may_wait : MayWait limits after until
     pub failed : calls between (WaitFault until) end
@@ -45,11 +49,9 @@ module _ {State Endpoint : Type 0} (does : HandlerRelation State) (fault_reply :
   pub record FailsToAccept
       (limits : ServeLimits) (old : State) (start : Endpoint) (new : State) (end : Endpoint)
       : Type 0 where
-    pub waits : ℕ
     pub after : ServerValue
     pub between : Endpoint
-    pub reached : ReachesBySteps does fault_reply calls limits waits
-        (new_server limits.together) old start after new between
+    pub run : RunsFromStart limits old start after new between
     pub place : ℕ
     pub may_accept : MayAccept limits after place
     pub failed : calls between (AcceptFault place) end

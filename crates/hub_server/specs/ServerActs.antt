@@ -6,6 +6,7 @@ use Rattle.hub_server.specs.Endpoints.EndpointEvent.{WaitEvent, AcceptEvent, Acc
 use Rattle.hub_server.specs.Endpoints.EndpointEvent.{AcceptLater}
 use Rattle.hub_server.specs.Endpoints.EndpointEvent.{ReadEvent, ReadNone, ReadEnd, ReadFault}
 use Rattle.hub_server.specs.Endpoints.EndpointEvent.{WriteEvent, WriteNone, WriteFault, CloseEvent}
+use Rattle.hub_server.specs.Needs.{NeedsInput, NeedsOutput, WantsInput, WantsOutput}
 use Rattle.hub_server.specs.Seats.{HasTurn, SeatValue, most_read, new_seat}
 use Rattle.hub_server.specs.Seats.{is_awake_turn, seat_after_step, seat_asleep, seats_after_wait}
 use Rattle.hub_server.specs.Servers.{IsReadyToWait, IsSeatedAt, IsServerDone}
@@ -73,26 +74,7 @@ events_of_act (WritesTo place serial offered count) = WriteEvent place offered c
 events_of_act (FindsNoOutput place serial offered) = WriteNone place offered ∷ []
 events_of_act (ClosesAt place serial cause) = events_of_end place cause
 
--- ---- what a connection needs
-
--- octets are to be read: none are pending, none wait to be fed, and the session is open
-pub record WantsInput (link : LinkValue) (seat : SeatValue) : Type 0 where
-  pub none_pending : link.pending ≡ []
-  pub none_unfed : seat.unfed ≡ []
-  pub held : List ℕ
-  pub open_session : link.session ≡ Some held
-
--- octets wait to be fed: none are pending, and the session is open
-pub record WantsFeeding (link : LinkValue) (seat : SeatValue) : Type 0 where
-  pub none_pending : link.pending ≡ []
-  pub some_unfed : 0 < length seat.unfed
-  pub held : List ℕ
-  pub open_session : link.session ≡ Some held
-
--- these octets are to be written: they are all that are pending
-pub record WantsOutput (link : LinkValue) (offered : List ℕ) : Type 0 where
-  pub all_pending : offered ≡ link.pending
-  pub some_pending : 0 < length offered
+-- ---- why a connection is closed
 
 -- the connection is to be closed for this cause; what was found at the endpoint is the event's
 abbrev pub HasCause : ServeLimits → ServerValue → LinkValue → SeatValue → EndCause → Type 0
@@ -146,53 +128,39 @@ pub record AcceptsConnection
 pub record ReadsOctets
     (before : ServerValue) (place serial : ℕ) (octets : List ℕ) (after : ServerValue)
     : Type 0 where
-  pub slot : Slot
-  pub seat : SeatValue
-  pub seated : IsSeatedAt before place slot seat
-  pub serial_is : slot.serial ≡ serial
-  pub has_turn : HasTurn seat
-  pub wanted : WantsInput slot.link seat
+  pub needs : NeedsInput before place
+  pub serial_is : needs.slot.serial ≡ serial
   pub some : 0 < length octets
   pub few : length octets ≤ most_read
-  pub after_is : after ≡ with_seat before place before.hub (seat_after_step seat octets)
+  pub after_is : after ≡ with_seat before place before.hub (seat_after_step needs.seat octets)
 
 -- no octets are there to be read for now
 pub record FindsInputEmpty (before : ServerValue) (place serial : ℕ) (after : ServerValue)
     : Type 0 where
-  pub slot : Slot
-  pub seat : SeatValue
-  pub seated : IsSeatedAt before place slot seat
-  pub serial_is : slot.serial ≡ serial
-  pub has_turn : HasTurn seat
-  pub wanted : WantsInput slot.link seat
-  pub after_is : after ≡ with_seat before place before.hub (seat_asleep seat)
+  pub needs : NeedsInput before place
+  pub serial_is : needs.slot.serial ≡ serial
+  pub after_is : after ≡ with_seat before place before.hub (seat_asleep needs.seat)
 
 -- the first of the pending octets were written, at least one
 pub record WritesOctets
     (before : ServerValue) (place serial : ℕ) (offered : List ℕ) (count : ℕ)
     (after : ServerValue) : Type 0 where
-  pub slot : Slot
-  pub seat : SeatValue
-  pub seated : IsSeatedAt before place slot seat
-  pub serial_is : slot.serial ≡ serial
-  pub has_turn : HasTurn seat
-  pub wanted : WantsOutput slot.link offered
+  pub needs : NeedsOutput before place
+  pub serial_is : needs.slot.serial ≡ serial
+  pub all_pending : offered ≡ needs.slot.link.pending
   pub some : 0 < count
   pub hub : HubValue
   pub sends : SendsAt place before.hub count before.time hub
-  pub after_is : after ≡ with_seat before place hub (seat_after_step seat seat.unfed)
+  pub after_is : after ≡ with_seat before place hub (seat_after_step needs.seat needs.seat.unfed)
 
 -- no pending octet is accepted for now
 pub record FindsOutputFull
     (before : ServerValue) (place serial : ℕ) (offered : List ℕ) (after : ServerValue)
     : Type 0 where
-  pub slot : Slot
-  pub seat : SeatValue
-  pub seated : IsSeatedAt before place slot seat
-  pub serial_is : slot.serial ≡ serial
-  pub has_turn : HasTurn seat
-  pub wanted : WantsOutput slot.link offered
-  pub after_is : after ≡ with_seat before place before.hub (seat_asleep seat)
+  pub needs : NeedsOutput before place
+  pub serial_is : needs.slot.serial ≡ serial
+  pub all_pending : offered ≡ needs.slot.link.pending
+  pub after_is : after ≡ with_seat before place before.hub (seat_asleep needs.seat)
 
 -- the connection was closed for this cause, and its place is free
 pub record ClosesConnection

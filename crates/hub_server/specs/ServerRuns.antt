@@ -3,12 +3,12 @@ use Rattle.std.specs.Prelude.{◌≡◌, ◌+◌, ℕ, List, [], ◌∷◌, ◌+
 use Rattle.http_requests.specs.HandlerRuns.{HandlerRelation, FaultReplies}
 use Rattle.http_hub.specs.BoundedHubs.{ReceivesWithin}
 use Rattle.http_hub.specs.Hubs.{HubValue}
-use Rattle.http_hub.specs.declared.slot.Slot.{Slot}
 use Rattle.hub_server.specs.Endpoints.{EndpointEvent}
 use Rattle.hub_server.specs.EndpointRuns.{EndpointRelation, EndpointRuns, wait_count_of_act}
-use Rattle.hub_server.specs.Seats.{HasTurn, SeatValue, next_piece, seat_after_step}
-use Rattle.hub_server.specs.ServerActs.{DoesAct, ServerAct, WantsFeeding, events_of_act}
-use Rattle.hub_server.specs.Servers.{IsSeatedAt, ServerValue, with_seat}
+use Rattle.hub_server.specs.Needs.{NeedsFeeding}
+use Rattle.hub_server.specs.Seats.{next_piece, seat_after_step}
+use Rattle.hub_server.specs.ServerActs.{DoesAct, ServerAct, events_of_act}
+use Rattle.hub_server.specs.Servers.{ServerValue, with_seat}
 use Rattle.hub_server.specs.declared.limits.ServeLimits.{ServeLimits}
 
 -- One step of a server.
@@ -40,17 +40,14 @@ module _ {State : Type 0} (does : HandlerRelation State) (fault_reply : FaultRep
   pub record FeedsNext
       (most : ℕ) (before : ServerValue) (old : State) (place serial : ℕ) (piece : List ℕ)
       (new : State) (after : ServerValue) : Type 0 where
-    pub slot : Slot
-    pub seat : SeatValue
-    pub seated : IsSeatedAt before place slot seat
-    pub serial_is : slot.serial ≡ serial
-    pub has_turn : HasTurn seat
-    pub wanted : WantsFeeding slot.link seat
-    pub piece_is : piece ≡ next_piece seat.unfed
+    pub needs : NeedsFeeding before place
+    pub serial_is : needs.slot.serial ≡ serial
+    pub piece_is : piece ≡ next_piece needs.seat.unfed
     pub hub : HubValue
     pub fed : ReceivesWithin does fault_reply most place before.hub old piece before.time new hub
     pub after_is : after ≡
-        with_seat before place hub (seat_after_step seat (drop (length piece) seat.unfed))
+        with_seat before place hub
+        (seat_after_step needs.seat (drop (length piece) needs.seat.unfed))
 
   -- the effect of one step
   abbrev pub DoesServerStep :

@@ -1,6 +1,6 @@
 -- A server with many connections: its state, and when it is to act.
 use Rattle.std.specs.Prelude.{◌≡◌, ◌+◌, ◌<◌, ◌&&◌, ◌||◌, ℕ, Bool, true, false, List, Some}
-use Rattle.std.specs.Prelude.{not, nat_le, nat_lt, replicate, slice_get, slice_set}
+use Rattle.std.specs.Prelude.{length, not, nat_le, nat_lt, replicate, slice_get, slice_set}
 use Rattle.hub_server.specs.Seats.{IsTurnOver, SeatValue, new_seat}
 use Rattle.hub_server.specs.declared.listener_state.ListenerState.{ListenerState}
 use Rattle.hub_server.specs.declared.listener_state.ListenerState.TheVariants.{Idle, Ready}
@@ -102,3 +102,11 @@ pub record IsReadyToWait (limits : ServeLimits) (server : ServerValue) : Type 0 
   pub served : AreTurnsOver server
   pub none_expired : NoneExpired limits server
   pub none_awaited : accepts_at limits.connections server server.time ≡ false
+
+-- the server has to wait next, with a flag for each place: not all connections were served to their
+-- end, and nothing is left to do before
+pub record HasToWait (limits : ServeLimits) (server : ServerValue) (ready : List Bool)
+    : Type 0 where
+  pub places : length ready ≡ length server.seats
+  pub not_done : IsServerDone limits.connections server → ⊥
+  pub ready_to : IsReadyToWait limits server

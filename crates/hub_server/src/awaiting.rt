@@ -4,7 +4,7 @@ ghost use Rattle.http_hub.specs.Links.{IsFirstTime};
 ghost use Rattle.hub_server.specs.EndpointRuns.{ReachesByWait, FailsAtWait};
 ghost use Rattle.hub_server.specs.Seats.{seats_after_wait};
 ghost use Rattle.hub_server.specs.ServerActs.{IsLeft, listener_after_wait};
-ghost use Rattle.hub_server.specs.Servers.{IsReadyToWait, IsServerDone, is_due, is_listener_due};
+ghost use Rattle.hub_server.specs.Servers.{HasToWait, is_due, is_listener_due};
 
 use crate::accepting::LATER_MILLISECONDS;
 use crate::endpoint::Endpoint;
@@ -85,9 +85,7 @@ impl Server {
         limits: ServeLimits,
         ready: &mut [bool],
     ) -> Result<(), EndpointFault>
-        requires places { length ready.old ≡ length self.old.seats }
-        requires not_done { IsServerDone limits.connections self.old → ⊥ }
-        requires ready { IsReadyToWait limits self.old }
+        requires due { HasToWait limits self.old ready.old }
         ensures waited { OnOk result (ReachesByWait E.calls limits
             self.old endpoint.old self.new endpoint.new) }
         ensures failed { IfErr result (λ fault. FailsAtWait E.calls limits fault

@@ -1,11 +1,11 @@
 //! Serves all connections of an endpoint.
-ghost use Rattle.std.specs.Prelude.{◌≡◌, ◌<◌, ◌↔◌, IfErr, IfOk, OnOk, IsTrue, length, replicate};
+ghost use Rattle.std.specs.Prelude.{◌≡◌, ◌<◌, ◌↔◌, IfErr, IfOk, OnOk, IsTrue, replicate};
 ghost use Rattle.std.specs.Prelude.{false};
 ghost use Rattle.hub_server.specs.Needs.{HasTurnAt, KeepsOthers, steps_left};
 ghost use Rattle.hub_server.specs.Rounds.{FailsInRound, ServesRound};
 ghost use Rattle.hub_server.specs.ServedEndpoints.{ServesAll, StopsAtEndpoint};
 ghost use Rattle.hub_server.specs.ServerRuns.{ReachesBySteps};
-ghost use Rattle.hub_server.specs.Servers.{AreTurnsOver, IsReadyToWait, IsServerDone};
+ghost use Rattle.hub_server.specs.Servers.{AreTurnsOver, HasToWait, IsServerDone};
 
 use crate::endpoint::Endpoint;
 use crate::endpoint_fault::EndpointFault;
@@ -95,9 +95,7 @@ impl Server {
         limits: ServeLimits,
         ready: &mut [bool],
     ) -> Result<(), EndpointFault>
-        requires places { length ready.old ≡ length self.old.seats }
-        requires not_done { IsServerDone limits.connections self.old → ⊥ }
-        requires ready { IsReadyToWait limits self.old }
+        requires due { HasToWait limits self.old ready.old }
         ensures round { OnOk result (ServesRound H.does H.fault_reply E.calls limits
             self.old handler.old endpoint.old self.new handler.new endpoint.new) }
         ensures failed { IfErr result (λ fault. FailsInRound H.does H.fault_reply E.calls limits

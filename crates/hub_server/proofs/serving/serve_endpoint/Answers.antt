@@ -1,7 +1,7 @@
 use Rattle.std.proofs.Common.{◌≡◌, ◌∙◌, List, Bool, ap, arith, drop, false, length, ◌++◌}
 use Rattle.std.proofs.lemmas.List.{length-append, length-drop, length-replicate, length-take}
 use Rattle.std.proofs.lemmas.Result.{err_from_is_err_and}
-use Rattle.hub_server.proofs.ServingLemmas.{rounds_failed, rounds_more, rounds_none}
+use Rattle.hub_server.proofs.ServingLemmas.{rounds_failed, rounds_more, rounds_none, rounds_served}
 use Rattle.hub_server.proofs.serving.serve_endpoint.Goals as goal
 
 pub loop-wait-init : goal.loop-wait-init
@@ -46,3 +46,10 @@ loop-wait-preserved g c =
         c.loop-wait.invariant.1,
       ),
     )
+
+pub returns-then-is_done-clause-served : goal.returns-then-is_done-clause-served
+returns-then-is_done-clause-served g c =
+    rounds_served g.H.Handler.does g.H.Handler.fault_reply g.E.Endpoint.calls c.args.limits
+    c.loop-wait._wait c.loop-wait.server c.args.handler.now c.loop-wait.handler
+    c.args.endpoint.now c.loop-wait.endpoint c.loop-wait.invariant.0
+    (c.is_done.ensures.0 c.if-is_done.true)

@@ -4,7 +4,7 @@ use Rattle.http_hub.specs.BoundedHubs.{ReceivesWithin}
 use Rattle.hub_server.specs.Seats.{HasTurn, SeatValue, next_piece}
 use Rattle.hub_server.specs.Servers.{ServerValue, with_seat}
 use Rattle.hub_server.proofs.NeedLemmas.{read_at, same_seat}
-use Rattle.hub_server.proofs.PlaceStepLemmas.{feeds_piece, piece_fits, piece_given}
+use Rattle.hub_server.proofs.FeedingLemmas.{feeds_piece, piece_fits, piece_given}
 use Rattle.hub_server.proofs.server.Server.feed.Goals as goal
 
 pub receive-requires-clause-some : goal.receive-requires-clause-some
