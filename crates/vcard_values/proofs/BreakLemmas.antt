@@ -5,7 +5,7 @@ use Rattle.std.specs.Str.{encode_utf8_all}
 use Rattle.std.proofs.lemmas.List.{append-nil}
 use Rattle.std.proofs.lemmas.Str.{encodes-append}
 use Rattle.vcard_values.specs.ValueTexts.{line_break, line_feeds_after}
-use Rattle.vcard_values.specs.internal.BreakLoop.{BreakState, break_char, break_state}
+use Rattle.vcard_values.specs.internal.BreakLoop.{break_char, break_state}
 
 breaks_after : (cs octets : List ℕ) (after_return : Bool)
     → (fold break_char (break_state octets after_return) cs).octets

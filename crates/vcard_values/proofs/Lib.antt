@@ -6,3 +6,5 @@ pub mod ReadBackLemmas
 pub mod KeptLemmas
 pub mod BreakLemmas
 pub mod TypeLemmas
+pub mod MarkLemmas
+pub mod LabelLemmas

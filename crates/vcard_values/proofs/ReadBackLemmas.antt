@@ -8,7 +8,7 @@ use Rattle.std.proofs.Math.Utf8.{scalar, scalars}
 use Rattle.std.proofs.lemmas.Bool.{and_parts, cond-false}
 use Rattle.std.proofs.lemmas.Bool.Decides.{nat_tests}
 use Rattle.std.proofs.lemmas.Str.{chars-encodes, scalars-chars}
-use Rattle.vcard_lines.specs.TextValues.{TextChar, Plain, Escaped, TrailingBackslash, text_chars}
+use Rattle.vcard_lines.specs.TextValues.{TextChar, Plain, Escaped, text_chars}
 use Rattle.vcard_lines.specs.TextValues.{AreLegalTextChars, text_char_of, text_chars_from}
 use Rattle.vcard_lines.specs.TextValues.{written_chars}
 use Rattle.vcard_lines.proofs.TextValueLemmas.{one_list, scalars_append}

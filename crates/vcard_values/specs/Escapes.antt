@@ -1,6 +1,6 @@
 -- What a value spells, and how vCard 4.0 writes it (RFC 6350, section 3.4; RFC 2426, section 4;
 -- vCard 2.1, section 2.1.2).
-use Rattle.std.specs.Prelude.{ℕ, ◌≡◌, Bool, true, false, not, ◌&&◌, ◌||◌, ◌==◌, nat_eq, List, [], ◌∷◌}
+use Rattle.std.specs.Prelude.{ℕ, ◌≡◌, Bool, false, not, ◌&&◌, ◌||◌, ◌==◌, nat_eq, List, [], ◌∷◌}
 use Rattle.std.specs.Prelude.{codes, flat_map, if◌then◌else◌}
 use Rattle.std.specs.Char.{is_control}
 use Rattle.std.specs.List.{starts_with}

@@ -1,13 +1,13 @@
 -- How the value of a logical line is written: as a text or as a URI, and whether its commas are
 -- parts of the text (RFC 6350, section 6; RFC 2426, section 3; vCard 2.1, section 2.1.3.1).
 use Rattle.std.specs.Prelude.{ℕ, Bool, true, false, not, ◌&&◌, ◌||◌, ◌==◌, ◌-◌, nat_le, List, ◌∷◌}
-use Rattle.std.specs.Prelude.{codes, drop, length, if◌then◌else◌}
-use Rattle.std.specs.List.{list_any, slice_split}
+use Rattle.std.specs.Prelude.{codes, drop, length, nat_lt, if◌then◌else◌}
+use Rattle.std.specs.List.{list_all, list_any, slice_split}
 use Rattle.std.specs.Str.{str_eq_ignore_ascii_case}
-use Rattle.base_types.specs.Octets.{dot, semicolon}
+use Rattle.base_types.specs.Octets.{colon, dot, semicolon}
 use Rattle.import_text.specs.RawLines.{head, is_encoded_as}
-use Rattle.vcard_values.specs.Cuts.{after, before}
-use Rattle.vcard_values.specs.declared.escapes.TextForm.{TextForm}
+use Rattle.vcard_lines.specs.Grammar.{is_name_octet}
+use Rattle.vcard_values.specs.Cuts.{after, before, has_octet}
 use Rattle.vcard_values.specs.declared.escapes.ValueForm.{ValueForm}
 use Rattle.vcard_values.specs.declared.escapes.ValueForm.TheVariants.{Uri, Text}
 use Rattle.vcard_values.specs.declared.version.Version.{Version}
@@ -50,6 +50,10 @@ is_text_property line = is_property (codes "FN") line || is_property (codes "NOT
 abbrev pub has_components : List ℕ → Bool
 has_components line = is_property (codes "N") line || is_property (codes "ADR") line
 
+-- semicolons part the value of the property
+abbrev pub has_parts : List ℕ → Bool
+has_parts line = has_components line || is_property (codes "ORG") line
+
 -- ---- the parameters
 
 -- the parameters, as the line has them
@@ -82,9 +86,27 @@ has_clear_form line = not (says may_name_form line)
 
 -- ---- the form
 
+abbrev pub plus_sign : ℕ
+plus_sign = 43
+
+-- an octet of the scheme of a URI: a letter, a digit, a hyphen, a dot or a plus sign (RFC 3986,
+-- section 3.1)
+abbrev pub is_scheme_octet : ℕ → Bool
+is_scheme_octet octet = is_name_octet octet || octet == dot || octet == plus_sign
+
+-- the value begins as a URI does: with such octets and a colon
+abbrev pub has_scheme : List ℕ → Bool
+has_scheme value = has_octet colon value && nat_lt 0 (length (before colon value))
+    && list_all is_scheme_octet (before colon value)
+
+-- the value is a person in words, as `RELATED:Sue` has it (RFC 6350, section 6.6.6)
+abbrev pub is_in_words : List ℕ → Bool
+is_in_words line = is_property (codes "RELATED") line && not (has_scheme (after colon line))
+
 -- the value is a URI or the like
 abbrev pub has_uri : List ℕ → Bool
-has_uri line = says names_uri line || (is_uri_property line && not (says names_text line))
+has_uri line = says names_uri line
+    || (is_uri_property line && not (says names_text line || is_in_words line))
 
 -- A comma is a part of the text. vCard 4.0 parts the values of some of these properties by commas,
 -- and vCard 3.0 the components of a name or an address.

@@ -1,8 +1,10 @@
 pub mod Cuts
+pub mod Dates
 pub mod Escapes
 pub mod Forms
 pub mod KeptTexts
 pub mod Media
+pub mod OwnLabels
 pub mod Types
 pub mod ValueTexts
 pub mod Values

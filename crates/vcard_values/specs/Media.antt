@@ -1,7 +1,7 @@
 -- The octets of the picture or the sound that a logical line has in it: base64, also in a `data:`
 -- URI (RFC 6350, sections 6.2.4, 6.6.3 and 6.7.5; RFC 2397; RFC 4648, section 4).
-use Rattle.std.specs.Prelude.{ℕ, List, [], ◌∷◌, Bool, ◌==◌, ◌&&◌, ◌-◌, codes, drop, filter, length}
-use Rattle.std.specs.Prelude.{not, take, take_while, nat_eq, nat_le, Option, None, if◌then◌else◌}
+use Rattle.std.specs.Prelude.{ℕ, List, [], ◌∷◌, Bool, ◌&&◌, ◌-◌, codes, drop, filter, length}
+use Rattle.std.specs.Prelude.{not, take, nat_eq, nat_le, Option, None, if◌then◌else◌}
 use Rattle.std.specs.Char.{is_ascii_whitespace}
 use Rattle.std.specs.List.{ends_with}
 use Rattle.std.specs.Result.{result_ok}

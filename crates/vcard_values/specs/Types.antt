@@ -10,6 +10,7 @@ use Rattle.import_text.specs.RawLines.{begins_with_word, head}
 use Rattle.vcard_lines.specs.declared.line.ParamValue.{ParamValue}
 use Rattle.vcard_values.specs.Cuts.{has_octet}
 use Rattle.vcard_values.specs.Forms.{params}
+use Rattle.vcard_values.specs.OwnLabels.{is_own_label, own_label_type, values_in}
 
 -- The head has only visible characters of ASCII, and no double quote.
 abbrev pub has_clear_types : List ℕ → Bool
@@ -68,9 +69,11 @@ type_value word = record { quoted = false; text = str_to_ascii_lowercase word }
 abbrev pub word_types : List ℕ → List ParamValue
 word_types word = if is_type word then type_value word ∷ [] else []
 
--- the values of TYPE that a parameter has
+-- the values of TYPE that a parameter has: a label of one's own, or the words that are types
 abbrev pub part_types : List ℕ → List ParamValue
-part_types part = flat_map word_types (part_words part)
+part_types part =
+    if is_own_label part then values_in (own_label_type part)
+    else flat_map word_types (part_words part)
 
 -- the values of TYPE that the line has
 abbrev pub types_of : List ℕ → List ParamValue

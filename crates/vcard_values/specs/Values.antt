@@ -12,6 +12,7 @@ use Rattle.base_types.specs.Octets.{backslash, colon, comma, dot, quote, semicol
 use Rattle.import_text.specs.RawLines.{head}
 use Rattle.vcard_lines.specs.Grammar.{is_name_octet}
 use Rattle.vcard_values.specs.Cuts.{has_octet}
+use Rattle.vcard_values.specs.Dates.{date_of, is_date_property, is_plainly_dated}
 use Rattle.vcard_values.specs.Escapes.{SpellsSame, rewritten_value}
 use Rattle.vcard_values.specs.Forms.{has_clear_form, says, value_form, written_name}
 use Rattle.vcard_values.specs.Media.{base64_octets}
@@ -74,13 +75,27 @@ has_plain_value line = not (says names_quoted line) && not (has_octet backslash 
 
 -- ---- the line
 
--- The line has a colon. The name is made of letters, digits and hyphens, and is none of those
--- whose values have another form in vCard 4.0. No quote is open where a part of the head ends. How
--- the value is encoded is clear. Its form is clear too, or no character of it is escaped.
+-- The line has a colon. The name is made of letters, digits and hyphens. No quote is open where a
+-- part of the head ends. How the value is encoded is clear.
+abbrev pub has_known_text : List ℕ → Bool
+has_known_text line = has_octet colon line && is_plain_name (written_name line)
+    && has_closed_quotes line && has_clear_encoding line
+
+-- The text of the value is known, and the name is none of those whose values have another form in
+-- vCard 4.0. The form is clear, or no character of the value is escaped.
 abbrev pub has_known_value : List ℕ → Bool
-has_known_value line = has_octet colon line && is_plain_name (written_name line)
-    && not (is_named_so has_other_form line) && has_closed_quotes line
-    && has_clear_encoding line && (has_clear_form line || has_plain_value line)
+has_known_value line = has_known_text line && not (is_named_so has_other_form line)
+    && (has_clear_form line || has_plain_value line)
+
+-- ---- dates
+
+-- the text of the value is known, and is a date by the name alone
+abbrev pub may_have_date : List ℕ → Bool
+may_have_date line = has_known_text line && is_date_property line && is_plainly_dated line
+
+-- the date that the line has, as vCard 4.0 writes it, if it is one
+abbrev pub known_date : List ℕ → Option (List ℕ)
+known_date line = if may_have_date line then date_of (value_text line) else None
 
 -- ---- pictures
 
@@ -127,9 +142,10 @@ pub record IsDataUri (line value : List ℕ) : Type 0 where
 
 -- ---- what stays
 
--- the value of the line is known, or the line is a picture, a sound or a key in base64
+-- the value of the line is known, or a date, or the line is a picture, a sound or a key in base64
 abbrev pub is_known : List ℕ → Bool
-is_known octets = has_known_value octets || is_some (media_of octets)
+is_known octets =
+    has_known_value octets || is_some (media_of octets) || is_some (known_date octets)
 
 -- The value is that of the line of this version, as vCard 4.0 writes it. There it spells the same.
 pub record IsRewritten (version : Version) (octets value : List ℕ) : Type 0 where
@@ -137,6 +153,7 @@ pub record IsRewritten (version : Version) (octets value : List ℕ) : Type 0 wh
   pub value_is : value ≡ rewritten_value (value_form version octets) (value_text octets)
   pub spells : SpellsSame (value_form version octets) (value_text octets) value
 
--- the value is that of the line, as vCard 4.0 writes it, or a `data:` URI of the picture
+-- the value is that of the line, as vCard 4.0 writes it, a `data:` URI of the picture, or the date
 abbrev pub HasValueOf : Version → List ℕ → List ℕ → Type 0
-HasValueOf version octets value = IsRewritten version octets value ⊎ IsDataUri octets value
+HasValueOf version octets value = IsRewritten version octets value
+    ⊎ (IsDataUri octets value ⊎ (known_date octets ≡ Some value))

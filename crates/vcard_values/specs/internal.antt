@@ -1,3 +1,4 @@
 pub mod BreakLoop
 pub mod RewriteLoop
 pub mod UriNames
+pub mod MarkLoop

@@ -1,5 +1,5 @@
 //! Values of base64 as `data:` URIs (RFC 6350, sections 6.2.4 and 6.8.1; RFC 2397).
-ghost use Rattle.std.specs.Prelude.{◌≡◌, IfOk, IfSome, false, not, filter, string_bytes};
+ghost use Rattle.std.specs.Prelude.{◌≡◌, IfOk, IfSome, false, not, true, filter, string_bytes};
 ghost use Rattle.std.specs.Option.{option_map};
 ghost use Rattle.std.specs.Char.{is_ascii_whitespace};
 ghost use Rattle.base_types.specs.Octets.{comma};
@@ -7,6 +7,7 @@ ghost use Rattle.vcard_values.specs.Media.{base64_octets};
 ghost use Rattle.vcard_values.specs.Cuts.{has_octet};
 ghost use Rattle.vcard_values.specs.Values.{IsUriOf};
 
+use crate::cuts::has_octet;
 use base_types::NoMemory;
 use base64::DecodeAllocError;
 use base64::engine::general_purpose::{STANDARD, STANDARD_PAD_INDIFFERENT};
@@ -66,18 +67,46 @@ fn media_type(name: &str, word: &str) -> Option<&'static str>
         ("PHOTO" | "LOGO", "tiff") => Some("image/tiff"),
         ("PHOTO" | "LOGO", "webp") => Some("image/webp"),
         ("PHOTO" | "LOGO", "heic") => Some("image/heic"),
+        ("PHOTO" | "LOGO", "svg" | "svg+xml") => Some("image/svg+xml"),
         _ => None,
     }
 }
 
+/// Whether the text has only characters that media types have (RFC 6838, section 4.2).
+fn are_media_chars(text: &str) -> bool {
+    text.chars().all(|c| c.is_ascii_alphanumeric() || matches!(c, '/' | '.' | '+' | '-' | '_'))
+}
+
+/// Whether the word is a media type that a value of the property may have.
+fn is_media_type(name: &str, word: &str) -> bool
+    ensures { result ≡ true → has_octet comma word.now ≡ false }
+{
+    let start = match name {
+        "PHOTO" | "LOGO" => "image/",
+        "SOUND" => "audio/",
+        _ => "application/",
+    };
+    word.len() > start.len()
+        && word.starts_with(start)
+        && are_media_chars(word)
+        && !has_octet(word.as_bytes(), b',')
+}
+
 /// The media type for a word of TYPE, which may be a whole media type, as image/jpeg.
-fn media_type_of(name: &str, word: &str) -> Option<&'static str>
+fn media_type_of<'a>(name: &str, word: &'a str) -> Option<&'a str>
     ensures { IfSome result (λ media_type. has_octet comma media_type.now ≡ false) }
 {
-    match word.rsplit_once('/') {
-        Some((_, format)) => media_type(name, format),
-        None => media_type(name, word),
+    let format = match word.rsplit_once('/') {
+        Some((_, format)) => format,
+        None => word,
+    };
+    if let Some(media_type) = media_type(name, format) {
+        return Some(media_type);
     }
+    if is_media_type(name, word) {
+        return Some(word);
+    }
+    None
 }
 
 /// Whether the octets begin as those of WebP do (RFC 9649, section 2.3).
@@ -103,7 +132,7 @@ fn image_type(octets: &[u8]) -> Option<&'static str>
 }
 
 /// The media type of a value: the one that a value of TYPE names, or else that of its first octets.
-fn media_type_in(name: &str, types: &[ParamValue], octets: &[u8]) -> &'static str
+fn media_type_in<'a>(name: &str, types: &'a [ParamValue], octets: &[u8]) -> &'a str
     ensures { has_octet comma result.now ≡ false }
 {
     for value in types {

@@ -1,16 +1,18 @@
 //! How the value of a logical line is written: as a text or as a URI, and whether its commas are
 //! parts of the text.
 ghost use Rattle.std.specs.Prelude.{◌≡◌, ◌∷◌};
+ghost use Rattle.std.specs.List.{list_all};
 ghost use Rattle.base_types.specs.Octets.{dot};
 ghost use Rattle.import_text.specs.RawLines.{head};
 ghost use Rattle.vcard_values.specs.Forms.{commas_are_text, ends_with_word, has_clear_form};
-ghost use Rattle.vcard_values.specs.Forms.{has_components, has_uri, is_old, is_property};
+ghost use Rattle.vcard_values.specs.Forms.{has_components, has_parts, has_scheme, has_uri};
+ghost use Rattle.vcard_values.specs.Forms.{is_in_words, is_old, is_property, is_scheme_octet};
 ghost use Rattle.vcard_values.specs.Forms.{is_text_property, is_uri_property, may_name_form};
 ghost use Rattle.vcard_values.specs.Forms.{names_text, names_uri, params, says, value_form};
 ghost use Rattle.vcard_values.specs.Forms.{written_name};
 ghost use Rattle.vcard_values.specs.internal.UriNames.{is_link_property, is_name_property};
 
-use crate::cuts::{after, before};
+use crate::cuts::{after, before, has_octet};
 use crate::escapes::{TextForm, ValueForm};
 use crate::version::Version;
 use import_text::is_encoded_as;
@@ -110,6 +112,13 @@ fn has_components(line: &[u8]) -> bool
     is_property(line, b"N") || is_property(line, b"ADR")
 }
 
+/// Whether semicolons part the value of the property.
+pub(crate) fn has_parts(line: &[u8]) -> bool
+    ensures { result ≡ has_parts line.now }
+{
+    has_components(line) || is_property(line, b"ORG")
+}
+
 /// Whether a parameter says that the value is a URI.
 fn names_uri(part: &[u8]) -> bool
     ensures { result ≡ names_uri part.now }
@@ -145,7 +154,7 @@ pub fn says_uri(line: &[u8]) -> bool
         .any(|part| names_uri(part))
 }
 
-fn says_text(line: &[u8]) -> bool
+pub(crate) fn says_text(line: &[u8]) -> bool
     ensures { result ≡ says names_text line.now }
 {
     params(line)
@@ -168,11 +177,38 @@ pub fn has_clear_form(line: &[u8]) -> bool
     !may_say_form(line)
 }
 
+fn is_scheme_octet(octet: u8) -> bool
+    ensures { result ≡ is_scheme_octet octet }
+{
+    octet.is_ascii_alphanumeric() || matches!(octet, b'-' | b'.' | b'+')
+}
+
+fn are_scheme_octets(octets: &[u8]) -> bool
+    ensures { result ≡ list_all is_scheme_octet octets.now }
+{
+    octets.iter().all(|octet| is_scheme_octet(*octet))
+}
+
+/// Whether the value begins as a URI does: with the octets of a scheme and a colon.
+pub fn has_scheme(value: &[u8]) -> bool
+    ensures { result ≡ has_scheme value.now }
+{
+    let scheme = before(value, b':');
+    has_octet(value, b':') && !scheme.is_empty() && are_scheme_octets(scheme)
+}
+
+/// Whether the value is a person in words (RFC 6350, section 6.6.6).
+fn is_in_words(line: &[u8]) -> bool
+    ensures { result ≡ is_in_words line.now }
+{
+    is_property(line, b"RELATED") && !has_scheme(after(line, b':'))
+}
+
 /// Whether the value is a URI or the like.
 fn has_uri(line: &[u8]) -> bool
     ensures { result ≡ has_uri line.now }
 {
-    says_uri(line) || (is_uri_property(line) && !says_text(line))
+    says_uri(line) || (is_uri_property(line) && !(says_text(line) || is_in_words(line)))
 }
 
 /// Whether a comma is a part of the text.

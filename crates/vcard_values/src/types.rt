@@ -5,12 +5,14 @@ ghost use Rattle.std.specs.Char.{is_ascii_graphic};
 ghost use Rattle.std.specs.List.{list_all, slice_split};
 ghost use Rattle.std.specs.Str.{str_to_ascii_lowercase};
 ghost use Rattle.base_types.specs.Octets.{comma, semicolon};
+ghost use Rattle.vcard_values.specs.OwnLabels.{own_label_type, values_in};
 ghost use Rattle.vcard_values.specs.Types.{has_clear_types, is_encoding_word, is_place_word};
 ghost use Rattle.vcard_values.specs.Types.{is_pref, is_preferred, is_type, part_prefers, part_types};
 ghost use Rattle.vcard_values.specs.Types.{types_of, types_text, word_types};
 
 use crate::cuts::has_octet;
 use crate::forms::{head, params};
+use crate::own_labels::{is_own_label, own_label_type};
 use base_types::{Items, NoMemory, Text};
 use import_text::begins_with_word;
 use std::alloc::{AllocError, Global};
@@ -80,7 +82,7 @@ fn split_commas(alloc: Global, octets: &[u8]) -> Result<Vec<&[u8]>, AllocError>
 }
 
 /// The octets between semicolons.
-fn split_semicolons(alloc: Global, octets: &[u8]) -> Result<Vec<&[u8]>, AllocError>
+pub(crate) fn split_semicolons(alloc: Global, octets: &[u8]) -> Result<Vec<&[u8]>, AllocError>
     ensures { IfOk result (λ parts. map (λ part. part.now) parts.items
         ≡ slice_split (λ octet. octet == semicolon) octets.now) }
 {
@@ -136,10 +138,23 @@ fn push_types(alloc: Global, types: &mut Items<ParamValue>, words: &[&[u8]]) -> 
     Ok(())
 }
 
+/// Appends the type that a label of one's own is, if it is one.
+fn push_own_label(alloc: Global, types: &mut Items<ParamValue>, part: &[u8]) -> Result<(), NoMemory>
+    ensures { OnOk result (types.new ≡ types.old ++ values_in (own_label_type part.now)) }
+{
+    if let Some(value) = own_label_type(alloc, part)? {
+        types.push(value)?;
+    }
+    Ok(())
+}
+
 /// Appends the types that a parameter has.
 fn push_part(alloc: Global, types: &mut Items<ParamValue>, part: &[u8]) -> Result<(), NoMemory>
     ensures { OnOk result (types.new ≡ types.old ++ part_types part.now) }
 {
+    if is_own_label(part) {
+        return push_own_label(alloc, types, part);
+    }
     let words = split_commas(alloc, types_text(part))?;
     push_types(alloc, types, words.as_slice())
 }

@@ -5,15 +5,17 @@ ghost use Rattle.std.specs.List.{list_all, list_any};
 ghost use Rattle.import_text.specs.Encodings.{text_of};
 ghost use Rattle.vcard_values.specs.Forms.{says};
 ghost use Rattle.vcard_values.specs.ValueTexts.{charset_text, has_clear_encoding, is_b};
-ghost use Rattle.vcard_values.specs.ValueTexts.{is_bare_b, may_name_encoding, names_no_encoding};
-ghost use Rattle.vcard_values.specs.ValueTexts.{names_plain, names_quoted, names_utf8, names_windows};
+ghost use Rattle.vcard_values.specs.ValueTexts.{is_bare_b, may_name_encoding, names_ascii};
+ghost use Rattle.vcard_values.specs.ValueTexts.{names_no_encoding, names_nothing, names_plain};
+ghost use Rattle.vcard_values.specs.ValueTexts.{names_quoted, names_utf8, names_windows};
 ghost use Rattle.vcard_values.specs.ValueTexts.{value_of, value_text, with_line_feeds};
 ghost use Rattle.vcard_values.specs.internal.BreakLoop.{break_char, break_state};
 
+use crate::components::decoded_value;
 use crate::cuts::after;
 use crate::forms::params;
 use base_types::NoMemory;
-use import_text::{is_encoded_as, read_quoted_printable, read_text, read_windows1252};
+use import_text::{is_encoded_as, read_text, read_windows1252};
 use std::alloc::Global;
 
 /// Whether a parameter says that the value is quoted-printable.
@@ -40,13 +42,25 @@ fn names_no_encoding(part: &[u8]) -> bool
     is_encoded_as(part, b"8BIT") || is_encoded_as(part, b"7BIT") || is_encoded_as(part, b"8-BIT")
 }
 
-/// Whether a parameter says that the value is in UTF-8, of which ASCII is a part.
+/// Whether a parameter says that the value is in UTF-8.
 fn names_utf8(part: &[u8]) -> bool
     ensures { result ≡ names_utf8 part.now }
 {
-    part.eq_ignore_ascii_case(b"CHARSET=UTF-8")
-        || part.eq_ignore_ascii_case(b"CHARSET=UTF8")
-        || part.eq_ignore_ascii_case(b"CHARSET=US-ASCII")
+    part.eq_ignore_ascii_case(b"CHARSET=UTF-8") || part.eq_ignore_ascii_case(b"CHARSET=UTF8")
+}
+
+/// Whether a parameter says that the value is in ASCII.
+fn names_ascii(part: &[u8]) -> bool
+    ensures { result ≡ names_ascii part.now }
+{
+    part.eq_ignore_ascii_case(b"CHARSET=US-ASCII")
+}
+
+/// Whether a parameter names no encoding or no character set.
+fn names_nothing(part: &[u8]) -> bool
+    ensures { result ≡ names_nothing part.now }
+{
+    part.eq_ignore_ascii_case(b"ENCODING=") || part.eq_ignore_ascii_case(b"CHARSET=")
 }
 
 /// Whether a parameter says that the value is in Windows-1252, or in Latin-1.
@@ -84,11 +98,24 @@ fn is_bare_b(part: &[u8]) -> bool
     has_b(part) && has_only_b(part)
 }
 
+/// Whether a parameter says in one of the ways above how the value is encoded, or says nothing.
+fn names_known(part: &[u8]) -> bool
+    ensures { result ≡ (names_quoted part.now || names_plain part.now || names_utf8 part.now
+        || names_ascii part.now || names_windows part.now || names_nothing part.now) }
+{
+    names_quoted(part)
+        || names_plain(part)
+        || names_utf8(part)
+        || names_ascii(part)
+        || names_windows(part)
+        || names_nothing(part)
+}
+
 /// Whether a parameter may say how the value is encoded, in another way than those above.
 fn may_name_encoding(part: &[u8]) -> bool
     ensures { result ≡ may_name_encoding part.now }
 {
-    !(names_quoted(part) || names_plain(part) || names_utf8(part) || names_windows(part))
+    !names_known(part)
         && (is_encoded_as(part, b"CHARSET")
             || is_encoded_as(part, b"ENCODING")
             || is_encoded_as(part, b"QUOTED-PRINTABLE")
@@ -130,6 +157,14 @@ fn says_utf8(line: &[u8]) -> bool
         .any(|part| names_utf8(part))
 }
 
+fn says_ascii(line: &[u8]) -> bool
+    ensures { result ≡ says names_ascii line.now }
+{
+    params(line)
+        .split(|octet| *octet == b';')
+        .any(|part| names_ascii(part))
+}
+
 /// Whether the line says that its value is in Windows-1252, or in Latin-1.
 fn says_windows(line: &[u8]) -> bool
     ensures { result ≡ says names_windows line.now }
@@ -153,7 +188,7 @@ pub(crate) fn has_clear_encoding(line: &[u8]) -> bool
 {
     !may_say_encoding(line)
         && !(is_quoted(line) && says_no_encoding(line))
-        && !(says_utf8(line) && says_windows(line))
+        && !((says_utf8(line) || says_ascii(line)) && says_windows(line))
 }
 
 /// Appends a character, if it isn't the second of a line break.
@@ -182,12 +217,16 @@ pub fn with_line_feeds(alloc: Global, text: &str) -> Result<String, NoMemory>
     Ok(out)
 }
 
-/// The text of octets in Windows-1252, or in a character set that isn't known.
-fn charset_text(alloc: Global, is_windows: bool, octets: &[u8]) -> Result<String, NoMemory>
-    ensures { IfOk result (λ text. string_bytes text ≡ charset_text is_windows octets.now) }
+/// The text of octets that were quoted-printable, in the character set that the line names, or in
+/// one that isn't known.
+fn charset_text(alloc: Global, line: &[u8], octets: &[u8]) -> Result<String, NoMemory>
+    ensures { IfOk result (λ text. string_bytes text ≡ charset_text line.now octets.now) }
 {
-    if is_windows {
+    if says_windows(line) {
         return read_windows1252(alloc, octets);
+    }
+    if says_utf8(line) {
+        return Ok(String::from_utf8_lossy(alloc, octets)?);
     }
     read_text(alloc, octets)
 }
@@ -209,8 +248,8 @@ pub fn value_text(alloc: Global, line: &[u8], text: &str) -> Result<String, NoMe
 {
     let octets = after(line, b':');
     if is_quoted(line) {
-        let octets = read_quoted_printable(alloc, octets)?;
-        let text = charset_text(alloc, says_windows(line), octets.as_slice())?;
+        let octets = decoded_value(alloc, line, octets)?;
+        let text = charset_text(alloc, line, octets.as_slice())?;
         return with_line_feeds(alloc, text.as_str());
     }
     if says_windows(line) {

@@ -1,7 +1,8 @@
 //! Lines whose value is known, and pictures, sounds and keys in base64.
 ghost use Rattle.std.specs.Prelude.{◌≡◌, IfOk};
 ghost use Rattle.std.specs.Option.{option_map};
-ghost use Rattle.vcard_values.specs.Values.{has_closed_quotes, has_known_value, has_media};
+ghost use Rattle.vcard_values.specs.Values.{has_closed_quotes, has_known_text, has_known_value};
+ghost use Rattle.vcard_values.specs.Values.{has_media};
 ghost use Rattle.vcard_values.specs.Values.{has_open_quote, has_other_form};
 ghost use Rattle.vcard_values.specs.Values.{has_plain_value, is_in_base64, is_media_name};
 ghost use Rattle.vcard_values.specs.Values.{is_named_so, is_plain_name, may_be_base64};
@@ -98,16 +99,23 @@ fn has_plain_value(line: &[u8]) -> bool
         && (!has_octet(value, b',') || !is_named_as_text(line))
 }
 
+/// Whether the text of the value of the line is known.
+pub(crate) fn has_known_text(line: &[u8]) -> bool
+    ensures { result ≡ has_known_text line.now }
+{
+    has_octet(line, b':')
+        && is_plain_name(written_name(line))
+        && has_closed_quotes(line)
+        && has_clear_encoding(line)
+}
+
 /// Whether the text of the value of the line is known, in a form that is clear or makes no
 /// difference.
 pub fn has_known_value(line: &[u8]) -> bool
     ensures { result ≡ has_known_value line.now }
 {
-    has_octet(line, b':')
-        && is_plain_name(written_name(line))
+    has_known_text(line)
         && !is_named_as_other(line)
-        && has_closed_quotes(line)
-        && has_clear_encoding(line)
         && (has_clear_form(line) || has_plain_value(line))
 }
 
