@@ -211,3 +211,10 @@ module _ (a b c : Option (List ConnectionCall)) (pieces : ℕ) where
       inl (leads_on a b c (Waits 0) (Replies (pieces + 1)) WriterFailed far failed)
   ends_answering Write far (inr often) reads turns =
       inr (tries_on a b c (Waits 0) (Replies (pieces + 1)) far often)
+
+-- a piece was read and replied to
+pub read_and_replied : (a b c d : Option (List ConnectionCall)) (pieces count : ℕ) (closed : Bool)
+    → (count ≡ 0 → ⊥) → LeadsOn a b (Waits 0) (Waits pieces) → ReadsInOrder pieces b c (Ok count)
+    → AnswersInOrder (pieces + 1) c d (Ok closed) → LeadsOn a d (Waits 0) (Waits (pieces + 1))
+read_and_replied a b c d pieces count closed some far reads answers =
+    replied a c d pieces closed (read_some a b c pieces count some far reads) answers

@@ -3,7 +3,7 @@ use Rattle.std.proofs.Common.{ℕ, List, ◌++◌, false, Option, Some}
 use Rattle.std.proofs.KnownBytes.{Consumes-trans}
 use Rattle.std.specs.Io.KnownBytes.{Consumes}
 use Rattle.http_replies.specs.Replies.{head_fault_octets}
-use Rattle.http_requests.specs.SessionFeeding.{FeedsSession, HandlesSomePrefix}
+use Rattle.http_requests.specs.SessionFeeding.{HandlesSomePrefix}
 use Rattle.http_requests.specs.HandlerRuns.{HandlerRelation, FaultReplies}
 use Rattle.http_requests.proofs.PartLemmas.{part_of_fed}
 use Rattle.http_requests.proofs.RunLemmas.{answered_run, part_on}

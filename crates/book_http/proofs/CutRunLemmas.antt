@@ -20,14 +20,14 @@ module _ {S : Type 0} (model : StoreModel S) (law : AreReadInOneWay) where
   Refused rest last = RefusesHead (ServiceStep model) head_fault_octets rest last
 
   -- the octets after the replies to all requests
-  abbrev Ends : Bool → List ℕ → List ℕ → Type 0
-  Ends ended rest last = ((ended ≡ true) × (last ≡ [])) ⊎ ((ended ≡ false) × Refused rest last)
+  abbrev HasEnd : Bool → List ℕ → List ℕ → Type 0
+  HasEnd ended rest last = ((ended ≡ true) × (last ≡ [])) ⊎ ((ended ≡ false) × Refused rest last)
 
   abbrev EndAlike : List ℕ → List ℕ → List ℕ → Type 0
   EndAlike rest last other = ((last ≡ []) × (other ≡ [])) ⊎ (Refused rest last × Refused rest other)
 
-  end_alike : (ended : Bool) (rest last other : List ℕ) → Ends ended rest last
-      → Ends ended rest other → EndAlike rest last other
+  end_alike : (ended : Bool) (rest last other : List ℕ) → HasEnd ended rest last
+      → HasEnd ended rest other → EndAlike rest last other
   end_alike ended rest last other (inl a) (inl b) = inl (a.1, b.1)
   end_alike ended rest last other (inl a) (inr b) = absurd (cc (a.0, b.0))
   end_alike ended rest last other (inr a) (inl b) = absurd (cc (a.0, b.0))
@@ -93,8 +93,8 @@ module _ {S : Type 0} (model : StoreModel S) (law : AreReadInOneWay) where
         stop.answered stop_too.answered stop.replies_are stop_too.replies_are
         (λ (ended : stop_too.ended ≡ stop.ended) (rest : stop_too.rest ≡ stop.rest).
         end_alike stop.ended stop.rest stop.last stop_too.last stop.why
-        (subst (λ (b : Bool). Ends b stop.rest stop_too.last) ended
-        (subst (λ (r : List ℕ). Ends stop_too.ended r stop_too.last) rest stop_too.why)))
+        (subst (λ (b : Bool). HasEnd b stop.rest stop_too.last) ended
+        (subst (λ (r : List ℕ). HasEnd stop_too.ended r stop_too.last) rest stop_too.why)))
 
   abbrev pieces : List (List ℕ × List ℕ) → List ℕ
   pieces turns = flat_map (λ (turn : List ℕ × List ℕ). turn.0) turns

@@ -1,5 +1,6 @@
 -- Connections in turn are one run of the service.
-use Rattle.std.proofs.Common.{◌≡◌, ◌∙◌, ℕ, false, List, [], ◌∷◌, ◌++◌, Option, Some, None, refl}
+use Rattle.std.proofs.Common.{◌≡◌, ◌∙◌, ℕ, Bool, false, List, [], ◌∷◌, ◌++◌, Option, Some, None}
+use Rattle.std.proofs.Common.{refl}
 use Rattle.std.proofs.Common.{sym, subst, inl, inr, ◌⊎◌}
 use Rattle.std.proofs.lemmas.List.{append-nil}
 use Rattle.std.specs.Io.KnownBytes.{Appends, Consumes}
@@ -9,11 +10,14 @@ use Rattle.http_requests.proofs.PartLemmas.{part_of_fed}
 use Rattle.book_http.proofs.ConnectionLemmas.{handles_read}
 use Rattle.book_http.proofs.OctetRunLemmas.{all_limits, all_premise, requests_run}
 use Rattle.book_http.specs.Listening.{ServesConnection, ServesInTurn, ServedConnection}
-use Rattle.book_http.specs.ListeningRuns.{ConnectionsAreOneRun, RunsInTurn, RunsOneConnection}
+use Rattle.book_http.specs.ListeningRuns.{ConnectionsAreOneRun, RepliesToAll, RunsInTurn}
+use Rattle.book_http.specs.ListeningRuns.{RunsOneConnection}
 use Rattle.book_http.specs.ConnectionModels.{ConnectionModel}
 use Rattle.book_service.specs.Runs.{TraceStep, MatchesRows, SystemState, Run, end_of}
 use Rattle.book_service.proofs.StepLemmas.{runs_join}
 use Rattle.http_replies.specs.Replies.{head_fault_octets}
+use Rattle.http_requests.specs.HandlerRuns.{HandlesRequests}
+use Rattle.http_requests.specs.Requests.{Request, StartsWithRequests}
 use Rattle.http_requests.specs.SessionFeeding.{FeedsSession, HandlesSomePrefix}
 use Rattle.sync_core.specs.StoreModels.{StoreModel}
 
@@ -71,6 +75,39 @@ module _ {S Connection : Type 0} (model : StoreModel S)
     pub at : MatchesRows (end_of now own) (model.limits new) (model.books new)
     pub devices_are : (end_of now own).devices ≡ now.devices
 
+  -- some requests of the octets read were handled, from the first on
+  requests_happen : (now : SystemState) (before connection_after : Connection) (end : Option
+      ServeFault) (old new : S) (octets replies : List ℕ) (requests : List Request) (ended : Bool)
+      (rest : List ℕ) → StartsAt model now old new
+      → HandlesRequests (ServiceStep model) head_fault_octets old requests replies new
+      → Consumes (stream.remaining before) (stream.remaining connection_after) octets
+      → StartsWithRequests octets requests ended rest
+      → (end ≡ None → RepliesToAll model stream (stream.contents before)
+      (stream.contents connection_after) octets requests replies ended rest)
+      → TurnHappens now before end new
+  requests_happen now before connection_after end old new octets replies requests ended rest starts
+      handles read first all_replied =
+      let ran = requests_run model now old new requests replies starts handles in
+      record {
+        own = ran.run;
+        runs = ran.runs;
+        turn = record {
+          connection_after = connection_after;
+          octets = octets;
+          read = read;
+          requests = requests;
+          replies = replies;
+          ended = ended;
+          rest = rest;
+          first = first;
+          are_replies = ran.are_replies;
+          all_replied = all_replied;
+        };
+        at = at_end now (end_of now ran.run) old new starts.at (all_limits model requests old new
+            replies handles) ran.at;
+        devices_are = ran.devices_are;
+      }
+
   -- it was served to its end
   fed_happens : (session : Option (List ℕ)) (now : SystemState) (before connection_after :
       Connection) (old new : S) (octets replies : List ℕ) → StartsAt model now old new
@@ -80,62 +117,26 @@ module _ {S Connection : Type 0} (model : StoreModel S)
       → TurnHappens now before None new
   fed_happens (Some rest) now before connection_after old new octets replies starts read fed sent =
       let a = fed.0 in
-      let ran = requests_run model now old new a.requests replies starts a.handles in
-      record {
-        own = ran.run;
-        runs = ran.runs;
-        turn = record {
-          connection_after = connection_after;
-          octets = octets;
-          read = read;
-          requests = a.requests;
-          replies = replies;
-          ended = false;
-          rest = rest;
-          first = a.requests_are.0;
-          are_replies = ran.are_replies;
-          all_replied = λ _. record {
-            requests_are = a.requests_are;
-            last = [];
-            sent = subst (Appends (stream.contents before) (stream.contents connection_after))
-                (sym (append-nil replies)) sent;
-            last_is = inl refl;
-          };
-        };
-        at = at_end now (end_of now ran.run) old new starts.at (all_limits model a.requests old new
-            replies a.handles) ran.at;
-        devices_are = ran.devices_are;
-      }
+      requests_happen now before connection_after None old new octets replies a.requests false rest
+      starts a.handles read a.requests_are.0 (λ _. record {
+        requests_are = a.requests_are;
+        last = [];
+        sent = subst (Appends (stream.contents before) (stream.contents connection_after))
+            (sym (append-nil replies)) sent;
+        last_is = inl refl;
+      })
   fed_happens None now before connection_after old new octets replies starts read (inr stop) sent =
       absurd (cc stop.screened_for)
   fed_happens None now before connection_after old new octets replies starts read (inl stop) sent =
       let a = stop.answered in
-      let ran = requests_run model now old new a.requests stop.answers starts a.handles in
-      record {
-        own = ran.run;
-        runs = ran.runs;
-        turn = record {
-          connection_after = connection_after;
-          octets = octets;
-          read = read;
-          requests = a.requests;
-          replies = stop.answers;
-          ended = stop.ended;
-          rest = stop.rest;
-          first = a.requests_are.0;
-          are_replies = ran.are_replies;
-          all_replied = λ _. record {
-            requests_are = a.requests_are;
-            last = stop.last;
-            sent = subst (Appends (stream.contents before) (stream.contents connection_after))
-                stop.replies_are sent;
-            last_is = last_of stop.why;
-          };
-        };
-        at = at_end now (end_of now ran.run) old new starts.at (all_limits model a.requests old new
-            stop.answers a.handles) ran.at;
-        devices_are = ran.devices_are;
-      }
+      requests_happen now before connection_after None old new octets stop.answers a.requests
+      stop.ended stop.rest starts a.handles read a.requests_are.0 (λ _. record {
+        requests_are = a.requests_are;
+        last = stop.last;
+        sent = subst (Appends (stream.contents before) (stream.contents connection_after))
+            stop.replies_are sent;
+        last_is = last_of stop.why;
+      })
     where
       last_of : {A B C D : Type 0} → (A × B) ⊎ (C × D) → B ⊎ D
       last_of (inl why) = inl why.1
@@ -154,27 +155,9 @@ module _ {S Connection : Type 0} (model : StoreModel S)
       (stream.remaining connection_after) (stream.contents before)
       (stream.contents connection_after) old new broke in
       let p = h.part in
-      let ran = requests_run model now old new p.runs.requests p.replies starts p.runs.handles in
-      record {
-        own = ran.run;
-        runs = ran.runs;
-        turn = record {
-          connection_after = connection_after;
-          octets = h.octets;
-          read = h.read;
-          requests = p.runs.requests;
-          replies = p.replies;
-          ended = p.ended;
-          rest = p.rest;
-          first = p.runs.leads;
-          are_replies = ran.are_replies;
-          all_replied = λ (none : Some fault ≡ None). absurd (let no : Some fault ≡ None = none in
-              cc);
-        };
-        at = at_end now (end_of now ran.run) old new starts.at (all_limits model p.runs.requests old
-            new p.replies p.runs.handles) ran.at;
-        devices_are = ran.devices_are;
-      }
+      requests_happen now before connection_after (Some fault) old new h.octets p.replies
+      p.runs.requests p.ended p.rest starts p.runs.handles h.read p.runs.leads
+      (λ (none : Some fault ≡ None). absurd (let no : Some fault ≡ None = none in cc))
 
   -- ---- connections in turn
 

@@ -1,8 +1,8 @@
 -- Pieces that are read, and octets that are written.
 use Rattle.std.proofs.Common.{◌≡◌, ◌+◌, ◌*◌, ◌≤◌, ℕ, List, [], ◌∷◌, ◌++◌, ◌∙◌, length, take, drop}
-use Rattle.std.proofs.Common.{refl, sym, ap, subst, Option, Some, None, arith, length-append}
+use Rattle.std.proofs.Common.{refl, sym, ap, subst, Option, arith, length-append}
 use Rattle.std.proofs.Common.{length-drop, length-take, ◌-◌}
-use Rattle.std.proofs.KnownBytes.{Appends-trans, Appends-kept, Consumes-nil, Consumes-trans}
+use Rattle.std.proofs.KnownBytes.{Appends-trans, Appends-kept, Consumes-trans}
 use Rattle.std.proofs.KnownBytes.{Consumes-kept}
 use Rattle.std.proofs.lemmas.List.{append-nil, take_all, take_rest}
 use Rattle.std.proofs.Math.Seq.{take-add}

@@ -1,9 +1,9 @@
 -- What the connections to a service with a site are: the requests beside the site's are one run.
-use Rattle.std.proofs.Common.{◌≡◌, ◌∙◌, ℕ, List, [], ◌∷◌, Option, Some, None, IfSome, refl, sym, ap}
+use Rattle.std.proofs.Common.{◌≡◌, ◌∙◌, ℕ, List, [], ◌∷◌, Option, Some, None, IfSome, refl, ap}
 use Rattle.std.proofs.Common.{subst}
 use Rattle.std.specs.List.{AllByRecursion}
 use Rattle.book_http.proofs.ServedHubLemmas.{handled_run}
-use Rattle.book_http.specs.OctetPromise.{ServiceStep, StartsAt}
+use Rattle.book_http.specs.OctetPromise.{ServiceStep}
 use Rattle.book_http.specs.ServedSites.{GetsOwnReply, ServedSitesAreOneRun, ServerState, ServerStep}
 use Rattle.book_http.specs.ServedSites.{beside_site, own_reply, unless_own}
 use Rattle.http_hub.proofs.HubLemmas.{hubs_separate_connections}
@@ -12,9 +12,8 @@ use Rattle.http_replies.specs.Replies.{head_fault_octets}
 use Rattle.http_requests.specs.Fields.{fault_of_head}
 use Rattle.http_requests.specs.GuardedHandlers.{first_fault}
 use Rattle.http_requests.specs.Guards.{guard}
-use Rattle.http_requests.specs.HandlerRuns.{HandlerRelation, KeepsScreens, Screen}
+use Rattle.http_requests.specs.HandlerRuns.{KeepsScreens, Screen}
 use Rattle.http_requests.specs.ParsedHeads.{head_of}
-use Rattle.http_requests.specs.declared.head_fault.HeadFault.{HeadFault}
 use Rattle.site_files.specs.SiteHandlers.{AnswersBeside}
 use Rattle.site_files.specs.Sites.{SiteFile}
 use Rattle.sync_core.specs.StoreModels.{StoreModel}

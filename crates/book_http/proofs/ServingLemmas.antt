@@ -1,6 +1,7 @@
 -- A connection is served in turns.
 use Rattle.std.proofs.Common.{◌≡◌, ◌≢◌, ◌+◌, ◌≤◌, ℕ, List, [], ◌∷◌, ◌++◌, length, take, refl, sym}
-use Rattle.std.proofs.Common.{subst, inl, inr, Option, Some, None, arith}
+use Rattle.std.proofs.Common.{subst, inl, inr, Option, Some, None, arith, Result, Ok, Err, OnOk}
+use Rattle.std.proofs.Common.{IfErr}
 use Rattle.std.proofs.lemmas.List.{append-nil}
 use Rattle.std.proofs.KnownBytes.{Appends-nil, Appends-trans, Consumes-nil, Consumes-trans}
 use Rattle.std.proofs.KnownBytes.{Consumes-kept}
@@ -17,9 +18,26 @@ use Rattle.book_http.specs.Pieces.{IsInPieces, IsPiece, piece_octets_max, pieces
 use Rattle.book_http.specs.Streams.{WritesPrefix}
 use Rattle.book_http.specs.ServedConnections.{AbortsConnection, FailsToWrite, LosesReplies}
 use Rattle.book_http.specs.ServedConnections.{FailsPiece, FeedsInput, ServesToEnd, AnswersPiece}
+use Rattle.book_http.specs.ServedConnections.{ServesUntil, fault_of}
 use Rattle.book_http.proofs.PieceLemmas.{piece_of, pieces_none, pieces_on}
 
 module _ {State : Type 0} (does : HandlerRelation State) (fault_reply : FaultReplies) where
+  -- how a connection ended, by its result
+  pub of_served : (result : Result (Unit {0}) ServeFault) (input left output written :
+      Option (List ℕ)) (old new : State)
+      → ServesUntil does fault_reply (fault_of result) input left output written old new
+      → OnOk result (ServesToEnd does fault_reply input left output written old new)
+  of_served (Ok done) input left output written old new served = served
+  of_served (Err fault) input left output written old new aborted = tt
+
+  pub of_aborted : (result : Result (Unit {0}) ServeFault) (input left output written :
+      Option (List ℕ)) (old new : State)
+      → ServesUntil does fault_reply (fault_of result) input left output written old new
+      → IfErr result (λ fault.
+      AbortsConnection does fault_reply fault input left output written old new)
+  of_aborted (Ok done) input left output written old new served = tt
+  of_aborted (Err fault) input left output written old new aborted = aborted
+
   -- a new session was fed nothing
   pub fed_none : (old : State) → FeedsSession does fault_reply [] old [] old (Some [])
   unfolding FeedsPieces

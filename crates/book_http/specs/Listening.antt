@@ -3,7 +3,7 @@ use Rattle.std.specs.Prelude.{◌≡◌, ◌<◌, ⊤, ℕ, List, [], ◌∷◌,
 use Rattle.std.specs.Option.{option_or}
 use Rattle.http_requests.specs.HandlerRuns.{HandlerRelation, FaultReplies}
 use Rattle.book_http.specs.ConnectionCalls.{AddsCalls, Closes, EndsInOrder}
-use Rattle.book_http.specs.ServedConnections.{AbortsConnection, ServesToEnd}
+use Rattle.book_http.specs.ServedConnections.{ServesUntil}
 use Rattle.book_http.specs.declared.serve_fault.ServeFault.{ServeFault}
 use Rattle.book_http.specs.declared.listen_fault.ListenFault.{ListenFault}
 use Rattle.book_http.specs.declared.listen_fault.ListenFault.TheVariants.{Serve, Device}
@@ -55,11 +55,8 @@ module _ {State Connection : Type 0} (does : HandlerRelation State) (fault_reply
     (stream : ConnectionModel Connection) where
   -- it was served to its end, or aborted with a fault
   abbrev pub ServesConnection : Option ServeFault → Connection → Connection → State → State → Type 0
-  ServesConnection None before connection_after old new =
-      ServesToEnd does fault_reply (stream.remaining before) (stream.remaining connection_after)
-      (stream.contents before) (stream.contents connection_after) old new
-  ServesConnection (Some fault) before connection_after old new =
-      AbortsConnection does fault_reply fault
+  ServesConnection end before connection_after old new =
+      ServesUntil does fault_reply end
       (stream.remaining before) (stream.remaining connection_after)
       (stream.contents before) (stream.contents connection_after) old new
 

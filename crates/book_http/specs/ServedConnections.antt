@@ -1,7 +1,8 @@
 -- Serving a connection: the octets read, the octets written, and the new state of the handler. A
 -- reader is represented by the octets that are still to be read, and a writer by those that it
 -- holds, if known.
-use Rattle.std.specs.Prelude.{◌≡◌, ◌⊎◌, ◌≤◌, ℕ, List, ◌++◌, length, Option, Some, None}
+use Rattle.std.specs.Prelude.{◌≡◌, ◌⊎◌, ◌≤◌, ℕ, List, ◌++◌, length, Option, Some, None, Result}
+use Rattle.std.specs.Prelude.{Ok, Err}
 use Rattle.std.specs.Io.KnownBytes.{Appends, Consumes, IsAtEnd}
 use Rattle.book_http.specs.Pieces.{IsInPieces, IsPiece, piece_octets_max, pieces_max}
 use Rattle.http_requests.specs.SessionFeeding.{FeedsSession, HandlesSomePrefix, FeedsPieceInPart}
@@ -11,6 +12,11 @@ use Rattle.book_http.specs.Streams.{WritesPrefix}
 use Rattle.book_http.specs.declared.serve_fault.ServeFault.{ServeFault}
 use Rattle.book_http.specs.declared.serve_fault.ServeFault.TheVariants.{Read, Write, TooManyTurns}
 use Rattle.book_http.specs.declared.serve_fault.ServeFault.TheVariants.{Memory}
+
+-- the fault that a connection was aborted with, if any
+abbrev pub fault_of : {A : Type 0} → Result A ServeFault → Option ServeFault
+fault_of (Ok done) = None
+fault_of (Err fault) = Some fault
 
 module _ {State : Type 0} (does : HandlerRelation State) (fault_reply : FaultReplies) where
   -- The octets read were fed to a new session, which has this value, and all replies were written.
@@ -98,6 +104,15 @@ module _ {State : Type 0} (does : HandlerRelation State) (fault_reply : FaultRep
       ServesPieces pieces_max input left output written old new
   AbortsConnection Memory input left output written old new =
       LosesReplies input left output written old new
+
+  -- a connection was served to its end, or aborted with this fault
+  abbrev pub ServesUntil :
+      Option ServeFault → Option (List ℕ) → Option (List ℕ) → Option (List ℕ) → Option (List ℕ)
+      → State → State → Type 0
+  ServesUntil None input left output written old new =
+      ServesToEnd input left output written old new
+  ServesUntil (Some fault) input left output written old new =
+      AbortsConnection fault input left output written old new
 
   -- ---- one piece
 

@@ -1,11 +1,11 @@
 //! Reads pieces of the input, and writes the replies to them.
 ghost use Rattle.std.specs.Prelude.{◌≡◌, ◌<◌, ◌≤◌, ◌↔◌, ℕ, length, take, IfErr, IfOk, IsTrue};
-ghost use Rattle.std.specs.Prelude.{OnErr, OnOk};
-ghost use Rattle.std.specs.Io.KnownBytes.{Appends, Consumes, IsAtEnd, Keeps};
+ghost use Rattle.std.specs.Prelude.{OnErr};
+ghost use Rattle.std.specs.Io.KnownBytes.{Consumes, IsAtEnd, Keeps};
 ghost use Rattle.std.specs.IoError.{error_kind};
 ghost use Rattle.std.specs.declared.io.ErrorKind.{ErrorKind as TheKind};
 ghost use Rattle.book_http.specs.ConnectionCalls.{ReadsInOrder, Replies, SendsInOrder, Waits};
-ghost use Rattle.book_http.specs.Streams.{WritesPrefix};
+ghost use Rattle.book_http.specs.Streams.{WritesText};
 ghost use Rattle.book_http.specs.declared.serve_fault.ServeFault.{ServeFault as TheFault};
 
 use crate::connection::Connection;
@@ -64,12 +64,9 @@ pub(crate) fn read_piece<C: Connection>(
 
 /// Writes the replies. An interrupted write is made again.
 fn write_replies<C: Connection>(connection: &mut C, replies: &[u8]) -> Result<(), ServeFault>
-    ensures sent { OnOk result (Appends (C.model.contents connection.old)
-        (C.model.contents connection.new) replies.now) }
-    ensures front { OnErr result (WritesPrefix replies.now (C.model.contents connection.old)
-        (C.model.contents connection.new)) }
+    ensures written { WritesText replies.now (C.model.contents connection.old)
+        (C.model.contents connection.new) result }
     ensures kept { C.model.remaining connection.new ≡ C.model.remaining connection.old }
-    ensures fault { IfErr result (λ fault. fault ≡ TheFault.Write) }
     ensures order { (pieces : ℕ) → SendsInOrder pieces (Replies pieces)
         (C.model.calls connection.old) (C.model.calls connection.new) result }
     ensures borrows { C.borrowed connection.new ≡ C.borrowed connection.old }
@@ -99,12 +96,9 @@ pub(crate) fn send_replies<C: Connection>(
     connection: &mut C,
     replies: &[u8],
 ) -> Result<(), ServeFault>
-    ensures sent { OnOk result (Appends (C.model.contents connection.old)
-        (C.model.contents connection.new) replies.now) }
-    ensures front { OnErr result (WritesPrefix replies.now (C.model.contents connection.old)
-        (C.model.contents connection.new)) }
+    ensures written { WritesText replies.now (C.model.contents connection.old)
+        (C.model.contents connection.new) result }
     ensures kept { C.model.remaining connection.new ≡ C.model.remaining connection.old }
-    ensures fault { IfErr result (λ fault. fault ≡ TheFault.Write) }
     ensures order { (pieces : ℕ) → SendsInOrder pieces (Waits pieces)
         (C.model.calls connection.old) (C.model.calls connection.new) result }
     ensures borrows { C.borrowed connection.new ≡ C.borrowed connection.old }

@@ -1,10 +1,11 @@
 //! Serves the requests of a connection.
-ghost use Rattle.std.specs.Prelude.{◌≡◌, ◌<◌, ◌≤◌, ◌↔◌, ℕ, None, Some, length, IfOk, IfErr};
+ghost use Rattle.std.specs.Prelude.{◌≡◌, ◌<◌, ◌≤◌, ◌↔◌, ℕ, None, length, IfOk, IfErr};
 ghost use Rattle.std.specs.Prelude.{IsTrue, OnOk};
 ghost use Rattle.book_http.specs.ConnectionCalls.{AnswersInOrder, EndsInOrder};
+ghost use Rattle.book_http.specs.Listening.{ServesConnection};
 ghost use Rattle.book_http.specs.Pieces.{piece_octets_max};
 ghost use Rattle.book_http.specs.ServedConnections.{AbortsConnection, FailsPiece, ServesToEnd};
-ghost use Rattle.book_http.specs.ServedConnections.{AnswersPiece};
+ghost use Rattle.book_http.specs.ServedConnections.{AnswersPiece, fault_of};
 
 use crate::connection::Connection;
 use crate::pieces::{PIECE_OCTETS_MAX, read_piece, send_replies};
@@ -52,18 +53,10 @@ fn serve_in<H: Handler, C: Connection>(
 ) -> Result<(), ServeFault>
     requires some { 0 < length room.old }
     requires at_most { length room.old ≤ piece_octets_max }
-    ensures served { OnOk result (ServesToEnd H.does H.fault_reply
-        (C.model.remaining connection.old) (C.model.remaining connection.new)
-        (C.model.contents connection.old) (C.model.contents connection.new)
-        handler.old handler.new) }
-    ensures fault { IfErr result (λ fault. AbortsConnection H.does H.fault_reply fault
-        (C.model.remaining connection.old) (C.model.remaining connection.new)
-        (C.model.contents connection.old) (C.model.contents connection.new)
-        handler.old handler.new) }
-    ensures ended_in_order { OnOk result (EndsInOrder None
-        (C.model.calls connection.old) (C.model.calls connection.new)) }
-    ensures aborted_in_order { IfErr result (λ fault. EndsInOrder (Some fault)
-        (C.model.calls connection.old) (C.model.calls connection.new)) }
+    ensures served { ServesConnection H.does H.fault_reply C.model (fault_of result)
+        connection.old connection.new handler.old handler.new }
+    ensures in_order { EndsInOrder (fault_of result)
+        (C.model.calls connection.old) (C.model.calls connection.new) }
     ensures borrows { C.borrowed connection.new ≡ C.borrowed connection.old }
 {
     let mut session = Session::new(alloc);
@@ -86,20 +79,12 @@ pub(crate) fn serve_connection<H: Handler, C: Connection>(
     handler: &mut H,
     connection: &mut C,
 ) -> Result<(), ServeFault>
-    ensures served { OnOk result (ServesToEnd H.does H.fault_reply
-        (C.model.remaining connection.old) (C.model.remaining connection.new)
-        (C.model.contents connection.old) (C.model.contents connection.new)
-        handler.old handler.new) }
-    ensures fault { IfErr result (λ fault. AbortsConnection H.does H.fault_reply fault
-        (C.model.remaining connection.old) (C.model.remaining connection.new)
-        (C.model.contents connection.old) (C.model.contents connection.new)
-        handler.old handler.new) }
+    ensures served { ServesConnection H.does H.fault_reply C.model (fault_of result)
+        connection.old connection.new handler.old handler.new }
 
     // Each piece is read once all replies to those before it were written and flushed.
-    ensures ended_in_order { OnOk result (EndsInOrder None
-        (C.model.calls connection.old) (C.model.calls connection.new)) }
-    ensures aborted_in_order { IfErr result (λ fault. EndsInOrder (Some fault)
-        (C.model.calls connection.old) (C.model.calls connection.new)) }
+    ensures in_order { EndsInOrder (fault_of result)
+        (C.model.calls connection.old) (C.model.calls connection.new) }
     ensures borrows { C.borrowed connection.new ≡ C.borrowed connection.old }
 {
     let mut room = Vec::new(alloc);

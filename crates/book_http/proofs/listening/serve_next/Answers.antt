@@ -10,7 +10,7 @@ returns-in-Ok-served-clause-served g c = record {
     connection_after = c.serve_connection-served.new.connection;
     closed = c.close.new.self;
     ended = c.in-Ok-served.ensures.served;
-    in_order = c.in-Ok-served.ensures.ended_in_order;
+    in_order = c.in-Ok-served.ensures.in_order;
     closes = c.close.ensures.called;
   };
 }
@@ -23,8 +23,8 @@ returns-clause-served g c = record {
   served = record {
     connection_after = c.serve_connection-served.new.connection;
     closed = c.close.new.self;
-    ended = c.in-Err.ensures.fault;
-    in_order = c.in-Err.ensures.aborted_in_order;
+    ended = c.in-Err.ensures.served;
+    in_order = c.in-Err.ensures.in_order;
     closes = c.close.ensures.called;
   };
 }

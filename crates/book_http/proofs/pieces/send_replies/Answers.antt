@@ -1,4 +1,5 @@
 use Rattle.std.proofs.Common.{refl, inl}
+use Rattle.std.proofs.lemmas.Result.{err_from_is_err_and}
 use Rattle.book_http.specs.ConnectionCalls.{FailsToFlush, WriterFailed, Flushes, Replies, Waits}
 use Rattle.book_http.proofs.CallLemmas.{leads_on, leads_one}
 use Rattle.book_http.proofs.PieceLemmas.{all_were_written}
@@ -24,9 +25,16 @@ returns-in-Err-clause-order g c = λ pieces.
     (g.C.Connection.model.calls c.flush.new.self) FailsToFlush (Replies pieces) WriterFailed
     c.in-Err.ensures.called refl))
 
-pub returns-in-Err-clause-front : goal.returns-in-Err-clause-front
-returns-in-Err-clause-front g c =
-    all_were_written (g.C.Connection.model.contents c.args.connection.now)
-    (g.C.Connection.model.contents c.write_replies.new.connection)
-    (g.C.Connection.model.contents c.flush.new.self) c.args.replies.now
-    c.in_ok-write_replies.ensures.sent c.in-Err.ensures.written
+pub returns-in_err-write_replies-clause-written : goal.returns-in_err-write_replies-clause-written
+returns-in_err-write_replies-clause-written g c =
+    let p = err_from_is_err_and c.from_residual.result c.from_residual.ensures.1 in
+    rw (p.1, p.2) c.in_err-write_replies.ensures.written
+
+pub returns-in-Err-clause-written : goal.returns-in-Err-clause-written
+returns-in-Err-clause-written g c = (
+  all_were_written (g.C.Connection.model.contents c.args.connection.now)
+      (g.C.Connection.model.contents c.write_replies.new.connection)
+      (g.C.Connection.model.contents c.flush.new.self) c.args.replies.now
+      c.in_ok-write_replies.ensures.written c.in-Err.ensures.written,
+  refl,
+)

@@ -23,13 +23,15 @@ loop-try-init g c = (
   refl,
 )
 
-pub returns-in-Ok-eq0-clause-front : goal.returns-in-Ok-eq0-clause-front
-returns-in-Ok-eq0-clause-front g c =
-    wrote_front (g.C.Connection.model.contents c.args.connection.now) (g.C.Connection.model.contents
-    c.loop-try.connection) (g.C.Connection.model.contents c.send.new.self) c.loop-try.count
-    c.in-Ok-eq0.field-0 c.args.replies.now
-    c.loop-try.invariant.1 c.loop-try.invariant.0 c.in-Ok-eq0.ensures.bound
-    c.in-Ok-eq0.ensures.written
+pub returns-in-Ok-eq0-clause-written : goal.returns-in-Ok-eq0-clause-written
+returns-in-Ok-eq0-clause-written g c = (
+  wrote_front (g.C.Connection.model.contents c.args.connection.now) (g.C.Connection.model.contents
+      c.loop-try.connection) (g.C.Connection.model.contents c.send.new.self) c.loop-try.count
+      c.in-Ok-eq0.field-0 c.args.replies.now
+      c.loop-try.invariant.1 c.loop-try.invariant.0 c.in-Ok-eq0.ensures.bound
+      c.in-Ok-eq0.ensures.written,
+  refl,
+)
 
 pub returns-in-Ok-eq0-clause-order : goal.returns-in-Ok-eq0-clause-order
 returns-in-Ok-eq0-clause-order g c = λ pieces.
@@ -39,12 +41,15 @@ returns-in-Ok-eq0-clause-order g c = λ pieces.
     c.loop-try.invariant.3 c.in-Ok-eq0.ensures.called (sent_none c.in-Ok-eq0.field-0 pieces
     c.in-Ok-eq0.field-0-test)
 
-pub returns-then-not-is_interrupted-clause-front : goal.returns-then-not-is_interrupted-clause-front
-returns-then-not-is_interrupted-clause-front g c =
-    front_was_written (g.C.Connection.model.contents c.args.connection.now)
-    (g.C.Connection.model.contents c.loop-try.connection) (g.C.Connection.model.contents
-    c.send.new.self) c.loop-try.count c.args.replies.now
-    c.loop-try.invariant.0 c.in-Err.ensures.written
+pub returns-then-not-is_interrupted-clause-written :
+    goal.returns-then-not-is_interrupted-clause-written
+returns-then-not-is_interrupted-clause-written g c = (
+  front_was_written (g.C.Connection.model.contents c.args.connection.now)
+      (g.C.Connection.model.contents c.loop-try.connection) (g.C.Connection.model.contents
+      c.send.new.self) c.loop-try.count c.args.replies.now
+      c.loop-try.invariant.0 c.in-Err.ensures.written,
+  refl,
+)
 
 pub returns-then-not-is_interrupted-clause-order : goal.returns-then-not-is_interrupted-clause-order
 returns-then-not-is_interrupted-clause-order g c = λ pieces.
@@ -90,9 +95,11 @@ loop-try-preserved g c =
       )
     ]
 
-pub returns-clause-front : goal.returns-clause-front
-returns-clause-front g c =
-    record { count = c.loop-try.count; written = c.loop-try.invariant.0 }
+pub returns-clause-written : goal.returns-clause-written
+returns-clause-written g c = (
+  record { count = c.loop-try.count; written = c.loop-try.invariant.0 },
+  refl,
+)
 
 pub returns-clause-order : goal.returns-clause-order
 returns-clause-order g c = λ pieces.
