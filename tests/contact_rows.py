@@ -417,4 +417,40 @@ KNOWN_HEADERS = [
         "Telefon gesch\u00e4ftlich\nAnn,Lee,Weg 1,Stadt,Raum 3,1\n",
         ["ADR;TYPE=work:;;Weg 1;Stadt;;;", "FN:Ann Lee", "N:Lee;Ann;;;", "TEL;TYPE=work:1"],
     ),
+    (
+        "Google in German, with dashes",
+        "Vorname,Nachname,E-Mail 1 \u2013 Label,E-Mail 1 \u2013 Wert,Telefon 1 \u2013 Label,"
+        "Telefon 1 \u2013 Wert\nAnn,Lee,* Work,a@x.test,Mobile,5\n",
+        ["EMAIL;TYPE=work;PREF=1:a@x.test", "FN:Ann Lee", "N:Lee;Ann;;;", "TEL;TYPE=cell:5"],
+    ),
+    (
+        "columns that many tables have",
+        "Prefix,First Name,Last Name,Email 1,E-Mail 2,Work Email,Phone (mobile),Telefon 2,Telefax,"
+        "Homepage,Comments,Mailing Street,Mailing City,Mailing State/Province,"
+        "Mailing Zip/Postal Code,Mailing Country\n"
+        "Dr.,Ann,Lee,a@x.test,b@x.test,c@x.test,1,2,3,https://x.test,n,Weg 1,Ort,BB,10115,DE\n",
+        ["ADR:;;Weg 1;Ort;BB;10115;DE", "EMAIL:a@x.test", "EMAIL:b@x.test", "EMAIL:c@x.test",
+         "FN:Dr. Ann Lee", "N:Lee;Ann;;Dr.;", "NOTE:n", "TEL:2", "TEL;TYPE=cell:1",
+         "TEL;TYPE=fax:3", "URL:https://x.test"],
+    ),
+    (
+        "columns of other languages that many tables have",
+        "Name,Vorname,PrimarySmtpAddress,T\u00e9l\u00e9phone mobile,Bemerkung\nLee,Ann,a@x.test,1,n\n",
+        [*ANN, "NOTE:n", "TEL;TYPE=cell:1"],
+    ),
+    (
+        "two names that are the same, of which one is called a name",
+        "Name;Vorname;E-Mail\nMartin;Martin;a@x.test\n",
+        ["EMAIL:a@x.test", "FN:Martin Martin", "N:Martin;Martin;;;"],
+    ),
+    (
+        "family names that begin as given names, and are called names",
+        "Name;Vorname;E-Mail\nPaul-Meyer;Paul;a@x.test\n",
+        ["EMAIL:a@x.test", "FN:Paul Paul-Meyer", "N:Paul-Meyer;Paul;;;"],
+    ),
+    (
+        "years of two digits, of which none is one to come",
+        "Name,Email,Birthday,Anniversary\nAnn Lee,a@x.test,15-Apr-27,15.04.26\n",
+        ["ANNIVERSARY:20260415", "BDAY:19270415", "EMAIL:a@x.test", "FN:Ann Lee"],
+    ),
 ]

@@ -212,6 +212,7 @@ class ConvertOptions(OrderTest):
             ("Wer=fn,wer=email", "'wer' is given more than once"),
             ("Wer=fn,#1=-", "'#1' is given more than once"),
             ("Wer=adr.city,Mail=adr.city", "'Mail' isn't the only column given to adr.city"),
+            (1_001 * "Wer=fn,", "it has more than 1,000 entries; name only some columns"),
         ]:
             with self.subTest(said):
                 ended = self.convert(octets, "--columns", said)
@@ -234,7 +235,11 @@ class ConvertOptions(OrderTest):
             ("Imię,Nazwisko,Poczta\nAnn,Lee,a@x.test\n", "Imię=n.given,Nazwisko=n.family"),
             ("First Name;Labels;Mail (priv.);Mobil 2\nA;b;a@x.test;1\n",
              "Mail (priv.)=email,Mobil 2=tel;type=cell"),
-            ("Wer,Mail,alt,Tel=2,O'Hara Fax\n", "Wer=fn,#4=tel,#5=tel;type=fax"),
+            ("Wer,Mail,alt,Tel=2,O'Hara Fax\nAnn,,,1,2\n", "Wer=fn,#4=tel,#5=tel;type=fax"),
+            ("Email\na@x.test\n", "Email=email"),
+            ("Email,Phone\na@x.test,1\n", "Email=email"),
+            ("Lautsprache Vorname,Wer,Position im Betrieb,Mail Label,Mail B\n,Ann,,,a@x.test\n",
+             "Wer=fn,Position im Betrieb=title,Mail B=email"),
             ('"Mail, alt",Kd-Nr\na@x.test,1\n', "#1=email,Kd-Nr=fn"),
         ]:
             with self.subTest(text):

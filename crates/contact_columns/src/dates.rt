@@ -57,11 +57,15 @@ fn small_number(digits: &str) -> Option<u8> {
     }
 }
 
-/// The year of four digits, or of two: from 1930 to 2029.
+/// The last two digits of the year in which this was written. The dates of contacts, as of births,
+/// are no later ones.
+const LAST_SHORT_YEAR: u16 = 26;
+
+/// The year of four digits, or of two: from 1927 to 2026.
 fn year_of(digits: &str) -> Option<u16> {
     if digits.len() == 2 {
         let year = u16::from(small_number(digits)?);
-        let century = if year < 30 { 2000 } else { 1900 };
+        let century = if year <= LAST_SHORT_YEAR { 2000 } else { 1900 };
         return Some(year.saturating_add(century));
     }
     if digits.len() != 4 {

@@ -63,9 +63,17 @@ pub(crate) struct NumberedName<'a> {
     pub(crate) part: &'static str,
 }
 
+/// The texts before and after a hyphen or an en dash between spaces.
+fn split_dash(name: &str) -> Option<(&str, &str)> {
+    match name.split_once(" - ") {
+        Some(parts) => Some(parts),
+        None => name.split_once(" – "),
+    }
+}
+
 /// What the name says, if it is that of a numbered column.
 pub(crate) fn numbered_name(name: &str) -> Option<NumberedName<'_>> {
-    let (head, part) = name.split_once(" - ")?;
+    let (head, part) = split_dash(name)?;
     let (kind, number) = head.rsplit_once(' ')?;
     Some(NumberedName {
         kind: name_in(KINDS, kind)?,

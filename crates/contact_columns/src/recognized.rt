@@ -83,7 +83,7 @@ fn are_of_contacts(slots: &[Slot]) -> bool {
 }
 
 /// Whether the text has one of the words.
-fn has_word(text: &str, words: &[&str]) -> bool {
+pub(crate) fn has_word(text: &str, words: &[&str]) -> bool {
     words.iter().any(|word| text.contains(*word))
 }
 
@@ -151,20 +151,29 @@ pub(crate) fn are_contacts(alloc: Global, read: &ContactColumns) -> Result<bool,
     Ok(!lacks_mails && !lacks_numbers && !lacks_names)
 }
 
+/// The most columns that are named.
+const NAMES_MAX: u32 = 20;
+
 /// Appends the names of the columns that should have names, addresses or numbers, and that aren't
-/// known, with commas between them.
+/// known, with commas between them: at most 20, and two dots for more.
 fn push_unread(alloc: Global, unread: &mut String, columns: &[Column]) -> Result<(), NoMemory> {
+    let mut count: u32 = 0;
     for column in columns {
-        if unread_in(alloc, column)?.is_any() {
-            push_listed(unread, column.name.as_str())?;
+        if !unread_in(alloc, column)?.is_any() {
+            continue;
         }
+        if count >= NAMES_MAX {
+            return push_listed(unread, "..");
+        }
+        push_listed(unread, column.name.as_str())?;
+        count = count.saturating_add(1);
     }
     Ok(())
 }
 
 /// The names of the columns of a header that should have names, addresses of electronic mail or
-/// numbers of telephones, and that aren't known, with commas between them. The only `Err` is out of
-/// memory.
+/// numbers of telephones, and that aren't known, with commas between them, at most 20. The only
+/// `Err` is out of memory.
 pub(crate) fn unread_columns(alloc: Global, header: &ByteRecord) -> Result<String, NoMemory> {
     let names = column_names(alloc, header)?;
     let read = columns_of(alloc, names.as_slice(), &[])?;

@@ -26,6 +26,8 @@ struct RowScan {
     place: Place,
     /// The number of cells that have ended.
     cells: usize,
+    /// The number of cells up to the last one that isn't empty.
+    filled: usize,
     /// The number of lines of the present cell in quotes.
     lines: u32,
     /// Where the first line ends that ends in the present cell in quotes.
@@ -42,10 +44,12 @@ pub enum RowEnd {
     /// After this many octets.
     At(usize),
     /// A quote isn't closed, or not before text; the line in which it stands has this many octets.
-    Broken(usize),
+    /// The second number is that of the octets that were looked at.
+    Broken(usize, usize),
     /// A cell in quotes has more than 200 lines, or its quote isn't closed. The line in which the
-    /// quote stands has this many octets.
-    Long(usize),
+    /// quote stands has this many octets. The second number is that of the octets that were looked
+    /// at.
+    Long(usize, usize),
     /// A quote isn't closed so far. If it stays so, the line in which it stands has this many
     /// octets.
     Open(usize),
@@ -81,6 +85,7 @@ impl RowScan {
         RowScan {
             place: Place::Start,
             cells: 0,
+            filled: 0,
             lines: 0,
             cell_line: None,
             row_line: None,
@@ -152,6 +157,9 @@ impl RowScan {
 
     /// Takes an octet that ends no row.
     fn take(&mut self, delimiter: u8, octet: u8, after: usize) {
+        if octet != delimiter || self.place == Place::Quoted {
+            self.filled = self.cells.saturating_add(1);
+        }
         match self.place {
             Place::Quoted => self.take_quoted(octet, after),
             Place::Closed if octet == b'"' => self.place = Place::Quoted,
@@ -168,22 +176,32 @@ impl RowScan {
 
     /// The end of a row in which a quote isn't closed: that of the line in which the quote stands.
     fn broken_end(&self, octets: &[u8], from: usize) -> RowEnd {
+        let looked = from.saturating_add(1);
         match self.cell_line {
-            Some(end) if self.lines >= CELL_LINES_MAX => return RowEnd::Long(end),
-            Some(end) => return RowEnd::Broken(end),
+            Some(end) if self.lines >= CELL_LINES_MAX => return RowEnd::Long(end, looked),
+            Some(end) => return RowEnd::Broken(end, looked),
             None => {}
         }
         match ended_line_len(octets.get(from..).unwrap_or(&[])) {
-            Some(more) => RowEnd::Broken(from.saturating_add(more)),
+            Some(more) => {
+                let end = from.saturating_add(more);
+                RowEnd::Broken(end, end)
+            }
             None => RowEnd::Endless,
         }
+    }
+
+    /// Whether a row that ends has as many cells as the header, but for empty ones after them.
+    fn has_width(&self, width: usize) -> bool {
+        let cells = self.cells.saturating_add(1);
+        cells == width || cells > width && self.filled <= width
     }
 
     /// The end of a row that ends after this many octets. One of several lines that hasn't as many
     /// cells as the header is taken for one with a quote that isn't closed.
     fn whole_end(&self, width: usize, after: usize) -> RowEnd {
         match self.row_line {
-            Some(line) if self.cells.saturating_add(1) != width => RowEnd::Broken(line),
+            Some(line) if !self.has_width(width) => RowEnd::Broken(line, after),
             _ => RowEnd::At(after),
         }
     }

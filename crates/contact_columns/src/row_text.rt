@@ -41,10 +41,11 @@ enum Mode {
 /// the line, it gives a row with the cell `BROKEN_ROW`, and reads on with the line after that of
 /// the quote. That line ends with a line feed, a carriage return or both. A quote is one that isn't
 /// closed if there are 200 lines or 8,388,608 octets after it, or if its row has several lines and
-/// not as many cells as the header. With 200 lines, the cell is `LONG_ROW`. It gives as many line
-/// feeds as the file has, and at the end of a file that doesn't end with one, the end of its first
-/// line. Where the first line ends with a carriage return alone, each carriage return of the file
-/// that no line feed follows counts as a line feed. Of CR CR LF it gives CR LF.
+/// not as many cells as the header, but for empty ones after them. With 200 lines, the cell is
+/// `LONG_ROW`. It gives as many line feeds as the file has, and at the end of a file that doesn't
+/// end with one, the end of its first line. Where the first line ends with a carriage return alone,
+/// each carriage return of the file that no line feed follows counts as a line feed. Of CR CR LF it
+/// gives CR LF.
 #[derive(Drop)]
 pub struct RowText<R> {
     alloc: Global,
@@ -232,8 +233,8 @@ impl<R: Read + Drop> RowText<R> {
         let is_last = self.is_at_end || len >= ROW_OCTETS_MAX;
         match row_end(self.delimiter, self.width, self.unread()) {
             RowEnd::At(end) => self.ready = end,
-            RowEnd::Broken(end) => self.break_row(BROKEN_ROW, end)?,
-            RowEnd::Long(end) => self.break_row(LONG_ROW, end)?,
+            RowEnd::Broken(end, _) => self.break_row(BROKEN_ROW, end)?,
+            RowEnd::Long(end, _) => self.break_row(LONG_ROW, end)?,
             _ if !is_last => return Ok(false),
             RowEnd::Open(end) => self.break_row(BROKEN_ROW, end)?,
             RowEnd::Endless => {

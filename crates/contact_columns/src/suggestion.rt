@@ -3,7 +3,7 @@
 use crate::columns::{Column, column_names, columns_of};
 use crate::folded::folded;
 use crate::header::{DELIMITERS, first_row};
-use crate::recognized::{has_names, is_other};
+use crate::recognized::{has_names, has_word, is_other};
 use crate::wishes::push_header_entry;
 use base_types::{Items, NoMemory, Text};
 use std::alloc::Global;
@@ -11,6 +11,8 @@ use std::alloc::Global;
 /// Parts of names of columns, and what columns with such names mostly become.
 const GUESSES: &[(&str, &str)] = &[
     ("mail", "email"),
+    ("smtp", "email"),
+    ("position", "title"),
     ("fax", "tel;type=fax"),
     ("mobil", "tel;type=cell"),
     ("mobiel", "tel;type=cell"),
@@ -67,9 +69,18 @@ const GUESSES: &[(&str, &str)] = &[
     ("comment", "note"),
 ];
 
+/// Parts of names of columns that say something of another column.
+const BESIDE_OTHERS: &[&str] = &["phonet", "lautsprache", "label"];
+
+/// Whether a column of this name says something of another one.
+fn is_beside(alloc: Global, name: &str) -> Result<bool, NoMemory> {
+    let name = folded(alloc, name)?;
+    Ok(has_word(name.as_str(), BESIDE_OTHERS))
+}
+
 /// What a column of this name may become, which is in lower case.
 fn guess_by(name: &str) -> Option<&'static str> {
-    if name.contains("phonet") {
+    if has_word(name, BESIDE_OTHERS) {
         return None;
     }
     let is_other = is_other(name);
@@ -124,7 +135,8 @@ fn names_someone(word: &str) -> bool {
     word == "fn" || word.starts_with("n.") || word.starts_with("org")
 }
 
-/// The first column for which there is no guess, unless columns have names without it.
+/// The first column for which there is no guess, and which says nothing of another one, unless
+/// columns have names without it.
 fn name_place(
     alloc: Global,
     columns: &[Column],
@@ -138,7 +150,11 @@ fn name_place(
         }
         match guess(alloc, column.name.as_str())? {
             Some(word) => is_named = is_named || names_someone(word),
-            None => free = free.or(Some(place)),
+            None => {
+                if !is_beside(alloc, column.name.as_str())? {
+                    free = free.or(Some(place));
+                }
+            }
         }
     }
     if is_named {
@@ -166,6 +182,9 @@ fn push_suggestion(
     }
 }
 
+/// The number of octets from which on no more columns are suggested.
+const OCTETS_MAX: usize = 4_000;
+
 /// Appends what to say of the columns, in their order, of which the one at `named` has names.
 fn push_suggestions(
     alloc: Global,
@@ -174,6 +193,9 @@ fn push_suggestions(
     named: Option<usize>,
 ) -> Result<(), NoMemory> {
     for (place, column) in columns.iter().enumerate() {
+        if text.len() >= OCTETS_MAX {
+            break;
+        }
         if column.property.is_empty() {
             push_suggestion(
                 alloc,
@@ -187,14 +209,31 @@ fn push_suggestions(
     Ok(())
 }
 
+/// Appends that the columns of addresses of electronic mail are such columns: if they are named so,
+/// a file needs no names.
+fn push_mails(alloc: Global, text: &mut String, columns: &[Column]) -> Result<(), NoMemory> {
+    for (place, column) in columns.iter().enumerate() {
+        if text.len() < OCTETS_MAX && column.property.as_str() == "EMAIL" {
+            push_entry(alloc, text, place, column.name.as_str(), "email")?;
+        }
+    }
+    Ok(())
+}
+
 /// What to say of the columns of these names, in their order: a guess for each that isn't known. If
-/// none has names, the first one for which there is no guess has them.
+/// none has names, the first one for which there is no guess has them. A single column, or one
+/// beside columns that are all known, may only be one of addresses of electronic mail.
 fn suggestion_for(alloc: Global, names: &[Text]) -> Result<String, NoMemory> {
     let read = columns_of(alloc, names, &[])?;
     let columns = read.columns.as_slice();
-    let named = name_place(alloc, columns, has_names(read.slots.as_slice()))?;
     let mut text = String::new(alloc);
-    push_suggestions(alloc, &mut text, columns, named)?;
+    if columns.len() > 1 {
+        let named = name_place(alloc, columns, has_names(read.slots.as_slice()))?;
+        push_suggestions(alloc, &mut text, columns, named)?;
+    }
+    if text.is_empty() {
+        push_mails(alloc, &mut text, columns)?;
+    }
     Ok(text)
 }
 
@@ -212,12 +251,10 @@ pub(crate) fn first_names(alloc: Global, head: &[u8]) -> Result<Items<Text>, NoM
 
 /// What to say of the columns of a file to begin with, as `Mail (priv.)=email,#3=tel`: a guess for
 /// each column of its first row that isn't known. It says that the row is a header if all columns
-/// are named by their numbers. Empty if the row has one cell. The only `Err` is out of memory.
+/// are named by their numbers. It stops after some 4,000 octets. Empty if the row has one cell,
+/// unless that is the name of a column of addresses. The only `Err` is out of memory.
 pub fn suggested_columns(alloc: Global, head: &[u8]) -> Result<Text, NoMemory> {
     let names = first_names(alloc, head)?;
-    if names.len() < 2 {
-        return Text::copy_of(alloc, "");
-    }
     let mut text = suggestion_for(alloc, names.as_slice())?;
     push_header_entry(&mut text)?;
     Ok(Text::new(text))

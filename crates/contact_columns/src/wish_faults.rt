@@ -54,9 +54,17 @@ fn entry_fault(alloc: Global, entry: &str) -> Result<Option<Text>, NoMemory> {
     }
 }
 
-/// What is wrong with the first faulty entry.
+/// The most entries. Each of them is compared with each column.
+const ENTRIES_MAX: usize = 1_000;
+
+/// What is wrong with the first faulty entry, or with the number of entries.
 fn first_fault(alloc: Global, wished: &str) -> Result<Option<Text>, NoMemory> {
-    for entry in wished.split(',') {
+    for (count, entry) in wished.split(',').enumerate() {
+        if count >= ENTRIES_MAX {
+            return said(format!(in alloc;
+                "it has more than 1,000 entries; name only some columns"
+            ));
+        }
         if let Some(words) = entry_fault(alloc, entry)? {
             return Ok(Some(words));
         }
@@ -83,10 +91,17 @@ fn wished_names(alloc: Global, head: &[u8], wished: &str) -> Result<Option<Items
     }
 }
 
-/// The names with commas between them.
+/// The most columns of a file that are named.
+const NAMES_MAX: usize = 100;
+
+/// The names with commas between them, at most 100, and two dots for more.
 fn listed(alloc: Global, names: &[Text]) -> Result<String, NoMemory> {
     let mut list = String::new(alloc);
-    for name in names {
+    for (count, name) in names.iter().enumerate() {
+        if count >= NAMES_MAX {
+            push_listed(&mut list, "..")?;
+            break;
+        }
         push_listed(&mut list, name.as_str())?;
     }
     Ok(list)

@@ -17,11 +17,11 @@ pub(crate) enum RowKind {
     Export,
 }
 
-/// Where a row ends, and whether more was looked at to know it than the row.
+/// Where a row ends, and how many octets were looked at to know it, if these are more than the row.
 #[derive(Clone, Copy)]
 struct RowLen {
     len: usize,
-    is_broken: bool,
+    looked: usize,
 }
 
 /// The number of octets of the first row of an export, with its end; `None` if it doesn't end.
@@ -43,17 +43,11 @@ fn export_row_len(text: &[u8]) -> Option<usize> {
 /// no octets follow.
 fn contact_row_len(delimiter: u8, width: usize, text: &[u8], is_last: bool) -> Option<RowLen> {
     match row_end(delimiter, width, text) {
-        RowEnd::At(len) => Some(RowLen {
-            len,
-            is_broken: false,
-        }),
-        RowEnd::Broken(len) | RowEnd::Long(len) => Some(RowLen {
-            len,
-            is_broken: true,
-        }),
+        RowEnd::At(len) => Some(RowLen { len, looked: 0 }),
+        RowEnd::Broken(len, looked) | RowEnd::Long(len, looked) => Some(RowLen { len, looked }),
         RowEnd::Open(len) if is_last => Some(RowLen {
             len,
-            is_broken: true,
+            looked: text.len(),
         }),
         _ => None,
     }
@@ -77,15 +71,12 @@ impl RowKind {
                 let row = contact_row_len(delimiter, width, text, is_last)?;
                 Some(RowLen {
                     len: with_feed(text, row.len),
-                    is_broken: row.is_broken,
+                    looked: row.looked,
                 })
             }
             RowKind::Export => {
                 let len = export_row_len(text)?;
-                Some(RowLen {
-                    len,
-                    is_broken: false,
-                })
+                Some(RowLen { len, looked: 0 })
             }
         }
     }
@@ -121,8 +112,10 @@ fn front_row(kind: RowKind, text: &[u8], more: bool) -> (Front, u64) {
     let is_whole_text = window.len() == text.len();
     let is_last = is_whole_text && !more;
     match kind.row_len(window, is_last) {
-        Some(row) if row.is_broken => (Front::Whole(row.len), scan_weight(window)),
-        Some(row) => (Front::Whole(row.len), 0),
+        Some(row) => (
+            Front::Whole(row.len),
+            scan_weight(front(window, row.looked)),
+        ),
         None if is_last => (Front::Whole(text.len()), 0),
         None if is_whole_text => (Front::Open, 0),
         // What is left of its line would be read as another row.
