@@ -43,3 +43,7 @@ pub mod JoinTexts
 pub mod HasLemmas
 pub mod JoinLemmas
 pub mod NamedMemberLemmas
+pub mod WriteLemmas
+pub mod MemberWrites
+pub mod MemberSteps
+pub mod RowWrites

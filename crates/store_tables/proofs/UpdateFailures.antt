@@ -7,7 +7,7 @@ use Rattle.std.specs.List.Sorted.{IsPermutation}
 use Rattle.std.specs.Int.{w64}
 use Rattle.std.specs.Prelude.{FitsSigned}
 use Rattle.std.proofs.lemmas.Bool.{and_from, both_ways, cases_Bool, false_from_ne_true, not-true}
-use Rattle.std.proofs.lemmas.List.Sorted.{IsPermutation-map, IsPermutation-trans}
+use Rattle.std.proofs.lemmas.List.Sorted.{IsPermutation-trans}
 use Rattle.sqlite.specs.Command.TheVariants.{Update}
 use Rattle.sqlite.specs.Does.{OnRows}
 use Rattle.sqlite.specs.Edit.{Edit, edit_of}
@@ -35,21 +35,19 @@ use Rattle.sqlite_schema.specs.declared.schema.Index.{Index}
 use Rattle.sqlite_schema.specs.declared.schema.Keys.TheVariants.{Enforced}
 use Rattle.sqlite_schema.specs.Rules.{Obeys, Refers, agree, clashes, differ, equal}
 use Rattle.sqlite_sql.specs.Catalog.{entry_of}
-use Rattle.sqlite_sql.specs.declared.ops.CompareOp.TheVariants.{Eq, Ne}
+use Rattle.sqlite_sql.specs.declared.ops.CompareOp.TheVariants.{Ne}
 use Rattle.sqlite_tied.specs.Compute.{everything}
 use Rattle.sqlite_trees.specs.Tree.{has_rowid, rowid, without_rowid}
 use Rattle.sqlite_trees.specs.View.{IsStorable}
-use Rattle.sqlite_trees.proofs.ListLemmas.{filter-map, IsPermutation-filter}
 use Rattle.sqlite_typed.proofs.TestLemmas.{at_ints, last_term}
 use Rattle.sqlite_value.specs.Keys.{first_key, plain}
 use Rattle.store_tables.specs.Books.{AreBooks, BookRow, HoldBooks, Numbers, book_cells, book_row}
 use Rattle.store_tables.specs.Books.{number_cells}
 use Rattle.store_tables.specs.Failures.{HasOutsideCause}
 use Rattle.store_tables.specs.Tables.{book_schema, book}
-use Rattle.store_tables.proofs.Cells.{shaped}
 use Rattle.store_tables.proofs.EditLemmas.{IsAdmitted, edit_never_stops, never_stops, stops}
 use Rattle.store_tables.proofs.FreshLemmas.{fresh_one, item_of, left_free, no_clash, row_of}
-use Rattle.store_tables.proofs.KeyedRows.{has_stored, only_one, same_int}
+use Rattle.store_tables.proofs.KeyedRows.{has_stored, same_int}
 use Rattle.store_tables.proofs.Picks.{passes, picked, shows}
 use Rattle.store_tables.proofs.PutLemmas.{went_on, same_value}
 use Rattle.store_tables.proofs.Queries.{update_query, update_text}
@@ -58,7 +56,7 @@ use Rattle.store_tables.proofs.StopLemmas.{concludes_quietly, outside, query_sto
 use Rattle.store_tables.proofs.StorableLemmas.{fits_column, fits_in, int_is_number, is_storable}
 use Rattle.store_tables.proofs.StorableLemmas.{null_is_number, text_is_number}
 use Rattle.store_tables.proofs.Texts.{update_is}
-use Rattle.store_tables.proofs.UpdateLemmas.{apart_books, book_id, cast_book}
+use Rattle.store_tables.proofs.UpdateLemmas.{book_id, cast_book, only_it}
 use Rattle.store_tables.proofs.WriteFailures.{execute_fails}
 
 module _ (limit : Option ℕ) (numbers : Numbers) (bs : List BookRow) (kept : AreBooks bs) (b :
@@ -77,15 +75,6 @@ module _ (limit : Option ℕ) (numbers : Numbers) (bs : List BookRow) (kept : Ar
     abbrev f : Row → Row
     f = shows 2 update_query.filter update_query.project (overlay db []) params
 
-    only_it : IsPermutation (f (book_row b) ∷ []) (map f (filter p (db 2)))
-    only_it =
-        let one : map f (filter p (map book_row bs)) ≡ f (book_row b) ∷ [] =
-        ap (map f) (filter-map p book_row bs
-        ∙ ap (map book_row) ((λ i. filter (λ x. last_term (at_ints false Eq x.id b.id) i) bs)
-        ∙ only_one book_id book_row (λ _. refl) bs b (apart_books bs kept) there)) in
-        rw (← one, shaped book_cells p f (λ _. refl) (λ _. refl) (db 2))
-        (IsPermutation-map f _ _ (IsPermutation-filter p _ _ has))
-
     abbrev edit_by : List Row → Edit
     edit_by rows = edit_of db book (ids_of rows) Given 1 rows
 
@@ -98,7 +87,7 @@ module _ (limit : Option ℕ) (numbers : Numbers) (bs : List BookRow) (kept : Ar
 
     edit_is : (rows : List Row) → IsPermutation (map f (filter p (db 2))) rows → edit_by rows ≡ edit
     edit_is rows h = ap edit_by (one_permutation (f (book_row b)) rows
-        (IsPermutation-trans _ _ _ only_it h))
+        (IsPermutation-trans _ _ _ (only_it limit numbers bs kept b there db has) h))
         ∙ ap (λ (r : Row). record edit { news = r ∷ [] }) (cast_book new)
 
     free : is_taken left (book_row new) ≡ false

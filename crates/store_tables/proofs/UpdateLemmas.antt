@@ -60,7 +60,7 @@ cast_book b = rw (
 
 module _ (limit : Option ℕ) (numbers : Numbers) (bs : List BookRow) (kept : AreBooks bs) (b :
     BookRow) (there : Has bs b) (db : Trees) (has : HoldBooks (db 2) bs) where
-  abbrev params : Row
+  abbrev pub params : Row
   params = Int b.id ∷ number_cells numbers
 
   abbrev task : Task
@@ -75,13 +75,14 @@ module _ (limit : Option ℕ) (numbers : Numbers) (bs : List BookRow) (kept : Ar
   abbrev new : BookRow
   new = record b { numbers = numbers }
 
-  abbrev p : Row → Bool
+  abbrev pub p : Row → Bool
   p = passes 2 update_query.filter update_query.project (overlay db []) params
 
-  abbrev f : Row → Row
+  abbrev pub f : Row → Row
   f = shows 2 update_query.filter update_query.project (overlay db []) params
 
-  only_it : IsPermutation (f (book_row b) ∷ []) (map f (filter p (db 2)))
+  -- the statement finds the book's row and no other
+  pub only_it : IsPermutation (f (book_row b) ∷ []) (map f (filter p (db 2)))
   only_it =
       let one : map f (filter p (map book_row bs)) ≡ f (book_row b) ∷ [] =
       ap (map f) (filter-map p book_row bs

@@ -12,3 +12,4 @@ pub mod Meta
 pub mod SchemaCreation
 pub mod NamedMembers
 pub mod OnConnections
+pub mod Writes

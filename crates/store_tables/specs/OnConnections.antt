@@ -1,7 +1,8 @@
 -- Definitions over connections, for contracts. Their parameters are the store's ghosts and a
 -- connection, or the connection before and after a call. Most apply the definition of the same name
 -- over states or databases to the state of the connection; the others combine such definitions.
-use Rattle.std.specs.Prelude.{◌≡◌, ◌+◌, ℕ, ℤ, List, map, Option, Result, IfOk, OnErr, OnOk, IsTrue, ⊤}
+use Rattle.std.specs.Prelude.{◌≡◌, ℕ, ℤ, List, map, Option, Result, IfOk, OnErr, OnOk, IsTrue}
+use Rattle.std.specs.Prelude.{⊤}
 use Rattle.std.specs.Prelude.{Vec}
 use Rattle.std.specs.declared.alloc.Global.{Global}
 use Rattle.std.specs.List.Sorted.{IsPermutation}
@@ -155,25 +156,8 @@ module _ {S : Type 0} (store : Ghosts S) (old new : Held S) where
   abbrev pub GivenTx :
       {X : Type 0} → effects.StoredTable X → (List X → Type 0) → Type 0
   GivenTx table =
-      effects.GivenRowsTx table.AreDistinct table.Hold table.tree (state store old) (state store new)
-
-  -- after a success only this table was written, the rows obey the declared tables, and the
-  -- transaction is open
-  abbrev pub WritesTable : {X T E : Type 0} → effects.StoredTable X → Result T E → Type 0
-  WritesTable table result = GivenTx table (λ _. OnOk result (WritesOnly table.tree))
-
-  -- if the engine had ids for one more new row than a number, it has ids for that number of rows
-  -- after a success
-  abbrev pub TakesOneId : {X T E : Type 0} → effects.StoredTable X → Result T E → Type 0
-  TakesOneId table result = GivenTx table (λ _. (count : ℕ)
-      → acceptance.HasFreeIds (count + 1) (table_rows store old table.tree)
-      → OnOk result (acceptance.HasFreeIds count (table_rows store new table.tree)))
-
-  -- a success puts the member: it has the number and the card, in its own row or in a new one
-  abbrev pub PutsMember :
-      {T E : Type 0} → ℤ → List ℕ → ℤ → Option (List ℕ) → Result T E → Type 0
-  PutsMember book uid changed card result = GivenTx members.member_table
-      (λ ms. OnOk result (PutsRow store new book uid changed card ms))
+      effects.GivenRowsTx table.AreDistinct table.Hold table.tree (state store old)
+      (state store new)
 
   -- The table accepts the member: a book has the id, none of its other members has the number, the
   -- UID and the card are short, and the engine has an id for a new row. Given that, and the books
@@ -236,7 +220,7 @@ module _ {S : Type 0} (store : Ghosts S) (old new : Held S) where
 
   -- Inside a transaction over the tables `before`, a success creates the table in the tree with
   -- this number. The tables are then `after`, and the rows of the others are unchanged.
-  abbrev pub CreatesTable : {T E : Type 0} → Schema → Schema → ℕ → Result T E → Type 0
-  CreatesTable before after tree result =
+  abbrev pub IsTableCreatedInTx : {T E : Type 0} → Schema → Schema → ℕ → Result T E → Type 0
+  IsTableCreatedInTx before after tree result =
       InsideTx (old.schema ≡ before → OnOk result
       (creation.IsTableCreated before after tree (state store old).now (state store new).now))

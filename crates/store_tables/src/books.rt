@@ -1,22 +1,11 @@
 //! Statements over the table `book`.
 //!
-//! The clauses of a write inside a transaction, over a disk that returned what was written and the
-//! declared tables; no two of the books `bs` share an id or a name:
-//! - `same_reference`: the transaction still borrows the same connection.
-//! - `writes`: after a success only this table was written, the rows obey the declared tables, and
-//!   the transaction is open.
-//! - `no_commit`: on success and on error nothing was committed, and a crash leaves what it could
-//!   leave before.
-//! - `rolled_back`: an error changed nothing, or rolled the whole transaction back.
-//! - `fails_from_outside`: if the rows obey the tables, and the table accepts the write, an error
-//!   but for lack of memory has an outside cause. A new book is accepted if no book has the id or
-//!   the name, and the name has at most 2^20 octets; new numbers are if a book has the id, and its
-//!   name has at most 2^20 octets.
+//! A new book is accepted, in the sense of `WritesRow`, if no book has the id or the name, and the
+//! name has at most 2^20 octets; new numbers are if a book has the id, and its name has at most
+//! 2^20 octets.
 ghost use Rattle.store_tables.specs.Tables.{book_tree};
 ghost use Rattle.store_tables.specs.QueryResults.{AreRowsInOrder, FindsRow, counted};
-ghost use Rattle.store_tables.specs.Acceptance.{AcceptsBook, AcceptsNumbers};
 ghost use Rattle.store_tables.specs.Books.{
-  BookRow,
   book_listed,
   book_shown,
   book_table,
@@ -25,24 +14,16 @@ ghost use Rattle.store_tables.specs.Books.{
   numbers,
   numbers_of,
   numbers_shown,
-  with_book_numbers,
 };
 ghost use Rattle.store_tables.specs.OnConnections.{
   AddsBook,
   GivenTables,
-  GivenTx,
-  HasBooks,
   ListsTable,
   LooksUp,
-  NoCommit,
   Reads,
-  UndoneOnErr,
-  WriteFailsFromOutside,
-  WritesOnly,
-  WritesTable,
 };
-ghost use Rattle.sqlite_rules.specs.Lists.{Has};
-ghost use Rattle.std.specs.Prelude.{◌≡◌, IfOk, OnOk, length};
+ghost use Rattle.store_tables.specs.Writes.{GivenAcceptedBook, InsertsRow, RenumbersBook};
+ghost use Rattle.std.specs.Prelude.{◌≡◌, IfOk, length};
 
 use crate::counts::count_in;
 use sqlite::{Alter, Connection, Error, Row, Transaction, params};
@@ -104,17 +85,10 @@ pub fn insert_book<S: Alter>(
     id: i64,
     name: &str,
 ) -> Result<usize, Error>
-    ensures same_reference { tx.new.conn.ghost_name ≡ tx.old.conn.ghost_name }
-
     // The table holds the books and the empty one, and none of them had its id.
-    ensures adds { GivenTx S.Store tx.old.conn.now tx.new.conn.now book_table
-        (λ bs. OnOk result (AddsBook S.Store tx.new.conn.now id name.now bs)) }
-    ensures writes { WritesTable S.Store tx.old.conn.now tx.new.conn.now book_table result }
-    ensures no_commit { NoCommit S.Store tx.old.conn.now tx.new.conn.now }
-    ensures rolled_back { UndoneOnErr S.Store tx.old.conn.now tx.new.conn.now result }
-    ensures fails_from_outside { GivenTx S.Store tx.old.conn.now tx.new.conn.now book_table
-        (λ bs. AcceptsBook bs id name.now
-        → WriteFailsFromOutside S.Store tx.old.conn.now tx.new.conn.now result) }
+    ensures { InsertsRow S.Store tx.old tx.new book_table result
+        (AddsBook S.Store tx.new.conn.now id name.now)
+        (GivenAcceptedBook S.Store tx.old tx.new id name.now) }
 {
     tx.execute(
         "INSERT INTO book (id, name, number, horizon, created, edited, imported, import_edited, \
@@ -136,20 +110,9 @@ fn renumber<S: Alter>(
     deleted: i64,
     moved_out: i64,
 ) -> Result<usize, Error>
-    ensures same_reference { tx.new.conn.ghost_name ≡ tx.old.conn.ghost_name }
-    ensures renumbers { GivenTx S.Store tx.old.conn.now tx.new.conn.now book_table
-        (λ bs. (b : BookRow) → Has bs b → id ≡ b.id
-        → OnOk result (HasBooks S.Store tx.new.conn.now (with_book_numbers id
+    ensures { RenumbersBook S.Store tx.old tx.new id
         (numbers number horizon created edited imported import_edited moved_in deleted moved_out)
-        bs))) }
-    ensures writes { GivenTx S.Store tx.old.conn.now tx.new.conn.now book_table
-        (λ bs. (b : BookRow) → Has bs b → id ≡ b.id
-        → OnOk result (WritesOnly S.Store tx.old.conn.now tx.new.conn.now book_tree)) }
-    ensures no_commit { NoCommit S.Store tx.old.conn.now tx.new.conn.now }
-    ensures rolled_back { UndoneOnErr S.Store tx.old.conn.now tx.new.conn.now result }
-    ensures fails_from_outside { GivenTx S.Store tx.old.conn.now tx.new.conn.now book_table
-        (λ bs. AcceptsNumbers bs id
-        → WriteFailsFromOutside S.Store tx.old.conn.now tx.new.conn.now result) }
+        result }
 {
     tx.execute(
         "UPDATE book SET number = ?2, horizon = ?3, created = ?4, edited = ?5, imported = ?6, \
@@ -176,19 +139,7 @@ pub fn renumber_book<S: Alter>(
     id: i64,
     numbers: BookNumbers,
 ) -> Result<usize, Error>
-    ensures same_reference { tx.new.conn.ghost_name ≡ tx.old.conn.ghost_name }
-    ensures renumbers { GivenTx S.Store tx.old.conn.now tx.new.conn.now book_table
-        (λ bs. (b : BookRow) → Has bs b → id ≡ b.id
-        → OnOk result (HasBooks S.Store tx.new.conn.now
-        (with_book_numbers id (numbers_of numbers) bs))) }
-    ensures writes { GivenTx S.Store tx.old.conn.now tx.new.conn.now book_table
-        (λ bs. (b : BookRow) → Has bs b → id ≡ b.id
-        → OnOk result (WritesOnly S.Store tx.old.conn.now tx.new.conn.now book_tree)) }
-    ensures no_commit { NoCommit S.Store tx.old.conn.now tx.new.conn.now }
-    ensures rolled_back { UndoneOnErr S.Store tx.old.conn.now tx.new.conn.now result }
-    ensures fails_from_outside { GivenTx S.Store tx.old.conn.now tx.new.conn.now book_table
-        (λ bs. AcceptsNumbers bs id
-        → WriteFailsFromOutside S.Store tx.old.conn.now tx.new.conn.now result) }
+    ensures { RenumbersBook S.Store tx.old tx.new id (numbers_of numbers) result }
 {
     renumber(
         tx,

@@ -1,13 +1,4 @@
 //! The statements that create the tables, each inside a transaction.
-//!
-//! Their clauses, over a disk that returned what was written:
-//! - `same_reference`: the transaction still borrows the same connection.
-//! - `creates`: if exactly the tables before it were declared, after a success the table is
-//!   declared too and has no row, and the rows of the others are unchanged.
-//! - `stays_in_tx`: after a success the transaction is open.
-//! - `keeps_commit`: on success and on error nothing was committed.
-//! - `survives`: no fault of the disk is forgotten, and a crash leaves what it could leave before.
-//! - `rolled_back`: an error changed nothing, or rolled the whole transaction back.
 ghost use Rattle.store_tables.specs.SchemaCreation.{
   HasFirstTables,
   empty_schema,
@@ -17,18 +8,22 @@ ghost use Rattle.store_tables.specs.SchemaCreation.{
   with_meta,
 };
 ghost use Rattle.store_tables.specs.Meta.{IsEmptyStore, schema_number};
-ghost use Rattle.store_tables.specs.Tables.{book_schema};
+ghost use Rattle.store_tables.specs.Tables.{
+  book_schema,
+  book_tree,
+  import_tree,
+  keep_tree,
+  member_tree,
+  meta_tree,
+};
 ghost use Rattle.store_tables.specs.OnConnections.{
-  CreatesTable,
   HoldsInTx,
   HoldsNow,
   InsideTx,
-  KeepsCommitInTx,
   StaysInTxOnOk,
   StaysUncommitted,
-  SurvivesAsBefore,
-  UndoneOnErr,
 };
+ghost use Rattle.store_tables.specs.Writes.{CreatesTable};
 ghost use Rattle.std.specs.Prelude.{◌≡◌, OnOk};
 
 use crate::meta::{SCHEMA_NUMBER, insert_schema};
@@ -37,13 +32,7 @@ use sqlite::{Alter, Error, Transaction, params};
 /// Creates the table `meta` in a database without tables, within the transaction. A failure has no
 /// effect, or undoes the whole transaction.
 pub fn create_meta<S: Alter>(tx: &mut Transaction<'_, S>) -> Result<usize, Error>
-    ensures same_reference { tx.new.conn.ghost_name ≡ tx.old.conn.ghost_name }
-    ensures creates { CreatesTable S.Store tx.old.conn.now tx.new.conn.now empty_schema with_meta 0
-        result }
-    ensures stays_in_tx { StaysInTxOnOk S.Store tx.old.conn.now tx.new.conn.now result }
-    ensures keeps_commit { KeepsCommitInTx S.Store tx.old.conn.now tx.new.conn.now }
-    ensures survives { SurvivesAsBefore S.Store tx.old.conn.now tx.new.conn.now }
-    ensures rolled_back { UndoneOnErr S.Store tx.old.conn.now tx.new.conn.now result }
+    ensures { CreatesTable S.Store tx.old tx.new empty_schema with_meta meta_tree result }
 {
     tx.execute(
         "CREATE TABLE meta (name TEXT NOT NULL PRIMARY KEY, val INTEGER NOT NULL) STRICT",
@@ -54,13 +43,7 @@ pub fn create_meta<S: Alter>(tx: &mut Transaction<'_, S>) -> Result<usize, Error
 /// Creates the table `book` where `meta` is the only table, within the transaction. A failure has
 /// no effect, or undoes the whole transaction.
 pub fn create_books<S: Alter>(tx: &mut Transaction<'_, S>) -> Result<usize, Error>
-    ensures same_reference { tx.new.conn.ghost_name ≡ tx.old.conn.ghost_name }
-    ensures creates { CreatesTable S.Store tx.old.conn.now tx.new.conn.now with_meta with_books 2
-        result }
-    ensures stays_in_tx { StaysInTxOnOk S.Store tx.old.conn.now tx.new.conn.now result }
-    ensures keeps_commit { KeepsCommitInTx S.Store tx.old.conn.now tx.new.conn.now }
-    ensures survives { SurvivesAsBefore S.Store tx.old.conn.now tx.new.conn.now }
-    ensures rolled_back { UndoneOnErr S.Store tx.old.conn.now tx.new.conn.now result }
+    ensures { CreatesTable S.Store tx.old tx.new with_meta with_books book_tree result }
 {
     tx.execute(
         "CREATE TABLE book (id INTEGER PRIMARY KEY, name TEXT NOT NULL UNIQUE, number INTEGER \
@@ -74,13 +57,7 @@ pub fn create_books<S: Alter>(tx: &mut Transaction<'_, S>) -> Result<usize, Erro
 /// Creates the table `member` where `meta` and `book` are the only tables, within the transaction.
 /// A failure has no effect, or undoes the whole transaction.
 pub fn create_members<S: Alter>(tx: &mut Transaction<'_, S>) -> Result<usize, Error>
-    ensures same_reference { tx.new.conn.ghost_name ≡ tx.old.conn.ghost_name }
-    ensures creates { CreatesTable S.Store tx.old.conn.now tx.new.conn.now with_books with_members 4
-        result }
-    ensures stays_in_tx { StaysInTxOnOk S.Store tx.old.conn.now tx.new.conn.now result }
-    ensures keeps_commit { KeepsCommitInTx S.Store tx.old.conn.now tx.new.conn.now }
-    ensures survives { SurvivesAsBefore S.Store tx.old.conn.now tx.new.conn.now }
-    ensures rolled_back { UndoneOnErr S.Store tx.old.conn.now tx.new.conn.now result }
+    ensures { CreatesTable S.Store tx.old tx.new with_books with_members member_tree result }
 {
     tx.execute(
         "CREATE TABLE member (book INTEGER NOT NULL REFERENCES book(id), uid TEXT NOT NULL, \
@@ -93,13 +70,7 @@ pub fn create_members<S: Alter>(tx: &mut Transaction<'_, S>) -> Result<usize, Er
 /// Creates the table `import_key` where `meta`, `book` and `member` are the only tables, within the
 /// transaction. A failure has no effect, or undoes the whole transaction.
 pub fn create_imports<S: Alter>(tx: &mut Transaction<'_, S>) -> Result<usize, Error>
-    ensures same_reference { tx.new.conn.ghost_name ≡ tx.old.conn.ghost_name }
-    ensures creates { CreatesTable S.Store tx.old.conn.now tx.new.conn.now with_members first_schema
-        7 result }
-    ensures stays_in_tx { StaysInTxOnOk S.Store tx.old.conn.now tx.new.conn.now result }
-    ensures keeps_commit { KeepsCommitInTx S.Store tx.old.conn.now tx.new.conn.now }
-    ensures survives { SurvivesAsBefore S.Store tx.old.conn.now tx.new.conn.now }
-    ensures rolled_back { UndoneOnErr S.Store tx.old.conn.now tx.new.conn.now result }
+    ensures { CreatesTable S.Store tx.old tx.new with_members first_schema import_tree result }
 {
     tx.execute(
         "CREATE TABLE import_key (book INTEGER NOT NULL REFERENCES book(id), ikey TEXT NOT \
@@ -112,13 +83,7 @@ pub fn create_imports<S: Alter>(tx: &mut Transaction<'_, S>) -> Result<usize, Er
 /// Creates the table `keeping`; the four other tables exist. It turns the tables of schema 1 into
 /// those of schema 2.
 pub fn create_keeps<S: Alter>(tx: &mut Transaction<'_, S>) -> Result<usize, Error>
-    ensures same_reference { tx.new.conn.ghost_name ≡ tx.old.conn.ghost_name }
-    ensures creates { CreatesTable S.Store tx.old.conn.now tx.new.conn.now first_schema book_schema
-        9 result }
-    ensures stays_in_tx { StaysInTxOnOk S.Store tx.old.conn.now tx.new.conn.now result }
-    ensures keeps_commit { KeepsCommitInTx S.Store tx.old.conn.now tx.new.conn.now }
-    ensures survives { SurvivesAsBefore S.Store tx.old.conn.now tx.new.conn.now }
-    ensures rolled_back { UndoneOnErr S.Store tx.old.conn.now tx.new.conn.now result }
+    ensures { CreatesTable S.Store tx.old tx.new first_schema book_schema keep_tree result }
 {
     tx.execute(
         "CREATE TABLE keeping (book INTEGER PRIMARY KEY REFERENCES book(id), keep INTEGER NOT \

@@ -1,20 +1,9 @@
 //! Statements over the table `member`. A removed member that the book still remembers has a null
 //! card.
 //!
-//! The clauses of a write inside a transaction, over a disk that returned what was written and the
-//! declared tables; no two of the members `ms` share an id, or a UID in one book:
-//! - `same_reference`: the transaction still borrows the same connection.
-//! - `writes`: after a success only this table was written, the rows obey the declared tables, and
-//!   the transaction is open.
-//! - `takes_one_id`: if the engine had ids for one more new row than a number, it has ids for that
-//!   number of rows after a success.
-//! - `no_commit`: on success and on error nothing was committed, and a crash leaves what it could
-//!   leave before. `keeps_commit` and `survives` are its two parts.
-//! - `rolled_back`: an error changed nothing, or rolled the whole transaction back.
-//! - `fails_from_outside`: if the rows obey the tables, and the table accepts the write, an error
-//!   but for lack of memory has an outside cause. A member is accepted if the engine has an id for
-//!   a new row, a book has the id, none of its other members has the number, and neither the
-//!   UID nor the card has more than 2^20 octets.
+//! A member is accepted, in the sense of `WritesRow`, if the engine has an id for a new row, a book
+//! has the id, none of its other members has the number, and neither the UID nor the card has more
+//! than 2^20 octets.
 ghost use Rattle.store_tables.specs.Tables.{member_tree};
 ghost use Rattle.store_tables.specs.QueryResults.{AreRowsInOrder, FindsRow, FindsFirstRow, counted};
 ghost use Rattle.store_tables.specs.Acceptance.{IsViolation};
@@ -23,42 +12,32 @@ ghost use Rattle.store_tables.specs.Members.{
   has_uid,
   is_in_book,
   is_removed_above,
-  is_removed_up_to,
   member_shown,
   member_table,
   number_card_shown,
   number_shown,
-  without_removed,
 };
 ghost use Rattle.store_tables.specs.OnConnections.{
   GivenAcceptedMember,
   GivenTx,
-  HasMembers,
-  HasOutsideCause,
   InsideTx,
   IsUnchanged,
-  KeepsCommit,
   LooksUp,
-  NoCommit,
-  PutsMember,
-  PutsRow,
   Reads,
-  SurvivesAsBefore,
-  TakesOneId,
-  UndoneOnErr,
-  WriteFailsFromOutside,
-  WritesTable,
-  table_rows,
 };
-ghost use Rattle.sqlite.specs.declared.error.Error.TheVariants.{SqliteFailure};
-ghost use Rattle.sqlite.specs.declared.error.ErrorCode.TheVariants.{OutOfMemory};
+ghost use Rattle.store_tables.specs.Writes.{
+  ForgetsMembers,
+  PutsIntoMembers,
+  PutsMember,
+  PutsMemberInSteps,
+  UpdatesMember,
+  WritesRow,
+};
 ghost use Rattle.std.specs.Prelude.{
   ◌≡◌,
-  ◌≢◌,
   IfErr,
   IfOk,
   IsTrue,
-  OnOk,
   false,
   filter,
   length,
@@ -151,23 +130,11 @@ fn update_member<S: Alter>(
     changed: i64,
     card: Option<&str>,
 ) -> Result<usize, Error>
-    ensures same_reference { tx.new.conn.ghost_name ≡ tx.old.conn.ghost_name }
-    ensures updates { GivenTx S.Store tx.old.conn.now tx.new.conn.now member_table
-        (λ ms. IfOk result (λ count. count ≢ 0
-        → PutsRow S.Store tx.new.conn.now book uid.now changed (option_copied card.entry) ms)) }
-    ensures missed { GivenTx S.Store tx.old.conn.now tx.new.conn.now member_table
-        (λ _. IfOk result (λ count. count ≡ 0
-        → table_rows S.Store tx.new.conn.now member_tree
-        ≡ table_rows S.Store tx.old.conn.now member_tree)) }
-    ensures counts { GivenTx S.Store tx.old.conn.now tx.new.conn.now member_table
-        (λ ms. IfOk result (λ count. count ≡ length (filter (has_uid book uid.now) ms))) }
-    ensures writes { WritesTable S.Store tx.old.conn.now tx.new.conn.now member_table result }
-    ensures takes_one_id { TakesOneId S.Store tx.old.conn.now tx.new.conn.now member_table result }
-    ensures no_commit { NoCommit S.Store tx.old.conn.now tx.new.conn.now }
-    ensures rolled_back { UndoneOnErr S.Store tx.old.conn.now tx.new.conn.now result }
-    ensures fails_from_outside { GivenAcceptedMember S.Store tx.old.conn.now tx.new.conn.now
-        book uid.now changed (option_copied card.entry)
-        (WriteFailsFromOutside S.Store tx.old.conn.now tx.new.conn.now result) }
+    ensures { WritesRow S.Store tx.old tx.new member_tree result
+        (GivenTx S.Store tx.old.conn.now tx.new.conn.now member_table)
+        (UpdatesMember S.Store tx.old tx.new book uid.now changed (option_copied card.entry) result)
+        (GivenAcceptedMember S.Store tx.old.conn.now tx.new.conn.now book uid.now changed
+        (option_copied card.entry)) }
 {
     tx.execute(
         "UPDATE member SET changed = ?3, card = ?4 WHERE book = ?1 AND uid = ?2",
@@ -187,19 +154,8 @@ pub fn put_member<S: Alter>(
     changed: i64,
     card: Option<&str>,
 ) -> Result<usize, Error>
-    ensures same_reference { tx.new.conn.ghost_name ≡ tx.old.conn.ghost_name }
-
-    // The member has the number and the card, in its own row or in a new one. The others stay, and
-    // no two members share an id, or a UID in one book.
-    ensures puts { PutsMember S.Store tx.old.conn.now tx.new.conn.now book uid.now changed
-        (option_copied card.entry) result }
-    ensures writes { WritesTable S.Store tx.old.conn.now tx.new.conn.now member_table result }
-    ensures takes_one_id { TakesOneId S.Store tx.old.conn.now tx.new.conn.now member_table result }
-    ensures no_commit { NoCommit S.Store tx.old.conn.now tx.new.conn.now }
-    ensures rolled_back { UndoneOnErr S.Store tx.old.conn.now tx.new.conn.now result }
-    ensures fails_from_outside { GivenAcceptedMember S.Store tx.old.conn.now tx.new.conn.now
-        book uid.now changed (option_copied card.entry)
-        (WriteFailsFromOutside S.Store tx.old.conn.now tx.new.conn.now result) }
+    ensures { PutsMember S.Store tx.old tx.new book uid.now changed (option_copied card.entry)
+        result }
 {
     tx.execute(
         "INSERT INTO member (book, uid, changed, card) VALUES (?1, ?2, ?3, ?4) \
@@ -217,19 +173,15 @@ fn insert_member<S: Alter>(
     changed: i64,
     card: Option<&str>,
 ) -> Result<usize, Error>
-    ensures same_reference { tx.new.conn.ghost_name ≡ tx.old.conn.ghost_name }
-    ensures puts { PutsMember S.Store tx.old.conn.now tx.new.conn.now book uid.now changed
-        (option_copied card.entry) result }
-    ensures writes { WritesTable S.Store tx.old.conn.now tx.new.conn.now member_table result }
-    ensures takes_one_id { TakesOneId S.Store tx.old.conn.now tx.new.conn.now member_table result }
-    ensures no_commit { NoCommit S.Store tx.old.conn.now tx.new.conn.now }
-    ensures rolled_back { UndoneOnErr S.Store tx.old.conn.now tx.new.conn.now result }
+    ensures inserts { WritesRow S.Store tx.old tx.new member_tree result
+        (GivenTx S.Store tx.old.conn.now tx.new.conn.now member_table)
+        (PutsIntoMembers S.Store tx.old tx.new book uid.now changed (option_copied card.entry)
+        result)
+        (λ Then. GivenAcceptedMember S.Store tx.old.conn.now tx.new.conn.now
+        book uid.now changed (option_copied card.entry)
+        (IfErr result (λ e. IsViolation e → ⊥) → Then)) }
     ensures refused { InsideTx S.Store tx.old.conn.now tx.new.conn.now
         (IfErr result (λ e. IsViolation e → IsUnchanged S.Store tx.old.conn.now tx.new.conn.now)) }
-    ensures fails_from_outside { GivenAcceptedMember S.Store tx.old.conn.now tx.new.conn.now
-        book uid.now changed (option_copied card.entry)
-        (IfErr result (λ e. (IsViolation e → ⊥) → e ≢ SqliteFailure OutOfMemory
-        → HasOutsideCause S.Store tx.old.conn.now tx.new.conn.now)) }
 {
     tx.execute(
         "INSERT INTO member (book, uid, changed, card) VALUES (?1, ?2, ?3, ?4)",
@@ -257,16 +209,8 @@ fn put_new_member<S: Alter>(
     changed: i64,
     card: Option<&str>,
 ) -> Result<usize, Error>
-    ensures same_reference { tx.new.conn.ghost_name ≡ tx.old.conn.ghost_name }
-    ensures puts { PutsMember S.Store tx.old.conn.now tx.new.conn.now book uid.now changed
-        (option_copied card.entry) result }
-    ensures writes { WritesTable S.Store tx.old.conn.now tx.new.conn.now member_table result }
-    ensures takes_one_id { TakesOneId S.Store tx.old.conn.now tx.new.conn.now member_table result }
-    ensures no_commit { NoCommit S.Store tx.old.conn.now tx.new.conn.now }
-    ensures rolled_back { UndoneOnErr S.Store tx.old.conn.now tx.new.conn.now result }
-    ensures fails_from_outside { GivenAcceptedMember S.Store tx.old.conn.now tx.new.conn.now
-        book uid.now changed (option_copied card.entry)
-        (WriteFailsFromOutside S.Store tx.old.conn.now tx.new.conn.now result) }
+    ensures { PutsMember S.Store tx.old tx.new book uid.now changed (option_copied card.entry)
+        result }
 {
     match insert_member(tx, book, uid, changed, card) {
         Ok(rows) => Ok(rows),
@@ -294,19 +238,8 @@ pub fn put_with_hint<S: Alter>(
     card: Option<&str>,
     likely_new: bool,
 ) -> Result<usize, Error>
-    ensures same_reference { tx.new.conn.ghost_name ≡ tx.old.conn.ghost_name }
-
-    // The member has the number and the card, in its own row or in a new one. The others stay, and
-    // no two members share an id, or a UID in one book.
-    ensures puts { PutsMember S.Store tx.old.conn.now tx.new.conn.now book uid.now changed
-        (option_copied card.entry) result }
-    ensures writes { WritesTable S.Store tx.old.conn.now tx.new.conn.now member_table result }
-    ensures takes_one_id { TakesOneId S.Store tx.old.conn.now tx.new.conn.now member_table result }
-    ensures no_commit { NoCommit S.Store tx.old.conn.now tx.new.conn.now }
-    ensures rolled_back { UndoneOnErr S.Store tx.old.conn.now tx.new.conn.now result }
-    ensures fails_from_outside { GivenAcceptedMember S.Store tx.old.conn.now tx.new.conn.now
-        book uid.now changed (option_copied card.entry)
-        (WriteFailsFromOutside S.Store tx.old.conn.now tx.new.conn.now result) }
+    ensures { PutsMember S.Store tx.old tx.new book uid.now changed (option_copied card.entry)
+        result }
 {
     if likely_new {
         put_new_member(tx, book, uid, changed, card)
@@ -329,20 +262,8 @@ pub fn update_or_put<S: Alter>(
     changed: i64,
     card: Option<&str>,
 ) -> Result<(), Error>
-    ensures same_reference { tx.new.conn.ghost_name ≡ tx.old.conn.ghost_name }
-
-    // The member has the number and the card, in its own row or in a new one. The others stay, and
-    // no two members share an id, or a UID in one book.
-    ensures puts { PutsMember S.Store tx.old.conn.now tx.new.conn.now book uid.now changed
+    ensures { PutsMemberInSteps S.Store tx.old tx.new book uid.now changed
         (option_copied card.entry) result }
-    ensures writes { WritesTable S.Store tx.old.conn.now tx.new.conn.now member_table result }
-    ensures takes_one_id { TakesOneId S.Store tx.old.conn.now tx.new.conn.now member_table result }
-    ensures keeps_commit { GivenTx S.Store tx.old.conn.now tx.new.conn.now member_table
-        (λ _. KeepsCommit S.Store tx.old.conn.now tx.new.conn.now) }
-    ensures survives { SurvivesAsBefore S.Store tx.old.conn.now tx.new.conn.now }
-    ensures fails_from_outside { GivenAcceptedMember S.Store tx.old.conn.now tx.new.conn.now
-        book uid.now changed (option_copied card.entry)
-        (WriteFailsFromOutside S.Store tx.old.conn.now tx.new.conn.now result) }
 {
     let updated = update_member(tx, book, uid, changed, card)?;
     if updated == 0 {
@@ -358,16 +279,7 @@ pub fn forget_members<S: Alter>(
     book: i64,
     upto: i64,
 ) -> Result<usize, Error>
-    ensures same_reference { tx.new.conn.ghost_name ≡ tx.old.conn.ghost_name }
-    ensures forgets { GivenTx S.Store tx.old.conn.now tx.new.conn.now member_table
-        (λ ms. OnOk result (HasMembers S.Store tx.new.conn.now (without_removed book upto ms))) }
-    ensures dropped { GivenTx S.Store tx.old.conn.now tx.new.conn.now member_table
-        (λ ms. IfOk result (λ count. count ≡ length (filter (is_removed_up_to book upto) ms))) }
-    ensures writes { WritesTable S.Store tx.old.conn.now tx.new.conn.now member_table result }
-    ensures no_commit { NoCommit S.Store tx.old.conn.now tx.new.conn.now }
-    ensures rolled_back { UndoneOnErr S.Store tx.old.conn.now tx.new.conn.now result }
-    ensures fails_from_outside { WriteFailsFromOutside S.Store tx.old.conn.now tx.new.conn.now
-        result }
+    ensures { ForgetsMembers S.Store tx.old tx.new book upto result }
 {
     tx.execute(
         "DELETE FROM member WHERE book = ?1 AND card IS NULL AND changed <= ?2",

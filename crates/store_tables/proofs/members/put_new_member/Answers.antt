@@ -1,45 +1,27 @@
-use Rattle.std.proofs.Common.{◌≡◌}
+use Rattle.std.proofs.Common.{Ok, Err, option_copied}
 use Rattle.std.proofs.Math.Facts.{to_z-of_z}
-use Rattle.sqlite.specs.Held.{state}
-use Rattle.sqlite.specs.State.{HasCleanDisk}
-use Rattle.store_tables.specs.Acceptance.{HasFreeIds}
-use Rattle.store_tables.specs.Books.{HoldBooks}
-use Rattle.store_tables.specs.Members.{HoldMembers}
-use Rattle.store_tables.specs.Tables.{ObeyTables, book_schema}
-use Rattle.store_tables.proofs.FailureLemmas.{outside_later}
-use Rattle.store_tables.proofs.ReturningLemmas.{if_err_weaker, still, still_inside}
-use Rattle.store_tables.proofs.SchemaCreationLemmas.{clean_before}
+use Rattle.store_tables.proofs.MemberSteps.{inserted, puts_after_refusal}
 use Rattle.store_tables.proofs.members.put_new_member.Goals as goal
 
-pub returns-then-is_violation-clause-fails_from_outside :
-    goal.returns-then-is_violation-clause-fails_from_outside
-returns-then-is_violation-clause-fails_from_outside g c ms clean inside has kept rows bs books ids
-    accepts _ _ _ obeys =
-    let old = state g.S.Store c.args.tx.now.conn.now in
-    let mid = state g.S.Store c.insert_member.new.tx.conn.now in
-    let new = state g.S.Store c.put_member.new.tx.conn.now in
-    let early : HasCleanDisk mid = clean_before _ mid new c.put_member.ensures.no_commit.survives
-    clean in
-    let same = c.in-Err.ensures.refused early inside
-    (c.is_violation.ensures.yes c.if-is_violation.true) in
-    let on = still_inside old mid same inside in
-    let named = still old mid same (λ db. db.schema ≡ book_schema) has in
-    if_err_weaker c.put_member.result (λ e outside room. outside_later old mid new _ _
-    c.insert_member.ensures.no_commit.survives early c.put_member.ensures.no_commit.survives
-    (outside room))
-    (c.put_member.ensures.fails_from_outside ms clean on named kept
-    (still old mid same (λ db. HoldMembers (db.trees 4) ms) rows) bs
-    (still old mid same (λ db. HoldBooks (db.trees 2) bs) books)
-    (still old mid same (λ db. HasFreeIds 1 (db.trees 4)) ids) (rw (
-      to_z-of_z c.ranges.book,
-      to_z-of_z c.ranges.changed,
-    ) accepts) clean on named
-    (still old mid same (λ db. ObeyTables db.trees) obeys))
+pub returns-in-Ok : goal.returns-in-Ok
+returns-in-Ok g c =
+    inserted g.S.Store c.args.book c.args.uid.now c.args.changed (option_copied c.args.card)
+    c.args.tx.now c.insert_member.new.tx (Ok c.in-Ok.rows) tt
+    (rw (to_z-of_z c.ranges.book, to_z-of_z c.ranges.changed) at c.in-Ok.ensures.inserts)
 
-pub returns-else-is_violation-clause-fails_from_outside :
-    goal.returns-else-is_violation-clause-fails_from_outside
-returns-else-is_violation-clause-fails_from_outside g c ms clean inside has kept rows bs books ids
-    accepts _ _ _ obeys room =
-    c.in-Err.ensures.fails_from_outside ms clean inside has kept rows bs books ids
-    (rw (to_z-of_z c.ranges.book, to_z-of_z c.ranges.changed) accepts)
-    (c.is_violation.ensures.no c.if-is_violation.false) room
+pub returns-then-is_violation : goal.returns-then-is_violation
+returns-then-is_violation g c =
+    puts_after_refusal g.S.Store c.args.book c.args.uid.now c.args.changed
+    (option_copied c.args.card) c.args.tx.now c.insert_member.new.tx c.put_member.new.tx
+    c.put_member.result c.insert_member.ensures.inserts.same_reference
+    c.insert_member.ensures.inserts.no_commit
+    (λ clean inside. c.in-Err.ensures.refused clean inside
+    (c.is_violation.ensures.yes c.if-is_violation.true))
+    (rw (to_z-of_z c.ranges.book, to_z-of_z c.ranges.changed) at c.put_member.ensures)
+
+pub returns-else-is_violation : goal.returns-else-is_violation
+returns-else-is_violation g c =
+    inserted g.S.Store c.args.book c.args.uid.now c.args.changed (option_copied c.args.card)
+    c.args.tx.now c.insert_member.new.tx (Err c.in-Err.error)
+    (c.is_violation.ensures.no c.if-is_violation.false)
+    (rw (to_z-of_z c.ranges.book, to_z-of_z c.ranges.changed) at c.in-Err.ensures.inserts)
