@@ -13,19 +13,24 @@ fn is_name_column(column: &Column) -> bool {
     name.eq_ignore_ascii_case("name") || name.eq_ignore_ascii_case("nom")
 }
 
-/// Whether the text ends with a letter or a digit.
+/// Whether the character belongs to a word: a letter, a digit, or a hyphen as in `Paul-Meyer`.
+fn is_of_word(c: char) -> bool {
+    c.is_alphanumeric() || c == '-'
+}
+
+/// Whether the text ends within a word.
 fn ends_in_word(text: &str) -> bool {
     let mut is_in_word = false;
     for c in text.chars() {
-        is_in_word = c.is_alphanumeric();
+        is_in_word = is_of_word(c);
     }
     is_in_word
 }
 
-/// Whether the text begins with a letter or a digit.
+/// Whether the text begins within a word.
 fn begins_in_word(text: &str) -> bool {
     match text.chars().next() {
-        Some(c) => c.is_alphanumeric(),
+        Some(c) => is_of_word(c),
         None => false,
     }
 }
@@ -46,11 +51,13 @@ fn ends_with(text: &str, word: &str) -> bool {
     }
 }
 
-/// Whether the cell is a whole name, of which the other cell is a part.
+/// Whether the cell is a whole name, of which the other cell is a part. The same text twice is two
+/// names, as those of Martin Martin.
 fn is_whole(cell: &str, other: &str) -> bool {
     let cell = cell.trim();
     let other = other.trim();
-    !other.is_empty() && (begins_with(cell, other) || ends_with(cell, other))
+    let is_part = !other.is_empty() && other.len() < cell.len();
+    is_part && (begins_with(cell, other) || ends_with(cell, other))
 }
 
 /// The index of the column `Name` if it is the one component of the slot, and its cell is the whole
