@@ -1,5 +1,5 @@
 //! Converts one logical line.
-ghost use Rattle.std.specs.Prelude.{◌≡◌, ℕ, List, true, false, IfOk, IfSome};
+ghost use Rattle.std.specs.Prelude.{◌≡◌, ℕ, List, true, false, IfOk, IfSome, string_bytes};
 ghost use Rattle.import_text.specs.Encodings.{text_of};
 ghost use Rattle.vcard_lines.specs.declared.line.Line.{Line};
 ghost use Rattle.vcard_text.specs.Cards.{IsProperLine};
@@ -21,15 +21,15 @@ use crate::kept_line::text_line;
 use crate::new_names::renamed_line;
 use crate::proper_line::is_proper_line;
 use crate::property::{Encoding, Property, read_property};
-use crate::property_line::{Draft, binary_draft, draft_of, is_date_name, text_draft};
+use crate::property_line::{Draft, binary_draft, draft_of, draft_with, is_date_name, text_draft};
 use crate::same_line::read_same_line;
 use crate::typed_params::typed_line;
 use import_text::read_text;
 use std::alloc::Global;
 use vcard_text::{Line, NoMemory};
 use vcard_values::{
-    ValueForm, Version, has_fraction, has_known_value, media_of, value_form, value_text,
-    with_escapes,
+    ValueForm, Version, has_fraction, has_known_value, known_date, media_of, value_form,
+    value_text, with_escapes,
 };
 
 /// What the value of a line lost.
@@ -161,6 +161,26 @@ fn media_line(
     finished_line(alloc, draft, octets, Loss::Nothing)
 }
 
+/// The proper line that a property of these octets becomes, with this date, and what became of it.
+/// `None` if its line isn't proper.
+fn date_line(
+    alloc: Global,
+    property: Property,
+    octets: &[u8],
+    date: String,
+) -> Result<Option<(Line, ChangeKind)>, NoMemory>
+    ensures proper { IfOk result (λ made. IfSome made (λ line.
+        IsProperLine line.0 × (fits_kind line.1 line.0.name ≡ true))) }
+    ensures named { has_clear_name octets.now ≡ true
+        → IfOk result (λ made. IfSome made (λ line. HasNameOf octets.now line.0)) }
+    ensures typed { has_clear_new_types octets.now ≡ true
+        → IfOk result (λ made. IfSome made (λ line. HasTypesOf octets.now line.0)) }
+    ensures value { IfOk result (λ made. IfSome made (λ line.
+        line.0.value ≡ string_bytes date)) }
+{
+    finished_line(alloc, draft_with(property, date), octets, Loss::Nothing)
+}
+
 /// The proper line that a property of these octets becomes, with its value in the form of vCard
 /// 4.0, and what became of it. `None` if its line isn't proper, or has nothing of a value that had
 /// something.
@@ -243,7 +263,7 @@ fn property_line(
         → IfOk result (λ made. IfSome made (λ line. HasTypesOf octets.now line.0)) }
     ensures value { text.now ≡ text_of octets.now → is_known octets.now ≡ true
         → IfOk result (λ made. IfSome made (λ line. HasValueOf version octets.now line.0.value)) }
-    ensures content { is_known octets.now ≡ false
+    ensures content { text.now ≡ text_of octets.now → is_known octets.now ≡ false
         → IfOk result (λ made. IfSome made (λ line. is_emptied octets.now line.0 ≡ false)) }
 {
     let Some(property) = read_property(alloc, text, version)? else {
@@ -254,6 +274,9 @@ fn property_line(
     }
     if let Some(media) = media_of(alloc, octets)? {
         return media_line(alloc, property, octets, media.as_slice());
+    }
+    if let Some(date) = known_date(alloc, octets, text)? {
+        return date_line(alloc, property, octets, date);
     }
     rewritten_line(alloc, property, octets, version)
 }

@@ -8,13 +8,15 @@ use crate::property::{CharsetParam, Encoding, Property, read_property};
 use import_text::{is_encoded_as, read_charset, read_quoted_printable, read_text};
 use std::alloc::Global;
 use vcard_text::{NoMemory, Text};
-use vcard_values::{Version, decoded_base64, with_line_feeds};
+use vcard_values::{Version, decoded_base64, decoded_value, with_line_feeds};
 
-/// The text of octets. Those of a character set that isn't known are read as if it weren't named.
+/// The text of octets that were encoded. In UTF-8, U+FFFD stands for what is no character. Those of
+/// a character set that isn't known are read as if it weren't named.
 fn text_in(alloc: Global, octets: &[u8], charset: CharsetParam) -> Result<String, NoMemory> {
     match charset {
         CharsetParam::Known(charset) => read_charset(alloc, charset, octets),
-        CharsetParam::Utf8 | CharsetParam::Unknown => read_text(alloc, octets),
+        CharsetParam::Utf8 => Ok(String::from_utf8_lossy(alloc, octets)?),
+        CharsetParam::Unnamed | CharsetParam::Unknown => read_text(alloc, octets),
     }
 }
 
@@ -40,19 +42,16 @@ fn base64_text(alloc: Global, property: &Property) -> Result<Option<String>, NoM
     Ok(Some(decoded_text(alloc, octets.as_slice(), property.charset)?))
 }
 
-/// The text of a value with these octets, if it isn't the one that the property has.
-fn value_text(
-    alloc: Global,
-    property: &Property,
-    octets: &[u8],
-) -> Result<Option<String>, NoMemory> {
+/// The text of the value of a line, if it isn't the one that the property has.
+fn value_text(alloc: Global, property: &Property, line: &[u8]) -> Result<Option<String>, NoMemory> {
+    let octets = after_head(line);
     match property.encoding {
         Encoding::Plain => match property.charset {
             CharsetParam::Known(charset) => Ok(Some(read_charset(alloc, charset, octets)?)),
-            CharsetParam::Utf8 | CharsetParam::Unknown => Ok(None),
+            CharsetParam::Unnamed | CharsetParam::Utf8 | CharsetParam::Unknown => Ok(None),
         },
         Encoding::QuotedPrintable => {
-            let octets = read_quoted_printable(alloc, octets)?;
+            let octets = decoded_value(alloc, line, octets)?;
             Ok(Some(decoded_text(alloc, octets.as_slice(), property.charset)?))
         }
         Encoding::Base64 => base64_text(alloc, property),
@@ -61,7 +60,7 @@ fn value_text(
 
 /// Decodes the value of the property of a line, unless it is binary.
 pub(crate) fn decode(alloc: Global, property: &mut Property, line: &[u8]) -> Result<(), NoMemory> {
-    if let Some(text) = value_text(alloc, property, after_head(line))? {
+    if let Some(text) = value_text(alloc, property, line)? {
         property.value = Text::new(text);
         property.encoding = Encoding::Plain;
     }

@@ -36,6 +36,15 @@ impl OtherParts {
     pub fn are_none(&self) -> bool {
         self.group.is_none() && self.params.is_empty()
     }
+
+    /// Whether a label with these parts belongs to an address of its types with the others. A group
+    /// alone ties it to any address of the group (RFC 6350, section 3.3), and else all are the same.
+    pub fn belong_to(&self, others: &OtherParts) -> bool {
+        if self.group.is_some() && self.params.is_empty() {
+            return self.group == others.group;
+        }
+        self == others
+    }
 }
 
 /// A line that gives an address or its label.

@@ -7,7 +7,7 @@ use crate::property::{CharsetParam, Encoding, Property};
 use import_text::charset_named;
 use std::alloc::Global;
 use vcard_text::{Items, NoMemory, Param, ParamValue};
-use vcard_values::Version;
+use vcard_values::{Version, own_label_type};
 
 fn is_word(text: &str, word: &str) -> bool {
     text.eq_ignore_ascii_case(word)
@@ -26,15 +26,40 @@ fn encoding_of(word: &str) -> Option<Encoding> {
     }
 }
 
-/// Whether CHARSET names UTF-8 or a part of it.
-fn is_utf8(charset: &str) -> bool {
-    is_word(charset, "UTF-8") || is_word(charset, "UTF8") || is_word(charset, "US-ASCII")
+/// Reads ENCODING. An empty one says nothing. The name of one that isn't known is kept as a
+/// parameter, and the value as it is encoded.
+fn read_encoding(alloc: Global, property: &mut Property, name: &str) -> Result<(), NoMemory> {
+    if name.is_empty() {
+        return Ok(());
+    }
+    if let Some(encoding) = encoding_of(name) {
+        property.encoding = encoding;
+        return Ok(());
+    }
+    property.encoding = Encoding::Plain;
+    if is_word(name, "8-BIT") {
+        return Ok(());
+    }
+    add_param(alloc, property, "X-ENCODING", name)
 }
 
-/// Reads CHARSET. The name of one that isn't known is kept as a parameter.
+/// Whether CHARSET names UTF-8.
+fn is_utf8(charset: &str) -> bool {
+    is_word(charset, "UTF-8") || is_word(charset, "UTF8")
+}
+
+/// Reads CHARSET. An empty one says nothing. The name of one that isn't known is kept as a
+/// parameter.
 fn read_charset(alloc: Global, property: &mut Property, name: &str) -> Result<(), NoMemory> {
+    if name.is_empty() {
+        return Ok(());
+    }
     if is_utf8(name) {
         property.charset = CharsetParam::Utf8;
+        return Ok(());
+    }
+    if is_word(name, "US-ASCII") {
+        property.charset = CharsetParam::Unnamed;
         return Ok(());
     }
     match charset_named(alloc, name)? {
@@ -157,8 +182,7 @@ fn read_named(
     text: &str,
 ) -> Result<(), NoMemory> {
     if is_word(name, "ENCODING") {
-        property.encoding = encoding_of(text.trim_matches('"')).unwrap_or(Encoding::Plain);
-        return Ok(());
+        return read_encoding(alloc, property, text.trim_matches('"'));
     }
     if is_word(name, "CHARSET") {
         return read_charset(alloc, property, text.trim_matches('"'));
@@ -172,14 +196,35 @@ fn read_named(
     add_param(alloc, property, name, text)
 }
 
-/// Reads one parameter.
+/// The name of a parameter that a parenthesis follows, as in `X-CUSTOM(a=b)`, and the text from the
+/// parenthesis on. `None` if none follows, or an equals sign comes first.
+fn split_parenthesis(part: &str) -> Option<(&str, &str)> {
+    let place = part
+        .as_bytes()
+        .iter()
+        .position(|octet| matches!(*octet, b'=' | b'('))?;
+    let (name, text) = part.split_at_checked(place)?;
+    if name.is_empty() || !text.starts_with('(') {
+        return None;
+    }
+    Some((name, text))
+}
+
+/// Reads one parameter. A label of one's own is a value of TYPE.
 pub(crate) fn read_param(
     alloc: Global,
     property: &mut Property,
     part: &str,
 ) -> Result<(), NoMemory> {
-    match part.split_once('=') {
-        Some((name, text)) => read_named(alloc, property, name.trim(), text.trim()),
-        None => read_bare(alloc, property, part),
+    if let Some(value) = own_label_type(alloc, part.as_bytes())? {
+        property.types.push(value)?;
+        return Ok(());
     }
+    let Some((name, text)) = part.split_once('=') else {
+        return read_bare(alloc, property, part);
+    };
+    if let Some((name, text)) = split_parenthesis(part) {
+        return add_param(alloc, property, name, text);
+    }
+    read_named(alloc, property, name.trim(), text.trim())
 }

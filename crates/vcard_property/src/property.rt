@@ -19,7 +19,9 @@ pub(crate) enum Encoding {
 /// What CHARSET says.
 #[derive(Clone, Copy)]
 pub(crate) enum CharsetParam {
-    /// Nothing, or UTF-8 or a part of it.
+    /// Nothing, or ASCII.
+    Unnamed,
+    /// UTF-8.
     Utf8,
     /// A character set with one octet for each character.
     Known(Charset),
@@ -72,7 +74,7 @@ fn bare_property(
         is_preferred: false,
         params: Items::new(alloc),
         encoding: Encoding::Plain,
-        charset: CharsetParam::Utf8,
+        charset: CharsetParam::Unnamed,
         is_uri: false,
         version,
         value,

@@ -11,8 +11,8 @@ use std::alloc::Global;
 use std::mem;
 use vcard_text::{Items, Line, NoMemory, Param, ParamValue, Text, unescape};
 use vcard_values::{
-    TextForm, Types, ValueForm, Version, basic_date, data_uri, decoded_base64, geo_value, is_date,
-    is_format, with_escapes,
+    TextForm, Types, ValueForm, Version, basic_date, data_uri, decoded_base64, geo_value,
+    has_scheme, is_date, is_format, with_escapes,
 };
 
 /// The properties whose values aren't texts, so that nothing is escaped in them.
@@ -66,9 +66,18 @@ fn says_text(property: &Property) -> bool {
         .any(|param| is_text_param(param))
 }
 
+/// Whether the property is a person in words, of which vCard 4.0 says that the value is a text (RFC
+/// 6350, section 6.6.6).
+fn is_in_words(property: &Property) -> bool {
+    property.name.as_str() == "RELATED"
+        && !property.is_uri
+        && !property.value.is_empty()
+        && !has_scheme(property.value.as_str().as_bytes())
+}
+
 /// How the value is written.
 fn form_of(name: &str, property: &Property, version: Version) -> ValueForm {
-    let is_text = says_text(property);
+    let is_text = says_text(property) || is_in_words(property);
     if property.is_uri || (is_one_of(name, &PLAIN_NAMES) && !is_text) {
         return ValueForm::Uri;
     }
@@ -127,7 +136,7 @@ pub(crate) struct Draft {
 }
 
 /// The draft of a property with a value.
-fn draft_with(property: Property, value: String) -> Draft
+pub(crate) fn draft_with(property: Property, value: String) -> Draft
     ensures { result.line.value ≡ string_bytes value }
 {
     let Property {
@@ -207,6 +216,23 @@ fn mark_text(alloc: Global, property: &mut Property) -> Result<(), NoMemory> {
     Ok(())
 }
 
+/// Whether VALUE says what the value is.
+fn has_value_type(property: &Property) -> bool {
+    property
+        .params
+        .as_slice()
+        .iter()
+        .any(|param| param.name.as_str() == "VALUE")
+}
+
+/// Says that the value of a person in words is a text.
+fn mark_words(alloc: Global, property: &mut Property) -> Result<(), NoMemory> {
+    if is_in_words(property) && !has_value_type(property) {
+        property.params.push(make_param(alloc, "VALUE", "text")?)?;
+    }
+    Ok(())
+}
+
 /// The draft of a property with this text or URI.
 pub(crate) fn text_draft(
     alloc: Global,
@@ -217,6 +243,7 @@ pub(crate) fn text_draft(
 {
     let mut property = property;
     add_agent(alloc, &mut property)?;
+    mark_words(alloc, &mut property)?;
     Ok(draft_with(property, value))
 }
 
@@ -240,6 +267,24 @@ fn drop_formats(alloc: Global, property: &mut Property, name: &str) -> Result<()
     Ok(())
 }
 
+/// The words that may name the format of a value: those of MEDIATYPE (RFC 6350, section 5.7), if
+/// none of TYPE does.
+fn format_words<'a>(name: &str, property: &'a Property) -> &'a [ParamValue] {
+    let types = property.types.as_slice();
+    if types
+        .iter()
+        .any(|value| is_format(name, value.text.as_str()))
+    {
+        return types;
+    }
+    for param in property.params.as_slice() {
+        if param.name.as_str().eq_ignore_ascii_case("MEDIATYPE") {
+            return param.values.as_slice();
+        }
+    }
+    types
+}
+
 /// The draft of a binary value, as a `data:` URI.
 pub(crate) fn binary_draft(
     alloc: Global,
@@ -250,7 +295,8 @@ pub(crate) fn binary_draft(
 {
     let mut property = property;
     let name = property.name.try_copy()?;
-    let uri = data_uri(alloc, name.as_str(), property.types.as_slice(), octets)?;
+    let words = format_words(name.as_str(), &property);
+    let uri = data_uri(alloc, name.as_str(), words, octets)?;
     drop_formats(alloc, &mut property, name.as_str())?;
     Ok(draft_with(property, uri))
 }
@@ -300,23 +346,13 @@ fn binary_octets(alloc: Global, property: &Property) -> Result<Option<Vec<u8>>, 
     }
 }
 
-/// Whether the text begins with the scheme of a URI (RFC 3986, section 3.1). No base64 does.
-fn has_scheme(text: &str) -> bool {
-    match text.split_once(':') {
-        Some((scheme, _)) => {
-            !scheme.is_empty() && scheme.chars().all(|c| c.is_ascii_alphanumeric())
-        }
-        None => false,
-    }
-}
-
 /// What a value that isn't the base64 that it should be keeps: a URI nothing, since it is the value
 /// that vCard 4.0 has, and any other value its encoding.
 fn keep_encoding(alloc: Global, property: &mut Property) -> Result<(), NoMemory> {
     if property.encoding != Encoding::Base64 {
         return Ok(());
     }
-    if has_scheme(property.value.as_str()) {
+    if has_scheme(property.value.as_str().as_bytes()) {
         let name = property.name.try_copy()?;
         return drop_formats(alloc, property, name.as_str());
     }

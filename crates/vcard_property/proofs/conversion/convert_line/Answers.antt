@@ -1,6 +1,9 @@
-use Rattle.std.proofs.Common.{◌≡◌, ◌∙◌, rules, None, sym, ap, inl, inr}
+use Rattle.std.proofs.Common.{◌≡◌, ◌∙◌, rules, None, Some, sym, ap, inl, inr}
 use Rattle.import_text.specs.Encodings.{text_of}
 use Rattle.vcard_values.specs.KeptTexts.{kept_text}
+use Rattle.vcard_values.specs.Values.{HasValueOf}
+use Rattle.vcard_property.specs.Names.{HasNameOf}
+use Rattle.vcard_property.proofs.MadeLemmas.{found_meets}
 use Rattle.vcard_property.proofs.SameLemmas.{line_is_found}
 use Rattle.vcard_property.proofs.conversion.convert_line.Goals as goal
 
@@ -24,11 +27,15 @@ pub returns-in-Some-2-clause-becomes : goal.returns-in-Some-2-clause-becomes
 returns-in-Some-2-clause-becomes c =
     let text : c.as_str.result.now ≡ text_of c.args.octets.now =
     c.as_str.ensures.value ∙ c.in_ok-text.ensures in
+    let is : c.in_ok-made.field-0 ≡ Some c.in-Some-2.made = search rules in
     inr (inl (record {
-      named = λ clear. search (rules, clear);
+      named = λ clear. found_meets c.in_ok-made.field-0 c.in-Some-2.made
+          (λ line. HasNameOf c.args.octets.now line.0) is (c.in_ok-made.ensures.named clear);
       typed = λ clear. search (rules, clear);
-      value = λ known. search (rules, known, text);
-      content = λ unknown. search (rules, unknown);
+      value = λ known. found_meets c.in_ok-made.field-0 c.in-Some-2.made
+          (λ line. HasValueOf c.args.version c.args.octets.now line.0.value) is
+          (c.in_ok-made.ensures.value text known);
+      content = λ unknown. search (rules, unknown, text);
     }))
 
 pub returns-clause-becomes : goal.returns-clause-becomes

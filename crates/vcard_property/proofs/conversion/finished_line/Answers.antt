@@ -1,4 +1,4 @@
-use Rattle.std.proofs.Common.{◌≡◌, ◌∙◌}
+use Rattle.std.proofs.Common.{◌∙◌}
 use Rattle.vcard_property.specs.NewTypes.{HasTypesOf}
 use Rattle.vcard_property.proofs.conversion.finished_line.Goals as goal
 
