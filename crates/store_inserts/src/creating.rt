@@ -3,8 +3,12 @@ ghost use Rattle.book_model.specs.Books.{fresh_book};
 ghost use Rattle.book_model.specs.Creating.{create_step};
 ghost use Rattle.store_lookups.specs.Faults.{IsDeniedFault};
 ghost use Rattle.store_rows.specs.TableBooks.{books_of};
-ghost use Rattle.store_inserts.specs.internal.Creating.{AreNameAndCount, IsCreationPlanned};
-ghost use Rattle.store_inserts.specs.internal.Creating.{IsNameFound};
+ghost use Rattle.store_inserts.specs.internal.Creating.{
+  AreNameAndCount,
+  GivenNewBook,
+  IsCreationPlanned,
+  IsNameFound,
+};
 ghost use Rattle.store_lookups.specs.OnConnections.{
   ChangeFaultsFromOutside,
   FaultsFromOutside,
@@ -31,7 +35,7 @@ ghost use Rattle.store_inserts.specs.internal.OnConnections.{
   InTxWithoutBook,
 };
 ghost use Rattle.std.specs.FinMap as finite;
-ghost use Rattle.std.specs.Prelude.{◌≡◌, ◌<◌, ◌^◌, IfErr, IfOk, false, pos, ℕ};
+ghost use Rattle.std.specs.Prelude.{◌≡◌, ◌<◌, ◌^◌, IfErr, IfOk, false};
 
 use book_model::decisions::id_of_new_book;
 use book_model::{Denied, Limits};
@@ -50,9 +54,9 @@ fn insert_book_rows<S: Alter>(
     keep: i64,
 ) -> Result<(), Error>
     ensures same_reference { tx.new.conn.ghost_name ≡ tx.old.conn.ghost_name }
-    ensures books_after { (book most : ℕ) → id ≡ pos book → keep ≡ pos most
-        → AddsNewBookInTx S.Store tx.old.conn.now tx.new.conn.now name.now result
-        (fresh_book book most) }
+    ensures books_after { GivenNewBook id keep
+        (λ book most. AddsNewBookInTx S.Store tx.old.conn.now tx.new.conn.now name.now result
+        (fresh_book book most)) }
     ensures keeps_commit { InTxWithoutBook S.Store tx.old.conn.now tx.new.conn.now name.now
         (λ rows. KeepsCommit S.Store tx.old.conn.now tx.new.conn.now) }
     ensures survives { SurvivesAsBefore S.Store tx.old.conn.now tx.new.conn.now }
@@ -73,15 +77,17 @@ fn commit_create<S: Alter>(
     keep: i64,
 ) -> Result<(), Error>
     requires { conn.old.in_transaction ≡ false }
-    ensures atomic { (book most : ℕ) → id ≡ pos book → keep ≡ pos most
-        → CommitsNewBook S.Store conn.old conn.new name.now result (fresh_book book most) }
+    ensures atomic { GivenNewBook id keep
+        (λ book most. CommitsNewBook S.Store conn.old conn.new name.now result
+        (fresh_book book most)) }
     ensures settled { conn.new.in_transaction ≡ false }
     ensures survives { CountsFaults S.Store conn.old conn.new }
-    ensures crash { (book most : ℕ) → id ≡ pos book → keep ≡ pos most
-        → CommitsNewBookOnce S.Store conn.old conn.new name.now (fresh_book book most) }
-    ensures fails_from_outside { (book most : ℕ) → id ≡ pos book → keep ≡ pos most
-        → (rows : TableRows) → AcceptsNewBook S.Store conn.old rows id name.now
-        → FailsFromOutside S.Store conn.old conn.new result }
+    ensures crash { GivenNewBook id keep
+        (λ book most. CommitsNewBookOnce S.Store conn.old conn.new name.now
+        (fresh_book book most)) }
+    ensures fails_from_outside { GivenNewBook id keep
+        (λ _ _. (rows : TableRows) → AcceptsNewBook S.Store conn.old rows id name.now
+        → FailsFromOutside S.Store conn.old conn.new result) }
 {
     assert_no_pending_writes(conn);
 

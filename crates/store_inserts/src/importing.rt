@@ -1,5 +1,4 @@
 //! Imports cards into a book: all of them in one transaction, or none.
-ghost use Rattle.store_tables.specs.Members.{member_table};
 ghost use Rattle.book_model.specs.ImportLaws.{HaveDistinctUids};
 ghost use Rattle.book_model.specs.Importing.{import_step, book_with_kept_import};
 ghost use Rattle.book_model.specs.declared.answers.ImportTally.{ImportTally};
@@ -33,18 +32,13 @@ ghost use Rattle.store_lookups.specs.OnConnections.{
 ghost use Rattle.store_tables.specs.Acceptance.{IsShort};
 ghost use Rattle.store_tables.specs.OnConnections.{
   CountsFaults,
-  GivenAcceptedMember,
-  GivenTx,
   HasCleanDisk,
   HoldsInTx,
   KeepsCommit,
-  PutsMember,
   Survives,
   SurvivesAsBefore,
-  TakesOneId,
-  WriteFailsFromOutside,
-  WritesTable,
 };
+ghost use Rattle.store_tables.specs.Writes.{PutsMemberInSteps};
 ghost use Rattle.store_writes.specs.OnConnections.{
   AppliesStep,
   CommitsOnce,
@@ -80,17 +74,8 @@ fn put_planned<S: Alter>(
     card: Option<&str>,
     likely_new: bool,
 ) -> Result<(), Error>
-    ensures same_reference { tx.new.conn.ghost_name ≡ tx.old.conn.ghost_name }
-    ensures puts { PutsMember S.Store tx.old.conn.now tx.new.conn.now book uid.now changed
+    ensures { PutsMemberInSteps S.Store tx.old tx.new book uid.now changed
         (option_copied card.entry) result }
-    ensures writes { WritesTable S.Store tx.old.conn.now tx.new.conn.now member_table result }
-    ensures takes_one_id { TakesOneId S.Store tx.old.conn.now tx.new.conn.now member_table result }
-    ensures keeps_commit { GivenTx S.Store tx.old.conn.now tx.new.conn.now member_table
-        (λ _. KeepsCommit S.Store tx.old.conn.now tx.new.conn.now) }
-    ensures survives { SurvivesAsBefore S.Store tx.old.conn.now tx.new.conn.now }
-    ensures fails_from_outside { GivenAcceptedMember S.Store tx.old.conn.now tx.new.conn.now
-        book uid.now changed (option_copied card.entry)
-        (WriteFailsFromOutside S.Store tx.old.conn.now tx.new.conn.now result) }
 {
     if !likely_new {
         return update_or_put(tx, book, uid, changed, card);

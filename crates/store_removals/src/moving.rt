@@ -7,10 +7,8 @@ ghost use Rattle.book_model.specs.declared.change.Change.TheVariants.{Stores, Ta
 ghost use Rattle.book_model.specs.declared.change.RemovalReason.TheVariants.{MoveOut};
 ghost use Rattle.book_model.specs.declared.change.StoreReason.TheVariants.{MoveIn};
 ghost use Rattle.store_lookups.specs.Faults.{IsDeniedFault};
-ghost use Rattle.store_lookups.specs.OnConnections.{WriteFaultsFromOutside};
 ghost use Rattle.store_lookups.specs.StoreFaults.{FailsOnlyForMemory};
 ghost use Rattle.store_rows.specs.TableBooks.{numbers_row};
-ghost use Rattle.store_rows.specs.TableRows.{TableRows};
 ghost use Rattle.store_rows.specs.Values.{IsLegalUid, IsTextOf};
 ghost use Rattle.store_writes.specs.TableChanges.{HoldsBooks};
 ghost use Rattle.store_tables.specs.Books.{numbers_of};
@@ -21,6 +19,7 @@ ghost use Rattle.store_removals.specs.internal.OnConnections.{
   InTxWithBothBooks,
   MoveFaultsFromOutside,
   MoveFaultsFromOutsideTx,
+  NextMemberFaultsFromOutside,
 };
 ghost use Rattle.store_tables.specs.Acceptance.{HasFreeIds, IsShort};
 ghost use Rattle.store_tables.specs.OnConnections.{
@@ -32,13 +31,12 @@ ghost use Rattle.store_tables.specs.OnConnections.{
   table_rows,
 };
 ghost use Rattle.store_writes.specs.OnConnections.{
-  AcceptsMemberOf,
   ChangesBookInTx,
   InTxWithBook,
   KeepsCommitWithBook,
 };
-ghost use Rattle.std.specs.Prelude.{◌≡◌, ◌+◌, ◌<◌, ◌^◌, IfErr, IfOk, IfSome, List, None, OnOk};
-ghost use Rattle.std.specs.Prelude.{Some, false, pos, ℕ};
+ghost use Rattle.std.specs.Prelude.{◌≡◌, ◌+◌, ◌<◌, ◌^◌, IfErr, IfOk, IfSome, None, OnOk};
+ghost use Rattle.std.specs.Prelude.{Some, false, ℕ};
 
 use crate::removing::write_removal_with_drop;
 use book_model::{Change, Denied, RemovalReason, StoreReason};
@@ -70,10 +68,8 @@ fn add_to_target<S: Alter>(
         (λ _ _. (count : ℕ)
         → HasFreeIds (count + 1) (table_rows S.Store tx.old.conn.now member_tree)
         → OnOk result (HasFreeIds count (table_rows S.Store tx.new.conn.now member_tree))) }
-    ensures store_fault { header.number + 1 < 2 ^ 63 → (rows : TableRows) (name : List ℕ)
-        → AcceptsMemberOf S.Store tx.old.conn.now rows name header uid.now
-        (pos (header.number + 1)) (Some text.now) → header.id < 2 ^ 63
-        → WriteFaultsFromOutside S.Store tx.old.conn.now tx.new.conn.now result }
+    ensures store_fault { header.number + 1 < 2 ^ 63 → NextMemberFaultsFromOutside S.Store
+        tx.old.conn.now tx.new.conn.now header uid.now (Some text.now) result }
     ensures keeps_commit { KeepsCommitWithBook S.Store tx.old.conn.now tx.new.conn.now header }
     ensures survives { SurvivesAsBefore S.Store tx.old.conn.now tx.new.conn.now }
     ensures fault { IfErr result IsDeniedFault }
@@ -112,10 +108,8 @@ fn remove_keeping_horizon<S: Alter>(
     ensures books_after { IsLegalUid uid.now
         → ChangesBookInTx S.Store tx.old.conn.now tx.new.conn.now header result
         (λ book. book_with_row book uid.now (TakesAway MoveOut)) }
-    ensures store_fault { header.number + 1 < 2 ^ 63 → (rows : TableRows) (name : List ℕ)
-        → AcceptsMemberOf S.Store tx.old.conn.now rows name header uid.now
-        (pos (header.number + 1)) None → header.id < 2 ^ 63
-        → WriteFaultsFromOutside S.Store tx.old.conn.now tx.new.conn.now result }
+    ensures store_fault { header.number + 1 < 2 ^ 63 → NextMemberFaultsFromOutside S.Store
+        tx.old.conn.now tx.new.conn.now header uid.now None result }
     ensures keeps_commit { KeepsCommitWithBook S.Store tx.old.conn.now tx.new.conn.now header }
     ensures survives { SurvivesAsBefore S.Store tx.old.conn.now tx.new.conn.now }
     ensures fault { IfErr result IsDeniedFault }
@@ -143,10 +137,8 @@ fn remove_raising_horizon<S: Alter>(
         → ChangesBookInTx S.Store tx.old.conn.now tx.new.conn.now header result
         (λ book. book_after_forget (book_with_row book uid.now (TakesAway MoveOut)) upto) }
     ensures store_fault { header.number + 1 < 2 ^ 63 → upto < 2 ^ 63
-        → (rows : TableRows) (name : List ℕ)
-        → AcceptsMemberOf S.Store tx.old.conn.now rows name header uid.now
-        (pos (header.number + 1)) None → header.id < 2 ^ 63
-        → WriteFaultsFromOutside S.Store tx.old.conn.now tx.new.conn.now result }
+        → NextMemberFaultsFromOutside S.Store
+        tx.old.conn.now tx.new.conn.now header uid.now None result }
     ensures keeps_commit { KeepsCommitWithBook S.Store tx.old.conn.now tx.new.conn.now header }
     ensures survives { SurvivesAsBefore S.Store tx.old.conn.now tx.new.conn.now }
     ensures fault { IfErr result IsDeniedFault }
@@ -175,10 +167,8 @@ fn remove_from_source<S: Alter>(
         → ChangesBookInTx S.Store tx.old.conn.now tx.new.conn.now header result
         (λ book. book_after_drop (book_with_row book uid.now (TakesAway MoveOut)) drop) }
     ensures store_fault { header.number + 1 < 2 ^ 63 → IfSome drop (λ upto. upto < 2 ^ 63)
-        → (rows : TableRows) (name : List ℕ)
-        → AcceptsMemberOf S.Store tx.old.conn.now rows name header uid.now
-        (pos (header.number + 1)) None → header.id < 2 ^ 63
-        → WriteFaultsFromOutside S.Store tx.old.conn.now tx.new.conn.now result }
+        → NextMemberFaultsFromOutside S.Store
+        tx.old.conn.now tx.new.conn.now header uid.now None result }
     ensures keeps_commit { KeepsCommitWithBook S.Store tx.old.conn.now tx.new.conn.now header }
     ensures survives { SurvivesAsBefore S.Store tx.old.conn.now tx.new.conn.now }
     ensures fault { IfErr result IsDeniedFault }

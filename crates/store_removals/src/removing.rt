@@ -3,12 +3,10 @@ ghost use Rattle.book_model.specs.BookChanges.{book_after_drop, book_with_row};
 ghost use Rattle.book_model.specs.Counting.{counts_after_change};
 ghost use Rattle.book_model.specs.Forgetting.{book_after_forget};
 ghost use Rattle.book_model.specs.declared.change.Change.TheVariants.{TakesAway};
-ghost use Rattle.book_model.specs.declared.change.RemovalReason.{RemovalReason};
 ghost use Rattle.book_model.specs.declared.change.RemovalReason.TheVariants.{Deletion};
 ghost use Rattle.store_lookups.specs.Faults.{IsDeniedFault};
 ghost use Rattle.store_rows.specs.TableBooks.{HeaderRow, numbers_row};
-ghost use Rattle.store_writes.specs.TableChanges.{AreHeaderColumns};
-ghost use Rattle.store_removals.specs.internal.Removals.{header_after_drop};
+ghost use Rattle.store_removals.specs.internal.Removals.{GivenRemoval};
 ghost use Rattle.store_tables.specs.Books.{numbers_of};
 ghost use Rattle.store_lookups.specs.OnConnections.{ChangeFaultsFromOutsideInBook};
 ghost use Rattle.store_lookups.specs.StoreFaults.{FailsOnlyForMemory};
@@ -50,11 +48,9 @@ pub(crate) fn write_removal_with_drop<S: Alter>(
     numbers: BookNumbers,
 ) -> Result<(), Error>
     ensures same_reference { tx.new.conn.ghost_name ≡ tx.old.conn.ghost_name }
-    ensures books_after { (header : HeaderRow) (why : RemovalReason) (last : ℕ)
-        → IsLegalUid uid.now → changed ≡ pos (header.number + 1) → upto ≡ pos last
-        → AreHeaderColumns (header_after_drop why last header) id numbers
-        → ChangesBookInTx S.Store tx.old.conn.now tx.new.conn.now header result
-        (λ book. book_after_forget (book_with_row book uid.now (TakesAway why)) last) }
+    ensures books_after { GivenRemoval id uid.now changed upto numbers
+        (λ header why last. ChangesBookInTx S.Store tx.old.conn.now tx.new.conn.now header result
+        (λ book. book_after_forget (book_with_row book uid.now (TakesAway why)) last)) }
     ensures keeps_commit { (header : HeaderRow) → id ≡ pos header.id
         → KeepsCommitWithBook S.Store tx.old.conn.now tx.new.conn.now header }
     ensures survives { SurvivesAsBefore S.Store tx.old.conn.now tx.new.conn.now }
@@ -79,24 +75,18 @@ fn commit_removal_with_drop<S: Alter>(
     numbers: BookNumbers,
 ) -> Result<(), Error>
     requires { conn.old.in_transaction ≡ false }
-    ensures atomic { (header : HeaderRow) (why : RemovalReason) (last : ℕ)
-        → IsLegalUid uid.now → changed ≡ pos (header.number + 1) → upto ≡ pos last
-        → AreHeaderColumns (header_after_drop why last header) id numbers
-        → CommitsBook S.Store conn.old conn.new header result
-        (λ book. book_after_forget (book_with_row book uid.now (TakesAway why)) last) }
+    ensures atomic { GivenRemoval id uid.now changed upto numbers
+        (λ header why last. CommitsBook S.Store conn.old conn.new header result
+        (λ book. book_after_forget (book_with_row book uid.now (TakesAway why)) last)) }
     ensures settled { conn.new.in_transaction ≡ false }
     ensures survives { CountsFaults S.Store conn.old conn.new }
-    ensures crash { (header : HeaderRow) (why : RemovalReason) (last : ℕ)
-        → IsLegalUid uid.now → changed ≡ pos (header.number + 1) → upto ≡ pos last
-        → AreHeaderColumns (header_after_drop why last header) id numbers
-        → CommitsBookOnce S.Store conn.old conn.new header
-        (λ book. book_after_forget (book_with_row book uid.now (TakesAway why)) last) }
-    ensures fails_from_outside { (header : HeaderRow) (why : RemovalReason) (last : ℕ)
-        → IsLegalUid uid.now → changed ≡ pos (header.number + 1) → upto ≡ pos last
-        → AreHeaderColumns (header_after_drop why last header) id numbers
-        → (rows : TableRows) (name : List ℕ)
+    ensures crash { GivenRemoval id uid.now changed upto numbers
+        (λ header why last. CommitsBookOnce S.Store conn.old conn.new header
+        (λ book. book_after_forget (book_with_row book uid.now (TakesAway why)) last)) }
+    ensures fails_from_outside { GivenRemoval id uid.now changed upto numbers
+        (λ header _ _. (rows : TableRows) (name : List ℕ)
         → AcceptsMemberOf S.Store conn.old rows name header uid.now changed None
-        → FailsFromOutside S.Store conn.old conn.new result }
+        → FailsFromOutside S.Store conn.old conn.new result) }
 {
     assert_no_pending_writes(conn);
 

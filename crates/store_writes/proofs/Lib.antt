@@ -1,6 +1,7 @@
 pub mod ChangeLemmas
 pub mod NumberLemmas
 pub mod TransactionFaults
+pub mod CommitLemmas
 pub mod OpenFaults
 pub mod ReadFaults
 pub mod AcceptLemmas

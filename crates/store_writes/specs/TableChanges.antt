@@ -1,15 +1,17 @@
 -- The tables before and after a change, and the contract of a changing call.
-use Rattle.std.specs.Prelude.{◌≡◌, false, ℕ, ℤ, pos, List, IsTrue, OnOk, Result}
+use Rattle.std.specs.Prelude.{◌≡◌, ◌+◌, false, ℕ, ℤ, pos, List, IsTrue, OnOk, Option, Result}
 use Rattle.std.specs.Prelude.{Ok, Err}
 use Rattle.std.specs.Ordering.{int_eq}
 use Rattle.sqlite.specs.Effect.{Database}
 use Rattle.sqlite.specs.State.{State, HasCleanDisk, Survives}
 use Rattle.sqlite.specs.Tree.{Trees}
 use Rattle.sqlite_rules.specs.Lists.{Has}
+use Rattle.book_model.specs.declared.change.Change.{Change}
 use Rattle.book_model.specs.declared.denied.Denied.{Denied}
 use Rattle.book_model.specs.declared.refusal.Refusal.{Refusal}
 use Rattle.book_model.specs.Books.{Books}
 use Rattle.book_model.specs.CallOutcomes.{MatchesStep}
+use Rattle.store_rows.specs.ChangeLaws.{IsRowOfChange, header_after}
 use Rattle.store_rows.specs.LookupLaws.{IsNameFree}
 use Rattle.store_rows.specs.SoundTables.{AreSoundRows, HoldsSoundRows}
 use Rattle.store_rows.specs.TableBooks.{HeaderRow, line_row, numbers_row, row_book, books_in}
@@ -58,6 +60,20 @@ pub record AreHeaderColumns (header : HeaderRow) (id : ℤ) (columns : BookNumbe
   pub id_is : id ≡ pos header.id
   pub numbers : numbers_of columns ≡ numbers_row header.number header.horizon header.counts
 
+-- The condition of a write of one member: the column `changed` holds the book's next number, the
+-- member with this UID and card is the row of the change, and the columns are those of the header
+-- after it.
+abbrev pub GivenChange : ℤ → List ℕ → ℤ → Option (List ℕ) → BookNumbers
+    → (HeaderRow → Change → Type 0) → Type 0
+GivenChange id uid changed card numbers Then = (header : HeaderRow) (change : Change)
+    → changed ≡ pos (header.number + 1) → IsRowOfChange uid card change
+    → AreHeaderColumns (header_after change header) id numbers → Then header change
+
+-- the condition of a write that forgets the tombstones up to the number `last`
+abbrev pub GivenForget : ℤ → ℤ → BookNumbers → (HeaderRow → ℕ → Type 0) → Type 0
+GivenForget id upto numbers Then = (header : HeaderRow) (last : ℕ) → upto ≡ pos last
+    → AreHeaderColumns (record header { horizon = last }) id numbers → Then header last
+
 -- After a change of the book `id`, the tables hold rows that represent these books. All other rows
 -- of `book` remain, and the books that they represent are unchanged.
 pub record HoldsChange (db : Database) (rows : TableRows) (id : ℤ) (books : Books) : Type 0 where
@@ -70,8 +86,8 @@ pub record HoldsChange (db : Database) (rows : TableRows) (id : ℤ) (books : Bo
 
 -- ---- the outcome of a transaction
 
--- It was committed, the connection is open, and this holds; or nothing changed, unless the connection
--- was closed.
+-- It was committed, the connection is open, and this holds; or nothing changed, unless the
+-- connection was closed.
 abbrev pub IsAtomic : {A E : Type 0} → State → State → Result A E → (A → Database → Type 0) → Type 0
 IsAtomic old new (Ok answer) Then =
     Then answer new.now × (new.now ≡ new.committed) × IsTrue new.is_open
@@ -84,7 +100,8 @@ HoldBooksAfter (Ok done) trees = TreesHold done.1 trees
 HoldBooksAfter (Err refusal) trees = ⊥
 
 -- the same, and the connection was open on an honest disk before
-abbrev pub CommitsStep : {A : Type 0} → State → (Books → Result (A × Books) Refusal) → Trees → Type 0
+abbrev pub CommitsStep : {A : Type 0} → State → (Books → Result (A × Books) Refusal) → Trees
+    → Type 0
 CommitsStep old step trees =
     IsOpenOnHonestDisk old × HoldBooksAfter (step (stored_books old)) trees
 
@@ -108,9 +125,9 @@ pub record AppliesStep {A : Type 0} (old new : State) (r : Result A Denied)
       MatchesStep r (step (stored_books old)) (stored_books old) (stored_books new)
   pub stays_open : StaysOpenOnOk old new r
 
--- A crash leaves what it could leave before the call, or the one commit, which is the whole step. It
--- is made only over a connection that was open on an honest disk. The condition is that the tables
--- of such a connection were committed and sound.
+-- A crash leaves what it could leave before the call, or the one commit, which is the whole step.
+-- It is made only over a connection that was open on an honest disk. The condition is that the
+-- tables of such a connection were committed and sound.
 abbrev pub CommitsOnce : {A : Type 0} → State → State → (Books → Result (A × Books) Refusal)
     → Type 0
 CommitsOnce old new step = (IsOpenOnHonestDisk old → IsCommittedAndSound old) →

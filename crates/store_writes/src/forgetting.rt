@@ -3,7 +3,7 @@ ghost use Rattle.book_model.specs.Forgetting.{book_after_forget, dropped_row_cou
 ghost use Rattle.store_lookups.specs.Faults.{IsDeniedFault};
 ghost use Rattle.store_rows.specs.TableBooks.{HeaderRow, row_book, line_row};
 ghost use Rattle.store_rows.specs.TableRows.{TableRows};
-ghost use Rattle.store_writes.specs.TableChanges.{AreHeaderColumns, HoldsBooks};
+ghost use Rattle.store_writes.specs.TableChanges.{AreHeaderColumns, GivenForget, HoldsBooks};
 ghost use Rattle.store_tables.specs.OnConnections.{
   CountsFaults,
   FailsFromOutside,
@@ -79,18 +79,17 @@ fn commit_forget<S: Alter>(
     numbers: BookNumbers,
 ) -> Result<usize, Error>
     requires { conn.old.in_transaction ≡ false }
-    ensures atomic { (header : HeaderRow) (last : ℕ) → upto ≡ pos last
-        → AreHeaderColumns (record header { horizon = last }) id numbers
-        → CommitsForget S.Store conn.old conn.new header result last }
+    ensures atomic { GivenForget id upto numbers
+        (λ header last. CommitsForget S.Store conn.old conn.new header result last) }
     ensures settled { conn.new.in_transaction ≡ false }
     ensures survives { CountsFaults S.Store conn.old conn.new }
-    ensures crash { (header : HeaderRow) (last : ℕ) → upto ≡ pos last
-        → AreHeaderColumns (record header { horizon = last }) id numbers
-        → CommitsBookOnce S.Store conn.old conn.new header (λ book. book_after_forget book last) }
-    ensures fails_from_outside { (header : HeaderRow) (last : ℕ) → upto ≡ pos last
-        → AreHeaderColumns (record header { horizon = last }) id numbers
-        → (rows : TableRows) (name : List ℕ) → AcceptsHeader S.Store conn.old rows name header
-        → FailsFromOutside S.Store conn.old conn.new result }
+    ensures crash { GivenForget id upto numbers
+        (λ header last. CommitsBookOnce S.Store conn.old conn.new header
+        (λ book. book_after_forget book last)) }
+    ensures fails_from_outside { GivenForget id upto numbers
+        (λ header _. (rows : TableRows) (name : List ℕ)
+        → AcceptsHeader S.Store conn.old rows name header
+        → FailsFromOutside S.Store conn.old conn.new result) }
 {
     assert_no_pending_writes(conn);
 

@@ -2,15 +2,13 @@
 ghost use Rattle.store_tables.specs.Tables.{member_tree};
 ghost use Rattle.book_model.specs.BookChanges.{book_with_row};
 ghost use Rattle.book_model.specs.Counting.{counts_after_change};
-ghost use Rattle.book_model.specs.declared.change.Change.{Change};
 ghost use Rattle.book_model.specs.declared.change.Change.TheVariants.{Stores};
 ghost use Rattle.store_lookups.specs.Faults.{IsDeniedFault};
-ghost use Rattle.store_rows.specs.ChangeLaws.{IsRowOfChange, header_after};
 ghost use Rattle.store_rows.specs.TableBooks.{HeaderRow, numbers_row};
 ghost use Rattle.store_rows.specs.TableRows.{TableRows};
 ghost use Rattle.store_lookups.specs.OnConnections.{ChangeFaultsFromOutsideInBook};
 ghost use Rattle.store_lookups.specs.StoreFaults.{FailsOnlyForMemory};
-ghost use Rattle.store_writes.specs.TableChanges.{AreHeaderColumns};
+ghost use Rattle.store_writes.specs.TableChanges.{GivenChange};
 ghost use Rattle.store_tables.specs.Books.{numbers_of};
 ghost use Rattle.store_tables.specs.OnConnections.{
   CountsFaults,
@@ -58,11 +56,9 @@ pub fn write_member<S: Alter>(
     numbers: BookNumbers,
 ) -> Result<(), Error>
     ensures same_reference { tx.new.conn.ghost_name ≡ tx.old.conn.ghost_name }
-    ensures books_after { (header : HeaderRow) (change : Change) → changed ≡ pos (header.number + 1)
-        → IsRowOfChange uid.now (option_copied card.entry) change
-        → AreHeaderColumns (header_after change header) id numbers
-        → ChangesBookInTx S.Store tx.old.conn.now tx.new.conn.now header result
-        (λ book. book_with_row book uid.now change) }
+    ensures books_after { GivenChange id uid.now changed (option_copied card.entry) numbers
+        (λ header change. ChangesBookInTx S.Store tx.old.conn.now tx.new.conn.now header result
+        (λ book. book_with_row book uid.now change)) }
     ensures obeys { (header : HeaderRow) → id ≡ pos header.id
         → InTxWithBook S.Store tx.old.conn.now tx.new.conn.now header
         (λ _ _. OnOk result (ObeyTables S.Store tx.new.conn.now)) }
@@ -97,26 +93,19 @@ pub fn commit_member<S: Alter>(
     numbers: BookNumbers,
 ) -> Result<(), Error>
     requires { conn.old.in_transaction ≡ false }
-    ensures atomic { (header : HeaderRow) (change : Change) → changed ≡ pos (header.number + 1)
-        → IsRowOfChange uid.now (option_copied card.entry) change
-        → AreHeaderColumns (header_after change header) id numbers
-        → CommitsBook S.Store conn.old conn.new header result
-        (λ book. book_with_row book uid.now change) }
+    ensures atomic { GivenChange id uid.now changed (option_copied card.entry) numbers
+        (λ header change. CommitsBook S.Store conn.old conn.new header result
+        (λ book. book_with_row book uid.now change)) }
     ensures settled { conn.new.in_transaction ≡ false }
     ensures survives { CountsFaults S.Store conn.old conn.new }
-    ensures crash { (header : HeaderRow) (change : Change) → changed ≡ pos (header.number + 1)
-        → IsRowOfChange uid.now (option_copied card.entry) change
-        → AreHeaderColumns (header_after change header) id numbers
-        → CommitsBookOnce S.Store conn.old conn.new header
-        (λ book. book_with_row book uid.now change) }
-    ensures fails_from_outside { (header : HeaderRow) (change : Change)
-        → changed ≡ pos (header.number + 1)
-        → IsRowOfChange uid.now (option_copied card.entry) change
-        → AreHeaderColumns (header_after change header) id numbers
-        → (rows : TableRows) (name : List ℕ)
+    ensures crash { GivenChange id uid.now changed (option_copied card.entry) numbers
+        (λ header change. CommitsBookOnce S.Store conn.old conn.new header
+        (λ book. book_with_row book uid.now change)) }
+    ensures fails_from_outside { GivenChange id uid.now changed (option_copied card.entry) numbers
+        (λ header _. (rows : TableRows) (name : List ℕ)
         → AcceptsMemberOf S.Store conn.old rows name header uid.now changed
         (option_copied card.entry)
-        → FailsFromOutside S.Store conn.old conn.new result }
+        → FailsFromOutside S.Store conn.old conn.new result) }
 {
     assert_no_pending_writes(conn);
 

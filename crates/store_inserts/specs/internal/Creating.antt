@@ -1,5 +1,5 @@
 -- The plan of creating a book, computed from the tables before a write.
-use Rattle.std.specs.Prelude.{◌≡◌, ℕ, ℤ, Bool, true, false, List, Result, Ok, Err}
+use Rattle.std.specs.Prelude.{◌≡◌, ℕ, ℤ, pos, Bool, true, false, List, Result, Ok, Err}
 use Rattle.std.specs.List.{AllByRecursion}
 use Rattle.std.specs.FinMap as finite
 use Rattle.sqlite.specs.Effect.{Database}
@@ -45,3 +45,7 @@ pub record AcceptsNewBook (db : Database) (rows : TableRows) (id : ℤ) (name : 
   pub lacks : LacksBookRow db rows name
   pub book : AcceptsBook rows.books id name
   pub no_keep : AllByRecursion (λ k. is_keep_of id k ≡ false) rows.keeps
+
+-- the condition of a write of a new book: the columns hold its id and its keep
+abbrev pub GivenNewBook : ℤ → ℤ → (ℕ → ℕ → Type 0) → Type 0
+GivenNewBook id keep Then = (book most : ℕ) → id ≡ pos book → keep ≡ pos most → Then book most

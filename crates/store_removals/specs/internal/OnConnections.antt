@@ -1,5 +1,5 @@
 -- Definitions over connections, for private contracts, as in `store_tables`.
-use Rattle.std.specs.Prelude.{ℕ, List, Option, Result, IsTrue}
+use Rattle.std.specs.Prelude.{◌+◌, ◌<◌, ◌^◌, ℕ, pos, List, Option, Result, IsTrue}
 use Rattle.sqlite.specs.Held.{Held, state}
 use Rattle.vcard_lines.specs.declared.line.Line.{Line}
 use Rattle.book_model.specs.declared.denied.Denied.{Denied}
@@ -8,7 +8,7 @@ use Rattle.store_rows.specs.TableBooks.{HeaderRow}
 use Rattle.store_rows.specs.TableRows.{TableRows}
 use Rattle.store_lookups.specs.ChangeFaults.{AcceptChanges, HaveFreeIds}
 use Rattle.store_lookups.specs.OnConnections.{HasOutsideCauseOfFault, WriteFaultsFromOutside}
-use Rattle.store_writes.specs.OnConnections.{IsAtomic}
+use Rattle.store_writes.specs.OnConnections.{AcceptsMemberOf, IsAtomic}
 use Rattle.store_writes.specs.TableChanges.{HoldsBooks, TreesHold}
 use Rattle.store_removals.specs.internal.Moves as moves
 use Rattle.store_removals.specs.internal.Moves.{table_books_after_move}
@@ -41,6 +41,14 @@ module _ {S : Type 0} (store : Ghosts S) (old new : Held S) where
       HasBothRows store old rows from source to target →
       Survives store old new
       (TreesHold (table_books_after_move rows from source to target uid card drop))
+
+  -- Inside a transaction over tables that accept a member with this card and the next number in the
+  -- book with this header, a fault of the store comes only from an outside cause.
+  abbrev pub NextMemberFaultsFromOutside :
+      {A : Type 0} → HeaderRow → List ℕ → Option (List ℕ) → Result A Denied → Type 0
+  NextMemberFaultsFromOutside header uid card result = (rows : TableRows) (name : List ℕ) →
+      AcceptsMemberOf store old rows name header uid (pos (header.number + 1)) card →
+      header.id < 2 ^ 63 → WriteFaultsFromOutside store old new result
 
   -- Inside a transaction over rows that can be changed, among them those of both books, a fault of
   -- the store comes only from an outside cause.

@@ -1,6 +1,6 @@
 -- The plan of a removal, computed from the tables before anything is written.
-use Rattle.std.specs.Prelude.{◌≡◌, ◌≤◌, ◌+◌, ℕ, nat_le, if◌then◌else◌, List, Option, Some, None}
-use Rattle.std.specs.Prelude.{Result, Ok, Err}
+use Rattle.std.specs.Prelude.{◌≡◌, ◌≤◌, ◌+◌, ℕ, ℤ, pos, nat_le, if◌then◌else◌, List, Option, Some}
+use Rattle.std.specs.Prelude.{None, Result, Ok, Err}
 use Rattle.book_model.specs.declared.change.Change.TheVariants.{TakesAway}
 use Rattle.book_model.specs.declared.change.RemovalReason.{RemovalReason}
 use Rattle.book_model.specs.declared.change.RemovalReason.TheVariants.{Deletion}
@@ -18,7 +18,10 @@ use Rattle.store_rows.specs.ForgetLaws.{first_with_next}
 use Rattle.store_rows.specs.LookupLaws.{IsBookNamed}
 use Rattle.store_rows.specs.TableBooks.{HeaderRow, row_book, books_of, line_row}
 use Rattle.store_rows.specs.TableRows.{TableRows}
+use Rattle.store_rows.specs.Values.{IsLegalUid}
+use Rattle.store_tables.specs.declared.books.BookNumbers.{BookNumbers}
 use Rattle.store_lookups.specs.CallResults.{FollowsStep, IsExactly}
+use Rattle.store_writes.specs.TableChanges.{AreHeaderColumns}
 use Rattle.store_removals.specs.declared.remove_call.Removal.{Removal}
 
 -- the number of a removal in a book
@@ -37,8 +40,8 @@ abbrev pub tombstones_after_removal : ℕ → ℕ → Option ℕ → Option ℕ
 tombstones_after_removal count number None = Some (count + 1)
 tombstones_after_removal count number (Some upto) = if nat_le upto number then Some count else None
 
--- a valid plan for the named book: its header, the removal's number, how far it forgets, and how many
--- tombstones it has afterwards
+-- a valid plan for the named book: its header, the removal's number, how far it forgets, and how
+-- many tombstones it has afterwards
 pub record IsRemovalOf (limits : Bounds) (rows : TableRows) (name uid : List ℕ)
     (expect : Option ℕ) (plan : Removal) : Type 0 where
   pub named : IsBookNamed rows name plan.header
@@ -65,3 +68,13 @@ IsRemovalPlanned limits rows name uid expect (Err denied) =
 abbrev pub header_after_drop : RemovalReason → ℕ → HeaderRow → HeaderRow
 header_after_drop why upto header =
     record (header_after (TakesAway why) header) { horizon = upto }
+
+-- The condition of a write that removes a member with the book's next number and forgets the
+-- tombstones up to the number `last`: the columns hold these numbers, and those of the header after
+-- both.
+abbrev pub GivenRemoval : ℤ → List ℕ → ℤ → ℤ → BookNumbers
+    → (HeaderRow → RemovalReason → ℕ → Type 0) → Type 0
+GivenRemoval id uid changed upto numbers Then =
+    (header : HeaderRow) (why : RemovalReason) (last : ℕ)
+    → IsLegalUid uid → changed ≡ pos (header.number + 1) → upto ≡ pos last
+    → AreHeaderColumns (header_after_drop why last header) id numbers → Then header why last

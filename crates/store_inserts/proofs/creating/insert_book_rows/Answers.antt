@@ -34,7 +34,7 @@ returns-clause-books_after g c book most id_is keep_is rows clean inside line =
     clean in
     let id : to_z w64 (of_z w64 c.args.id) ≡ pos book = to_z-of_z c.ranges.id ∙ id_is in
     let keep : to_z w64 (of_z w64 c.args.keep) ≡ pos most = to_z-of_z c.ranges.keep ∙ keep_is in
-    let added = subst (λ z. AddsBook mid z name rows.books) id (c.in_ok-insert_book.ensures.adds
+    let added = subst (λ z. AddsBook mid z name rows.books) id (c.in_ok-insert_book.ensures.changes
     rows.books second inside line.holds.schema line.sound.books line.holds.books) in
     let one = c.in_ok-insert_book.ensures.writes rows.books second inside line.holds.schema
     line.sound.books line.holds.books in
@@ -43,7 +43,7 @@ returns-clause-books_after g c book most id_is keep_is rows clean inside line =
     (sym (spares_keeps old.now.trees mid.now.trees one.other_tables)) line.holds.keeps in
     let kept = subst (λ z. AddsKeep new (pos book) z rows.keeps) keep
     (subst (λ z. AddsKeep new z (to_z w64 (of_z w64 c.args.keep)) rows.keeps) id
-    (c.in_ok-insert_keep.ensures.adds rows.keeps clean one.inside one.schema line.sound.keeps
+    (c.in_ok-insert_keep.ensures.changes rows.keeps clean one.inside one.schema line.sound.keeps
     held)) in
     rows_created old mid new rows name book most line added one kept
     (c.in_ok-insert_keep.ensures.writes rows.keeps clean one.inside one.schema line.sound.keeps
@@ -74,7 +74,7 @@ returns-in_err-insert_keep-clause-fails_from_outside g c rows accepts clean insi
     let early : HasCleanDisk mid = clean_before _ mid new c.insert_keep.ensures.no_commit.survives
     clean in
     let id : to_z w64 (of_z w64 c.args.id) ≡ c.args.id = to_z-of_z c.ranges.id in
-    let added = c.in_ok-insert_book.ensures.adds rows.books early inside schema line.sound.books
+    let added = c.in_ok-insert_book.ensures.changes rows.books early inside schema line.sound.books
     line.holds.books in
     let one = c.in_ok-insert_book.ensures.writes rows.books early inside schema line.sound.books
     line.holds.books in

@@ -34,7 +34,7 @@ returns-in-Ok-clause-book_after g c rows name book clean inside wrote free =
     c.in_ok-number.ensures.fits refl in
     kept_as old new rows name c.args.header book c.args.key.now tally wrote _ _ _ _ _ id added
     edited same number free
-    (c.in-Ok.ensures.adds wrote.now.imports clean inside wrote.holds.schema
+    (c.in-Ok.ensures.changes wrote.now.imports clean inside wrote.holds.schema
     wrote.within.sound.imports wrote.holds.imports)
     (c.in-Ok.ensures.writes wrote.now.imports clean inside wrote.holds.schema
     wrote.within.sound.imports wrote.holds.imports)

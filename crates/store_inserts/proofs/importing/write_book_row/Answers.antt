@@ -24,7 +24,7 @@ returns-in-Ok-clause-books_after g c rows name book clean inside wrote =
     (subst (λ n. HasBooks new (with_book_numbers (pos header.id) n wrote.now.books)) numbers
     (subst (λ z. HasBooks new (with_book_numbers z (numbers_of c.in_ok-numbers.numbers)
     wrote.now.books)) id
-    (c.in-Ok.ensures.renumbers wrote.now.books clean inside wrote.holds.schema
+    (c.in-Ok.ensures.changes wrote.now.books clean inside wrote.holds.schema
     wrote.within.sound.books wrote.holds.books (line_row name wrote.line) there same)))
     (c.in-Ok.ensures.writes wrote.now.books clean inside wrote.holds.schema wrote.within.sound.books
     wrote.holds.books (line_row name wrote.line) there same)

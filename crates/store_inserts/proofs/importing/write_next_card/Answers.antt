@@ -55,8 +55,8 @@ returns-in-Ok-clause-book_after g c rows name book clean inside wrote =
           c.in_ok-text.ensures.is_canonical;
       card = card;
     } in
-    let put = rw c.uid.ensures at (c.in-Ok.ensures.puts wrote.now.members clean inside
-    wrote.holds.schema wrote.within.sound.members wrote.holds.members) in
+    let put = rw c.uid.ensures at ((c.in-Ok.ensures.changes wrote.now.members clean inside
+    wrote.holds.schema wrote.within.sound.members wrote.holds.members).puts) in
     let there = subst (λ z. PutsRow new.now.trees (pos header.id) (uid_of c.args.stored.card.now) z
     text wrote.now.members) at (subst (λ z. PutsRow new.now.trees z
     (uid_of c.args.stored.card.now) (to_z w64 (of_z w64 c.in_ok-changed.changed)) text
@@ -77,8 +77,8 @@ pub returns-in-Ok-clause-takes_ids : goal.returns-in-Ok-clause-takes_ids
 returns-in-Ok-clause-takes_ids g c rows name book clean inside wrote =
     let old = state g.S.Store c.args.tx.now.conn.now in
     let new = state g.S.Store c.put_planned.new.tx.conn.now in (
-      c.in-Ok.ensures.takes_one_id wrote.now.members clean inside wrote.holds.schema
-          wrote.within.sound.members wrote.holds.members,
+      (c.in-Ok.ensures.changes wrote.now.members clean inside wrote.holds.schema
+          wrote.within.sound.members wrote.holds.members).takes_one_id,
       spares_imports old.now.trees new.now.trees (c.in-Ok.ensures.writes wrote.now.members clean
           inside wrote.holds.schema wrote.within.sound.members wrote.holds.members).other_tables,
     )

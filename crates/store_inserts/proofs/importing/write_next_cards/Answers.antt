@@ -44,12 +44,12 @@ loop-card-preserved g c =
     let i = c.loop-card.card-index in
     let stored = c.args.stored.now in
     let next = c.in_ok-so_far.ensures.next_header in
+    let early : HasCleanDisk new → HasCleanDisk mid =
+    clean_before _ mid new c.write_next_card.ensures.survives in
     record {
       same_reference = c.write_next_card.ensures.same_reference ∙ first.same_reference;
       holds = λ rows name book clean inside wrote.
-          let early : HasCleanDisk mid = clean_before _ mid new c.write_next_card.ensures.survives
-          clean in
-          let here = first.holds rows name book early inside wrote in
+          let here = first.holds rows name book (early clean) inside wrote in
           let there = c.in_ok-so_far.ensures.book_after rows name
           (book_with_stored book (take i stored)) clean here.inside here.holds in
           subst (λ b. HoldsInTx new (λ db. WritesBook db rows name c.in_ok-so_far.so_far b))
@@ -61,34 +61,26 @@ loop-card-preserved g c =
           omega (arith, one, before);
       same_id = ap (λ f. f.id) next ∙ first.same_id;
       kept = λ rows name book clean inside wrote.
-          let early : HasCleanDisk mid = clean_before _ mid new c.write_next_card.ensures.survives
-          clean in
-          let here = first.holds rows name book early inside wrote in
-          keeps_commit_then old mid new (first.kept rows name book early inside wrote)
+          let here = first.holds rows name book (early clean) inside wrote in
+          keeps_commit_then old mid new (first.kept rows name book (early clean) inside wrote)
           (c.in_ok-so_far.ensures.keeps_commit rows name (book_with_stored book (take i stored))
           clean here.inside here.holds);
       survives = survives_then old mid new _ _ (λ _. ⊥) (λ _ db none. none) (λ _ db none. none)
           first.survives c.write_next_card.ensures.survives;
       obeys = λ rows name book clean inside wrote obeys.
-          let early : HasCleanDisk mid = clean_before _ mid new c.write_next_card.ensures.survives
-          clean in
-          let here = first.holds rows name book early inside wrote in
+          let here = first.holds rows name book (early clean) inside wrote in
           c.in_ok-so_far.ensures.obeys rows name (book_with_stored book (take i stored)) clean
-          here.inside here.holds (first.obeys rows name book early inside wrote obeys);
+          here.inside here.holds (first.obeys rows name book (early clean) inside wrote obeys);
       ids = λ rows name book clean inside wrote count free.
-          let early : HasCleanDisk mid = clean_before _ mid new c.write_next_card.ensures.survives
-          clean in
-          let here = first.holds rows name book early inside wrote in
+          let here = first.holds rows name book (early clean) inside wrote in
           (c.in_ok-so_far.ensures.takes_ids rows name (book_with_stored book (take i stored)) clean
           here.inside here.holds).0 count
-          (first.ids rows name book early inside wrote (count + 1) (fewer_ids (count + 1 + i)
+          (first.ids rows name book (early clean) inside wrote (count + 1) (fewer_ids (count + 1 + i)
           (count + (i + 1)) (old.now.trees 4) (omega arith) free));
       imports = λ rows name book clean inside wrote.
-          let early : HasCleanDisk mid = clean_before _ mid new c.write_next_card.ensures.survives
-          clean in
-          let here = first.holds rows name book early inside wrote in
+          let here = first.holds rows name book (early clean) inside wrote in
           (c.in_ok-so_far.ensures.takes_ids rows name (book_with_stored book (take i stored)) clean
-          here.inside here.holds).1 ∙ first.imports rows name book early inside wrote;
+          here.inside here.holds).1 ∙ first.imports rows name book (early clean) inside wrote;
     }
 
 pub returns-clause-book_after : goal.returns-clause-book_after

@@ -44,7 +44,7 @@ returns-clause-holds g t c keep_rows clean inside schema empty returned =
     clean in
     let before = c.in_ok-insert_keeps.ensures.holds parts.others early inside schema empty
     parts.rest_is in
-    let added = c.in_ok-insert_keep.ensures.adds parts.others clean before.wrote.inside
+    let added = c.in_ok-insert_keep.ensures.changes parts.others clean before.wrote.inside
     before.wrote.schema before.apart before.hold in
     let wrote = c.in_ok-insert_keep.ensures.writes parts.others clean before.wrote.inside
     before.wrote.schema before.apart before.hold in

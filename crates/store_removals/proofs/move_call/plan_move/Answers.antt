@@ -14,7 +14,8 @@ use Rattle.store_lookups.proofs.StoreFaultLemmas.{passed_cause}
 use Rattle.store_writes.proofs.ReadFaults.{then_reads}
 use Rattle.std.proofs.lemmas.Map.Text.{is_eq-slice_cmp}
 use Rattle.sqlite.specs.Held.{state}
-use Rattle.sqlite.specs.State.{HasCleanDisk}
+use Rattle.sqlite.specs.State.{HasCleanDisk, IsUnchanged, State}
+use Rattle.store_tables.specs.StatementEffects.{GivenTables, OnlyReads}
 use Rattle.book_model.specs.Books.{same_name}
 use Rattle.book_model.specs.Putting.{found_in_book}
 use Rattle.book_model.specs.Moving.{moving_of}
@@ -27,7 +28,41 @@ use Rattle.store_removals.specs.internal.Moves.{IsMovePlanned, moving_between_bo
 use Rattle.store_removals.proofs.MoveLemmas.{apart_among, denied_among, move_drops, moving_back}
 use Rattle.store_removals.proofs.MoveLemmas.{same_among}
 use Rattle.store_removals.proofs.RemoveLemmas.{same_then}
+use Rattle.store_removals.proofs.move_call.plan_move.Given as given
 use Rattle.store_removals.proofs.move_call.plan_move.Goals as goal
+use Rattle.store_removals.proofs.move_call.plan_move.Goals.{After-plan_drop}
+
+-- ---- the three reads
+
+module _ (g : given.Over) (c : After-plan_drop g) where
+  abbrev old : State
+  old = state g.S.Store c.args.conn.now
+
+  abbrev a : State
+  a = state g.S.Store c.find_both_headers.new.conn
+
+  abbrev b : State
+  b = state g.S.Store c.decide_move.new.conn
+
+  abbrev new : State
+  new = state g.S.Store c.plan_drop.new.conn
+
+  later : HasCleanDisk new → HasCleanDisk b
+  later clean = clean_before _ b new c.plan_drop.ensures.reads_only.survives clean
+
+  early : HasCleanDisk new → HasCleanDisk a
+  early clean = clean_before _ a b c.decide_move.ensures.reads_only.survives (later clean)
+
+  -- the first two change nothing
+  same : GivenTables old b (IsUnchanged old b)
+  same = same_then old a b _ c.in_ok-source.ensures.unchanged
+      c.decide_move.ensures.reads_only.survives c.in_ok-card.ensures.unchanged
+
+  -- and so do all three
+  reads_only : OnlyReads old new
+  reads_only = reads_then old b new (reads_then old a b c.find_both_headers.ensures.reads_only
+      c.in_ok-source.ensures.unchanged c.decide_move.ensures.reads_only) same
+      c.plan_drop.ensures.reads_only
 
 -- ---- the plan, after each read
 
@@ -66,41 +101,28 @@ returns-in_err-card-clause-reads_only g c =
 
 pub returns-in_err-plan-clause-reads_only : goal.returns-in_err-plan-clause-reads_only
 returns-in_err-plan-clause-reads_only g c =
-    let old = state g.S.Store c.args.conn.now in
-    let a = state g.S.Store c.find_both_headers.new.conn in
-    let b = state g.S.Store c.decide_move.new.conn in
-    let read = reads_then old a b c.find_both_headers.ensures.reads_only
-    c.in_ok-source.ensures.unchanged c.decide_move.ensures.reads_only in
-    let same = same_then old a b _ c.in_ok-source.ensures.unchanged
-    c.decide_move.ensures.reads_only.survives c.in_ok-card.ensures.unchanged in
-    reads_then old b (state g.S.Store c.plan_drop.new.conn) read same c.plan_drop.ensures.reads_only
+    reads_only g (goal.at.returns-in_err-plan-clause-reads_only g c).After-plan_drop
 
 pub returns-clause-planned : goal.returns-clause-planned
 returns-clause-planned g c rows clean holds sound right =
-    let old = state g.S.Store c.args.conn.now in
-    let a = state g.S.Store c.find_both_headers.new.conn in
-    let b = state g.S.Store c.decide_move.new.conn in
-    let new = state g.S.Store c.plan_drop.new.conn in
-    let later : HasCleanDisk b = clean_before _ b new c.plan_drop.ensures.reads_only.survives
-    clean in
-    let early : HasCleanDisk a = clean_before _ a b c.decide_move.ensures.reads_only.survives
-    later in
+    let p = (goal.at.returns-clause-planned g c).After-plan_drop in
     let from = c.args.from.now in
     let to = c.args.to.now in
     let source = c.in_ok-source.source in
     let target = c.in_ok-source.target in
-    let named = c.in_ok-source.ensures.finds rows early holds sound in
-    let same = same_then old a b _ c.in_ok-source.ensures.unchanged
-    c.decide_move.ensures.reads_only.survives c.in_ok-card.ensures.unchanged in
+    let named = c.in_ok-source.ensures.finds rows (early g p clean) holds sound in
     let moving = moving_back (moving_between_books c.args.limits c.args.uid.now c.args.expect
     (row_book rows (line_row from source)) (row_book rows (line_row to target)))
     (c.in_ok-card.card, c.in_ok-card.moved, c.in_ok-card.comes_back)
-    (over_then old a b _ _ c.in_ok-source.ensures.unchanged
-    c.decide_move.ensures.reads_only.survives c.in_ok-card.ensures.answers rows later holds
+    (over_then (old g p) (a g p) (b g p) _ _ c.in_ok-source.ensures.unchanged
+    c.decide_move.ensures.reads_only.survives c.in_ok-card.ensures.answers rows (later g p clean)
+    holds
     sound from to) in
-    let drop = over_then old b new _ _ same c.plan_drop.ensures.reads_only.survives
+    let drop = over_then (old g p) (b g p) (new g p) _ _ (same g p)
+    c.plan_drop.ensures.reads_only.survives
     c.in_ok-plan.ensures.drop rows clean holds sound right named.0 in
-    let tombstones = over_then old b new _ _ same c.plan_drop.ensures.reads_only.survives
+    let tombstones = over_then (old g p) (b g p) (new g p) _ _ (same g p)
+    c.plan_drop.ensures.reads_only.survives
     c.in_ok-plan.ensures.tombstones rows clean holds sound right named.0 in
     let low = c.in_ok-plan.ensures.horizon in
     record {
@@ -114,8 +136,9 @@ returns-clause-planned g c rows clean holds sound right =
           (moving_of c.in_ok-card.card c.in_ok-card.moved) c.in_ok-plan.plan.drop sound low moving
           drop;
       tombstones = tombstones;
-      comes_back = over_then old a b _ _ c.in_ok-source.ensures.unchanged
-          c.decide_move.ensures.reads_only.survives c.in_ok-card.ensures.tombstone rows later holds
+      comes_back = over_then (old g p) (a g p) (b g p) _ _ c.in_ok-source.ensures.unchanged
+          c.decide_move.ensures.reads_only.survives c.in_ok-card.ensures.tombstone rows (later g p
+          clean) holds
           sound to;
     }
 
@@ -123,46 +146,23 @@ returns-clause-planned g c rows clean holds sound right =
 
 pub returns-in_err-plan-clause-counts : goal.returns-in_err-plan-clause-counts
 returns-in_err-plan-clause-counts g c rows clean holds sound right =
-    let old = state g.S.Store c.args.conn.now in
-    let a = state g.S.Store c.find_both_headers.new.conn in
-    let b = state g.S.Store c.decide_move.new.conn in
-    let new = state g.S.Store c.plan_drop.new.conn in
-    let later : HasCleanDisk b = clean_before _ b new c.plan_drop.ensures.reads_only.survives
-    clean in
-    let early : HasCleanDisk a = clean_before _ a b c.decide_move.ensures.reads_only.survives
-    later in
-    let same = same_then old a b _ c.in_ok-source.ensures.unchanged
-    c.decide_move.ensures.reads_only.survives c.in_ok-card.ensures.unchanged in
-    over_then old b new _ _ same c.plan_drop.ensures.reads_only.survives c.plan_drop.ensures.counts
-    rows clean holds sound right (c.in_ok-source.ensures.finds rows early holds sound).0
+    let p = (goal.at.returns-in_err-plan-clause-counts g c).After-plan_drop in
+    over_then (old g p) (b g p) (new g p) _ _ (same g p) c.plan_drop.ensures.reads_only.survives
+    c.plan_drop.ensures.counts rows clean holds sound right
+    (c.in_ok-source.ensures.finds rows (early g p clean) holds sound).0
 
 pub returns-clause-counts : goal.returns-clause-counts
 returns-clause-counts g c rows clean holds sound right =
-    let old = state g.S.Store c.args.conn.now in
-    let a = state g.S.Store c.find_both_headers.new.conn in
-    let b = state g.S.Store c.decide_move.new.conn in
-    let new = state g.S.Store c.plan_drop.new.conn in
-    let later : HasCleanDisk b = clean_before _ b new c.plan_drop.ensures.reads_only.survives
-    clean in
-    let early : HasCleanDisk a = clean_before _ a b c.decide_move.ensures.reads_only.survives
-    later in
-    let same = same_then old a b _ c.in_ok-source.ensures.unchanged
-    c.decide_move.ensures.reads_only.survives c.in_ok-card.ensures.unchanged in
-    over_then old b new _ _ same c.plan_drop.ensures.reads_only.survives c.plan_drop.ensures.counts
-    rows clean holds sound right (c.in_ok-source.ensures.finds rows early holds sound).0
+    let p = (goal.at.returns-clause-counts g c).After-plan_drop in
+    over_then (old g p) (b g p) (new g p) _ _ (same g p) c.plan_drop.ensures.reads_only.survives
+    c.plan_drop.ensures.counts rows clean holds sound right
+    (c.in_ok-source.ensures.finds rows (early g p clean) holds sound).0
 
 -- ---- reads
 
 pub returns-clause-reads_only : goal.returns-clause-reads_only
 returns-clause-reads_only g c =
-    let old = state g.S.Store c.args.conn.now in
-    let a = state g.S.Store c.find_both_headers.new.conn in
-    let b = state g.S.Store c.decide_move.new.conn in
-    let read = reads_then old a b c.find_both_headers.ensures.reads_only
-    c.in_ok-source.ensures.unchanged c.decide_move.ensures.reads_only in
-    let same = same_then old a b _ c.in_ok-source.ensures.unchanged
-    c.decide_move.ensures.reads_only.survives c.in_ok-card.ensures.unchanged in
-    reads_then old b (state g.S.Store c.plan_drop.new.conn) read same c.plan_drop.ensures.reads_only
+    reads_only g (goal.at.returns-clause-reads_only g c).After-plan_drop
 
 -- ---- faults
 
@@ -190,19 +190,17 @@ returns-in_err-card-clause-store_fault g c rows clean holds accept free =
 
 pub returns-in_err-plan-clause-store_fault : goal.returns-in_err-plan-clause-store_fault
 returns-in_err-plan-clause-store_fault g c rows clean holds accept free =
-    let old = state g.S.Store c.args.conn.now in
-    let a = state g.S.Store c.find_both_headers.new.conn in
-    let b = state g.S.Store c.decide_move.new.conn in
-    let new = state g.S.Store c.plan_drop.new.conn in
-    let same = same_then old a b _ c.in_ok-source.ensures.unchanged
-    c.decide_move.ensures.reads_only.survives c.in_ok-card.ensures.unchanged in
-    let read = survives_then old a b _ _ (λ _. ⊤) (λ _ db none. tt) (λ _ db none. tt)
-    c.find_both_headers.ensures.reads_only.survives c.decide_move.ensures.reads_only.survives in
+    let p = (goal.at.returns-in_err-plan-clause-store_fault g c).After-plan_drop in
+    let read = survives_then (old g p) (a g p) (b g p) _ _ (λ _. ⊤) (λ _ db none. tt)
+    (λ _ db none. tt) c.find_both_headers.ensures.reads_only.survives
+    c.decide_move.ensures.reads_only.survives in
     let failed : Result DropPlan Denied = Err c.in_err-plan.field-0.0 in
     passed_cause c.from_residual-in_err-plan.result c.in_err-plan.field-0.0 _
     c.from_residual-in_err-plan.ensures.1
-    (then_change_faults old b new _ _ c.args.from.now c.in_ok-source.source failed read same
-    (λ rows later held sound. (c.in_ok-source.ensures.finds rows
-    (clean_before _ a b c.decide_move.ensures.reads_only.survives later) held sound).0.there)
+    (then_change_faults (old g p) (b g p) (new g p) _ _ c.args.from.now
+    c.in_ok-source.source failed read (same g p)
+    (λ rows second held sound. (c.in_ok-source.ensures.finds rows
+    (clean_before _ (a g p) (b g p) c.decide_move.ensures.reads_only.survives second) held
+    sound).0.there)
     c.plan_drop.ensures.reads_only.survives c.in_err-plan.ensures.store_fault rows clean holds
     accept free)

@@ -63,8 +63,8 @@ module _ (g : given.Over) (c : After-renumber_book g) where
   keeps_commit rows name header clean inside line =
       let third = clean_forgot clean in
       let second = clean_put clean in
-      let puts = c.in_ok-put_member.ensures.puts rows.members second inside line.holds.schema
-      line.sound.members line.holds.members in
+      let puts = (c.in_ok-put_member.ensures.changes rows.members second inside line.holds.schema
+      line.sound.members line.holds.members).puts in
       let first = c.in_ok-put_member.ensures.writes rows.members second inside line.holds.schema
       line.sound.members line.holds.members in
       let ms = upsert_member puts.id (to_z w64 (of_z w64 c.args.id)) c.args.uid.now
@@ -95,8 +95,8 @@ returns-clause-books_after g c header why last legal changed_is upto_is columns 
     let uid = c.args.uid.now in
     let puts = subst (λ z. PutsRow a.now.trees z uid (pos (header.number + 1)) None rows.members) id
     (subst (λ z. PutsRow a.now.trees (to_z w64 (of_z w64 c.args.id)) uid z None rows.members) at
-    (c.in_ok-put_member.ensures.puts rows.members second inside line.holds.schema
-    line.sound.members line.holds.members)) in
+    ((c.in_ok-put_member.ensures.changes rows.members second inside line.holds.schema
+    line.sound.members line.holds.members).puts)) in
     let first = c.in_ok-put_member.ensures.writes rows.members second inside line.holds.schema
     line.sound.members line.holds.members in
     let one = put_held (old g p).now a.now rows (line_row name header) uid (pos (header.number + 1))
@@ -105,8 +105,8 @@ returns-clause-books_after g c header why last legal changed_is upto_is columns 
     let ms = upsert_member one.id (pos header.id) uid (pos (header.number + 1)) None rows.members in
     let members = subst (λ z. HasMembers b (without_removed z (pos last) ms)) id
     (subst (λ z. HasMembers b (without_removed (to_z w64 (of_z w64 c.args.id)) z ms)) until
-    (c.in_ok-forget_members.ensures.forgets ms third first.inside first.schema
-    one.within.sound.members one.holds.members)) in
+    ((c.in_ok-forget_members.ensures.changes ms third first.inside first.schema
+    one.within.sound.members one.holds.members).forgets)) in
     let two = c.in_ok-forget_members.ensures.writes ms third first.inside first.schema
     one.within.sound.members one.holds.members in
     let held : HoldBooks (b.now.trees 2) rows.books =
@@ -116,7 +116,7 @@ returns-clause-books_after g c header why last legal changed_is upto_is columns 
     let books = subst (λ n. HasBooks (new g p) (with_book_numbers (pos header.id) n rows.books))
     columns.numbers (subst (λ z. HasBooks (new g p)
     (with_book_numbers z (numbers_of c.args.numbers) rows.books)) id
-    (c.in_ok-renumber_book.ensures.renumbers rows.books clean two.inside two.schema
+    (c.in_ok-renumber_book.ensures.changes rows.books clean two.inside two.schema
     line.sound.books held (line_row name header) line.there id)) in
     row_dropped (old g p) a b (new g p) rows name header uid why last line one members two books
     (c.in_ok-renumber_book.ensures.writes rows.books clean two.inside two.schema
@@ -193,8 +193,9 @@ returns-in_err-renumber_book-clause-fails_from_outside g c rows name header id_i
     let third = clean_forgot g p clean in
     let second = clean_put g p clean in
     let id : to_z w64 (of_z w64 c.args.id) ≡ pos header.id = to_z-of_z c.ranges.id ∙ id_is in
-    let puts = c.in_ok-put_member.ensures.puts rows.members second inside schema line.sound.members
-    line.holds.members in
+    let puts = (c.in_ok-put_member.ensures.changes rows.members second inside schema
+    line.sound.members
+    line.holds.members).puts in
     let first = c.in_ok-put_member.ensures.writes rows.members second inside schema
     line.sound.members line.holds.members in
     let ms = upsert_member puts.id (to_z w64 (of_z w64 c.args.id)) c.args.uid.now

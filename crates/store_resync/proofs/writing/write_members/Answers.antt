@@ -24,8 +24,8 @@ returns-in-Some-clause-members g c id_is last_is legal rows name clean inside li
     (subst (λ n. puts (to_z w64 (of_z w64 c.args.id)) c.as_str.result.now n card.text) last
     (subst (λ t. puts (to_z w64 (of_z w64 c.args.id)) c.as_str.result.now
     (to_z w64 (of_z w64 c.args.last)) t) text
-    (c.update_or_put.ensures.puts rows.members clean inside line.holds.schema line.sound.members
-    line.holds.members)))) in
+    ((c.update_or_put.ensures.changes rows.members clean inside line.holds.schema line.sound.members
+    line.holds.members).puts)))) in
     renewed_in_tx (state g.S.Store c.args.tx.now.conn.now) new rows name plan c.args.stage card
     c.update_or_put.result c.in-Pairs.is c.in-Some.is
     (subst (λ renewed. IfSome renewed HasLegalRow) c.in-Some.is legal) line put
@@ -43,8 +43,8 @@ returns-in-Ok-clause-members g c id_is last_is legal rows name clean inside line
     rows.members)) id
     (subst (λ z. HoldMembers (new.now.trees 4) (without_removed (to_z w64 (of_z w64 c.args.id)) z
     rows.members)) last
-    (c.in-Ok.ensures.forgets rows.members clean inside line.holds.schema line.sound.members
-    line.holds.members)) in
+    ((c.in-Ok.ensures.changes rows.members clean inside line.holds.schema line.sound.members
+    line.holds.members).forgets)) in
     forgotten_in_tx (state g.S.Store c.args.tx.now.conn.now) new rows name plan c.args.stage
     c.in-Forgetting.is line left
     (c.in-Ok.ensures.writes rows.members clean inside line.holds.schema line.sound.members

@@ -31,7 +31,7 @@ returns-clause-stage g c columns last_is legal rows name clean inside line =
     let books = subst (λ n. HasBooks new (with_book_numbers (pos plan.header.id) n held.now.books))
     columns.numbers
     (subst (λ z. HasBooks new (with_book_numbers z (numbers_of c.args.numbers) held.now.books)) id
-    (c.in_ok-renumber_book.ensures.renumbers held.now.books clean one.inside held.holds.schema
+    (c.in_ok-renumber_book.ensures.changes held.now.books clean one.inside held.holds.schema
     held.within.sound.books held.holds.books (line_row name (header_before stage plan)) there
     id)) in
     stage_written mid new rows name plan stage line.there held books

@@ -32,8 +32,8 @@ returns-clause-books_after g c rows name header clean inside line last upto_is c
     let at : to_z w64 (of_z w64 c.args.upto) ≡ pos last = to_z-of_z c.ranges.upto ∙ upto_is in
     let members = subst (λ z. HasMembers mid (without_removed z (pos last) rows.members)) id
     (subst (λ z. HasMembers mid (without_removed (to_z w64 (of_z w64 c.args.id)) z
-    rows.members)) at (c.in_ok-dropped.ensures.forgets rows.members second inside
-    line.holds.schema line.sound.members line.holds.members)) in
+    rows.members)) at ((c.in_ok-dropped.ensures.changes rows.members second inside
+    line.holds.schema line.sound.members line.holds.members).forgets)) in
     let one = c.in_ok-dropped.ensures.writes rows.members second inside line.holds.schema
     line.sound.members line.holds.members in
     let held : HoldBooks (mid.now.trees 2) rows.books =
@@ -41,7 +41,7 @@ returns-clause-books_after g c rows name header clean inside line last upto_is c
     (sym (spares_books old.now.trees mid.now.trees one.other_tables)) line.holds.books in
     let books = subst (λ n. HasBooks new (with_book_numbers (pos header.id) n rows.books))
     columns.numbers (subst (λ z. HasBooks new (with_book_numbers z (numbers_of c.args.numbers)
-    rows.books)) id (c.in_ok-renumber_book.ensures.renumbers rows.books clean one.inside
+    rows.books)) id (c.in_ok-renumber_book.ensures.changes rows.books clean one.inside
     one.schema line.sound.books held (line_row name header) line.there id)) in
     rows_forgotten old mid new rows name header last line members one books
     (c.in_ok-renumber_book.ensures.writes rows.books clean one.inside one.schema
@@ -59,8 +59,8 @@ returns-clause-dropped g c rows name header clean inside line last upto_is colum
     subst (λ z. c.in_ok-dropped.dropped ≡ length (filter (is_removed_up_to z (pos last))
     rows.members)) id (subst (λ z. c.in_ok-dropped.dropped
     ≡ length (filter (is_removed_up_to (to_z w64 (of_z w64 c.args.id)) z) rows.members)) at
-    (c.in_ok-dropped.ensures.dropped rows.members second inside line.holds.schema
-    line.sound.members line.holds.members))
+    ((c.in_ok-dropped.ensures.changes rows.members second inside line.holds.schema
+    line.sound.members line.holds.members).dropped))
     ∙ deletions_dropped rows name header last line.sound
 
 -- ---- errors

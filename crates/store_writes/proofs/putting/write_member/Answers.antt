@@ -40,8 +40,8 @@ returns-clause-books_after g c header change changed_is is columns rows name cle
     let text = option_copied c.args.card in
     let put = subst (λ z. PutsRow mid.now.trees z c.args.uid.now (pos (header.number + 1)) text
     rows.members) id (subst (λ z. PutsRow mid.now.trees (to_z w64 (of_z w64 c.args.id))
-    c.args.uid.now z text rows.members) at (c.in_ok-update_or_put.ensures.puts rows.members
-    second inside line.holds.schema line.sound.members line.holds.members)) in
+    c.args.uid.now z text rows.members) at ((c.in_ok-update_or_put.ensures.changes rows.members
+    second inside line.holds.schema line.sound.members line.holds.members).puts)) in
     let one = c.in_ok-update_or_put.ensures.writes rows.members second inside line.holds.schema
     line.sound.members line.holds.members in
     let held : HoldBooks (mid.now.trees 2) rows.books =
@@ -49,7 +49,7 @@ returns-clause-books_after g c header change changed_is is columns rows name cle
     (sym (spares_books old.now.trees mid.now.trees one.other_tables)) line.holds.books in
     let books = subst (λ n. HasBooks new (with_book_numbers (pos header.id) n rows.books))
     columns.numbers (subst (λ z. HasBooks new (with_book_numbers z (numbers_of c.args.numbers)
-    rows.books)) id (c.in_ok-renumber_book.ensures.renumbers rows.books clean one.inside
+    rows.books)) id (c.in_ok-renumber_book.ensures.changes rows.books clean one.inside
     one.schema line.sound.books held (line_row name header) line.there id)) in
     row_put old mid new rows name header c.args.uid.now text change line is put one books
     (c.in_ok-renumber_book.ensures.writes rows.books clean one.inside one.schema
@@ -103,8 +103,9 @@ returns-clause-takes_one_id g c header id_is rows name clean inside line count f
     line.sound.books (held g p rows name header id_is clean inside line) (line_row name header)
     line.there (id g p rows name header id_is clean inside line) in
     subst (HasFreeIds count) (sym (spares_members (mid g p).now.trees (new g p).now.trees
-    second.other_tables)) (c.in_ok-update_or_put.ensures.takes_one_id rows.members
-    (clean_mid g p clean) inside line.holds.schema line.sound.members line.holds.members count
+    second.other_tables)) ((c.in_ok-update_or_put.ensures.changes rows.members
+    (clean_mid g p clean) inside line.holds.schema line.sound.members
+    line.holds.members).takes_one_id count
     free)
 
 pub returns-in_err-update_or_put-clause-keeps_commit :
