@@ -94,7 +94,7 @@ Options:
 Example:
   contacts try < ann.vcf
 
-A card may have up to 262,144 bytes, and its UID 1 to 255 bytes.
+A card may have up to 262,144 octets, and its UID 1 to 255 octets.
 """
 
 HELP["init"] = plain(
@@ -133,7 +133,7 @@ connect
 127.0.0.1, localhost and [::1] are always allowed. May be given more than once
       --max-open <M>      Maximum number of connections open at once, 1 to 1000 [default: 256]
       --idle-timeout <S>  Seconds after which a silent connection is closed, or one whose request \
-isn't complete, 1 to 3600; a long request has one more for each 4096 bytes [default: 60]
+isn't complete, 1 to 3600; a long request has one more for each 4096 octets [default: 60]
       --max-held <MIB>    Maximum memory for long requests and replies that are on their way, in \
 MiB, 16 to 1024; one by itself may have more [default: 64]
       --create            Create the file if it isn't there
@@ -147,7 +147,7 @@ Example:
 
 Prints where it listens before accepting connections. A request is refused if its Host is none of \
 the server's names, if a page of another site sends a change, or if a change has a precondition such \
-as If-Match. A request body may have up to 8,388,608 bytes.
+as If-Match. A request body may have up to 8,388,608 octets.
 """
 
 HELP["serve"] = """\
@@ -170,7 +170,7 @@ For scripts and tests: it waits for each client, checks no Host, and ends after 
 connection. To serve an office, use `run`.
 
 Prints the address and port before accepting connections. A request body may have up to 8,388,608 \
-bytes.
+octets.
 """
 
 HELP["import"] = plain(
@@ -179,7 +179,7 @@ HELP["import"] = plain(
     [FILE, BOOK,
      ("<KEY>", "Import key, 1 to 64 characters of A-Z, a-z, 0-9, . _ -; repeating the key of a "
                "completed import changes nothing and prints its result again"),
-     ("<CSV>", "CSV file with a header row, up to 8,388,608 bytes")],
+     ("<CSV>", "CSV file with a header row, up to 8,388,608 octets")],
     'office.db staff "$(date +%F-%H%M%S)" people.csv',
     """\
 Use a new key for each import: repeating a key imports nothing, and its output looks like that of \
@@ -187,7 +187,7 @@ the first import.
 
 The header row is `uid,vcard` for a UID and a vCard per row, or \
 `uid,fn,family,given,email,tel,org,note` for one property per column. Either all cards are \
-imported or none. A card may have up to 262,144 bytes, and a book up to 10,000 cards.
+imported or none. A card may have up to 262,144 octets, and a book up to 10,000 cards.
 """,
 )
 
@@ -255,7 +255,7 @@ HELP["expand"] = plain(
     "expand",
     "List the people in a group and in its nested groups",
     [FILE, BOOK,
-     ("<UID>", "UID of the group, 1 to 255 bytes")],
+     ("<UID>", "UID of the group, 1 to 255 octets")],
     "office.db staff choir",
 )
 
@@ -329,7 +329,7 @@ HELP["check"] = plain(
     "check",
     "Check a CSV file or a vCard, and print its number of rows or the first fault",
     [("<FILE>", "CSV file with a header row, or a vCard if the name ends in `.vcf`, up to "
-                "8,388,608 bytes")],
+                "8,388,608 octets")],
     "people.csv",
     """\
 Needs no store file. Row 0 is the header, and row 1 the first row after it. A file with a fault is \
@@ -350,7 +350,8 @@ Options:
       --to <DIR>           Existing folder to write files to: one `.vcf` file per card, or the CSV \
 files of --rows and --octets
       --rows <ROWS>        Write several CSV files, each with at most this number of rows, 1 to 10000
-      --octets <OCTETS>    Write several CSV files, each of at most this number of bytes, 1 to 8388608
+      --octets <OCTETS>    Write several CSV files, each of at most this number of octets, 1 to \
+8388608
       --day-first          Dates such as 05/04/1980 have the day first
       --month-first        Dates such as 05/04/1980 have the month first
       --columns <COLUMNS>  What columns of a spreadsheet become, as \
@@ -365,7 +366,7 @@ windows-1250 to -1258 or -874, KOI8-R or KOI8-U
       --report <REPORT>    New file for all lines of the report, one for each line of a card that \
 was changed
       --photos <PHOTOS>    Existing folder for the photos, logos and sounds of cards that have more \
-than 262144 bytes with them, which are carried without them
+than 262144 octets with them, which are carried without them
   -h, --help               Print help
 
 Example:

@@ -14,7 +14,7 @@ from program import Ended, run
 
 HEAD = "uid,fn,family,given,email,tel,org,note\n"
 ANN = "BEGIN:VCARD\r\nVERSION:4.0\r\nUID:a\r\nFN:Ann\r\nEND:VCARD\r\n"
-TOO_LONG = "it has more than 8,388,608 bytes; make several files of it"
+TOO_LONG = "it has more than 8,388,608 octets; make several files of it"
 
 HEADER = "the header is neither uid,vcard nor uid,fn,family,given,email,tel,org,note"
 COUNT = "the number of fields isn't that of the header"

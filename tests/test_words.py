@@ -225,7 +225,7 @@ class Sockets(Words):
         self.make_books()
         long = "x" * 108
         self.assert_said(["run", "a.db", "--socket", long],
-                         f"{long}: a socket's path has at most 107 bytes; name a shorter one",
+                         f"{long}: a socket's path has at most 107 octets; name a shorter one",
                          "fault device 1", always=True)
         self.write({"taken": "a file"})
         self.assert_said(["run", "a.db", "--socket", "taken"],
@@ -275,7 +275,7 @@ class Devices(Words):
         for name, words in [
             ("none.csv", "there is no such file"),
             ("folder.csv", "it is a folder; name a file"),
-            ("long.csv", "it has more than 8,388,608 bytes; make several files of it"),
+            ("long.csv", "it has more than 8,388,608 octets; make several files of it"),
         ]:
             sentence = f"{name}: {words}"
             self.assert_said(["import", "a.db", "staff", "k", name], sentence, "fault device 1")

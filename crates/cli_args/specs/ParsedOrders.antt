@@ -231,7 +231,8 @@ book_order_of name rows =
     else (if bytes_eq name (codes "forget") then forget_order rows
     else query_order_of name rows))
 
--- the order of this name and these matches, if it copies a file, puts a copy back, or is about books
+-- the order of this name and these matches, if it copies a file, puts a copy back, or is about
+-- books
 abbrev pub backup_order_of : Text → List Row → Option Order
 backup_order_of name rows =
     if bytes_eq name (codes "copy") then copy_order rows

@@ -199,7 +199,8 @@ order_commands = try_command ∷ init_command ∷ book_command ∷ run_command �
     ∷ import_command
     ∷ export_command ∷ tally_command
     ∷ forget_command ∷ mirror_command ∷ expand_command ∷ migrate_command ∷ copy_command
-    ∷ restore_command ∷ resync_command ∷ check_command ∷ convert_command ∷ books_command ∷ verify_command ∷ []
+    ∷ restore_command ∷ resync_command ∷ check_command ∷ convert_command ∷ books_command ∷
+    verify_command ∷ []
 
 -- `--version` or `-V`; 86 is the letter V
 abbrev pub version_flag : Rule

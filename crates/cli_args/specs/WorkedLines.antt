@@ -124,7 +124,8 @@ abbrev pub WorkedSockets : Type 0
 WorkedSockets =
     (order_from (over_file (codes "run") (codes "--socket=s" ∷ []))
     ≡ Some (order.Run db 8080 (Some (codes "s")) [] 256 60 64 false false None))
-    × (order_from (over_file (codes "run") (codes "--socket" ∷ codes "s" ∷ codes "--port=8080" ∷ []))
+    × (order_from (over_file (codes "run") (codes "--socket" ∷ codes "s" ∷ codes "--port=8080" ∷
+    []))
     ≡ None)
     × (order_from (over_file (codes "run") (codes "--socket=s" ∷ codes "--socket=s" ∷ [])) ≡ None)
     × (order_from (over_file (codes "run") (codes "--socket" ∷ [] ∷ [])) ≡ None)

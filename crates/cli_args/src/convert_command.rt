@@ -54,7 +54,7 @@ fn octets_option<'a>(alloc: Global) -> Arg<'a>
         "octets",
         1,
         8_388_608,
-        "Write several CSV files, each of at most this number of bytes, 1 to 8388608",
+        "Write several CSV files, each of at most this number of octets, 1 to 8388608",
     )
 }
 
@@ -129,7 +129,7 @@ fn photos_option<'a>(alloc: Global) -> Arg<'a>
         "PHOTOS",
         "photos",
         "Existing folder for the photos, logos and sounds of cards that have more than 262144 \
-         bytes with them, which are carried without them",
+         octets with them, which are carried without them",
     )
 }
 

@@ -44,8 +44,8 @@ fn try_command<'a>(alloc: Global) -> Result<Command<'a>, AllocError>
         "try",
         "Read a vCard from standard input, add it to an empty book in memory, and print the book's \
          initial report",
-        "Example:\n  contacts try < ann.vcf\n\nA card may have up to 262,144 bytes, and its UID 1 \
-         to 255 bytes.",
+        "Example:\n  contacts try < ann.vcf\n\nA card may have up to 262,144 octets, and its UID 1 \
+         to 255 octets.",
         Vec::new(alloc),
     )
 }
@@ -109,7 +109,7 @@ fn serve_command<'a>(alloc: Global) -> Result<Command<'a>, AllocError>
         "Example:\n  contacts serve office.db --port 8080 --connections 2\n\nFor scripts and \
          tests: it waits for each client, checks no Host, and ends after the last connection. To \
          serve an office, use `run`.\n\nPrints the address and port before accepting connections. \
-         A request body may have up to 8,388,608 bytes.",
+         A request body may have up to 8,388,608 octets.",
         Vec::from_array(
             alloc,
             [file_arg(alloc), port_option(alloc, "0"), connections],
@@ -165,7 +165,7 @@ fn idle_timeout_option<'a>(alloc: Global) -> Arg<'a>
         3_600,
         "60",
         "Seconds after which a silent connection is closed, or one whose request isn't complete, 1 \
-         to 3600; a long request has one more for each 4096 bytes",
+         to 3600; a long request has one more for each 4096 octets",
     )
 }
 
@@ -216,7 +216,7 @@ fn run_command<'a>(alloc: Global) -> Result<Command<'a>, AllocError>
         "Example:\n  contacts run office.db --create\n\nPrints where it listens before accepting \
          connections. A request is refused if its Host is none of the server's names, if \
          a page of another site sends a change, or if a change has a precondition such as \
-         If-Match. A request body may have up to 8,388,608 bytes.",
+         If-Match. A request body may have up to 8,388,608 octets.",
         Vec::from_array(
             alloc,
             [
@@ -247,7 +247,7 @@ fn import_command<'a>(alloc: Global) -> Result<Command<'a>, AllocError>
     let csv = argument(
         alloc,
         "CSV",
-        "CSV file with a header row, up to 8,388,608 bytes",
+        "CSV file with a header row, up to 8,388,608 octets",
     );
     order_command(
         alloc,
@@ -257,7 +257,8 @@ fn import_command<'a>(alloc: Global) -> Result<Command<'a>, AllocError>
          new key for each import: repeating a key imports nothing, and its output looks like that \
          of the first import.\n\nThe header row is `uid,vcard` for a UID and a vCard per row, or \
          `uid,fn,family,given,email,tel,org,note` for one property per column. Either all cards \
-         are imported or none. A card may have up to 262,144 bytes, and a book up to 10,000 cards.",
+         are imported or none. A card may have up to 262,144 octets, and a book up to 10,000 \
+         cards.",
         Vec::from_array(alloc, [file_arg(alloc), book_arg(alloc), key, csv])?,
     )
 }
@@ -329,7 +330,7 @@ fn mirror_command<'a>(alloc: Global) -> Result<Command<'a>, AllocError>
 fn expand_command<'a>(alloc: Global) -> Result<Command<'a>, AllocError>
     ensures { IfOk result (IsOrderCommand lines.expand_command) }
 {
-    let uid = argument(alloc, "UID", "UID of the group, 1 to 255 bytes");
+    let uid = argument(alloc, "UID", "UID of the group, 1 to 255 octets");
     order_command(
         alloc,
         "expand",
@@ -357,7 +358,7 @@ fn check_command<'a>(alloc: Global) -> Result<Command<'a>, AllocError>
     let file = argument(
         alloc,
         "FILE",
-        "CSV file with a header row, or a vCard if the name ends in `.vcf`, up to 8,388,608 bytes",
+        "CSV file with a header row, or a vCard if the name ends in `.vcf`, up to 8,388,608 octets",
     );
     order_command(
         alloc,

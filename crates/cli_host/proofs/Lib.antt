@@ -1,4 +1,5 @@
 pub mod CallLemmas
+pub mod StoreCallLemmas
 pub mod TurnLemmas
 pub mod FileLemmas
 pub mod EndingLemmas

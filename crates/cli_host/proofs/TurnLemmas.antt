@@ -1,5 +1,6 @@
 -- Serving connections one after another: the calls that are made of the host, and what is written.
-use Rattle.std.proofs.Common.{◌≡◌, ◌≢◌, ℕ, false, List, [], ◌∷◌, Option, Result, Ok, Err, IfErr, OnOk}
+use Rattle.std.proofs.Common.{◌≡◌, ◌≢◌, ℕ, false, List, [], ◌∷◌, Option, Result, Ok, Err, IfErr}
+use Rattle.std.proofs.Common.{OnOk}
 use Rattle.std.proofs.Common.{inl, inr, refl}
 use Rattle.book_http.specs.ConnectionModels.{ConnectionModel}
 use Rattle.book_http.specs.OctetPromise.{ServiceStep}

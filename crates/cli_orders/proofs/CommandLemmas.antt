@@ -88,8 +88,7 @@ module _ {S : Type 0} (model : StoreModel S) where
   mirror_printed (Ok done) old new book limit pages before after mirrored mirrors few_pages kept
       written = record {
         mirrored = mirrored;
-        mirrors = mirrors;
-        few_pages = few_pages;
+        made = record { mirrors = mirrors; few_pages = few_pages };
         kept = kept;
         written = written;
       }
@@ -130,8 +129,7 @@ module _ {S : Type 0} (model : StoreModel S) where
         kept = kept;
         stop_is = record {
           mirrored = mirrored;
-          mirrors = mirrors;
-          few_pages = few_pages;
+          made = record { mirrors = mirrors; few_pages = few_pages };
           front = front;
         };
       })

@@ -31,14 +31,19 @@ module _ {S : Type 0} (model : StoreModel S) where
     pub performed : PerformsOnStore model old command reply new
     pub stops : StopsOnReply reply stop before after
 
-  -- a mirror of the book was made in the state of the store, and it is printed
-  pub record PrintsMirror (old : S) (book : List ℕ) (limit pages : ℕ)
-      (before after : Option (List ℕ)) (new : S) : Type 0 where
-    pub mirrored : Mirrored
+  -- this mirror of the book was made in the state of the store, in exactly the pages that it needs
+  pub record MakesMirror (old : S) (book : List ℕ) (limit pages : ℕ) (mirrored : Mirrored) (new : S)
+      : Type 0 where
     pub mirrors : FromEachState model old new (λ now.
         IsMirrorRun now book limit pages mirrored)
     pub few_pages : FromEachState model old new (λ now.
         HasExactPageCount now book limit pages mirrored)
+
+  -- a mirror of the book was made, and it is printed
+  pub record PrintsMirror (old : S) (book : List ℕ) (limit pages : ℕ)
+      (before after : Option (List ℕ)) (new : S) : Type 0 where
+    pub mirrored : Mirrored
+    pub made : MakesMirror old book limit pages mirrored new
     pub kept : KeepsBooks model old new
     pub written : Appends before after (mirror_lines mirrored)
 
@@ -46,10 +51,7 @@ module _ {S : Type 0} (model : StoreModel S) where
   pub record PrintsMirrorPrefix (old : S) (book : List ℕ) (limit pages : ℕ)
       (before after : Option (List ℕ)) (new : S) : Type 0 where
     pub mirrored : Mirrored
-    pub mirrors : FromEachState model old new (λ now.
-        IsMirrorRun now book limit pages mirrored)
-    pub few_pages : FromEachState model old new (λ now.
-        HasExactPageCount now book limit pages mirrored)
+    pub made : MakesMirror old book limit pages mirrored new
     pub front : WritesPrefix (mirror_lines mirrored) before after
 
   -- A refusal is that of the initial report. A fault is out of memory, or one that the store may

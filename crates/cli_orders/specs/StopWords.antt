@@ -85,11 +85,11 @@ other_words found.Missing = codes "there is no such file"
 other_words found.IsFolder = codes "it is a folder; name a file"
 other_words found.Denied = codes "you may not read it"
 other_words found.TooLong =
-    codes "it has more than 8,388,608 bytes; make several files of it"
+    codes "it has more than 8,388,608 octets; make several files of it"
 other_words found.NoFolder = codes "there is no folder for it; make that first"
 other_words found.FolderDenied = codes "you may not make files in its folder"
 other_words found.SocketTaken = codes "another program listens there"
-other_words found.LongPath = codes "a socket's path has at most 107 bytes; name a shorter one"
+other_words found.LongPath = codes "a socket's path has at most 107 octets; name a shorter one"
 other_words found.NotSocket =
     codes "something else is there; move it away, or name another path"
 other_words cause = codes "it can't be read"

@@ -3,7 +3,8 @@ ghost use Rattle.std.specs.Prelude.{◌≡◌, ◌↔◌, ◌∷◌, ◌++◌, [
 ghost use Rattle.std.specs.Prelude.{IsTrue, false, true};
 ghost use Rattle.cli_orders.specs.CardRows.{HasNoCardText, IsCardTextOfRow, IsLineInCard};
 ghost use Rattle.cli_orders.specs.CardRows.{IsLineInRow};
-ghost use Rattle.cli_orders.specs.internal.RowReaders.{HasFewerRows, IsAfterRows, SkipsRows};
+ghost use Rattle.csv_cards.specs.internal.ReaderState.{HasReadRows};
+ghost use Rattle.cli_orders.specs.internal.RowReaders.{HasFewerRows, SkipsRows};
 ghost use Rattle.csv.specs.Records.{fields_of};
 ghost use Rattle.csv_cards.specs.Rows.{AreRows, Row, header, row_field};
 ghost use Rattle.csv_cards.specs.declared.form.Form.TheVariants as form;
@@ -17,7 +18,7 @@ use vcard_text::{CardFault, NoMemory};
 /// A reader of a text's rows, with any number of fields each. It treats no row as a header, and
 /// skips a byte order mark.
 fn reader_of(alloc: Global, text: &[u8]) -> Reader<&[u8]>
-    ensures { IsAfterRows result text.now [] }
+    ensures { HasReadRows result text.now [] }
 {
     ReaderBuilder::new()
         .has_headers(false)
@@ -28,10 +29,10 @@ fn reader_of(alloc: Global, text: &[u8]) -> Reader<&[u8]>
 /// Reads the next row and returns whether there is one. Reading from memory fails only if memory
 /// runs out.
 fn read_next(reader: &mut Reader<&[u8]>, row: &mut ByteRecord) -> Result<bool, NoMemory>
-    ensures more { (text : List ℕ) (rows : List Row) → IsAfterRows reader.old text rows
+    ensures more { (text : List ℕ) (rows : List Row) → HasReadRows reader.old text rows
         → IfOk result (λ found. found ≡ true
-        → IsAfterRows reader.new text (rows ++ fields_of row.new ∷ [])) }
-    ensures end { (text : List ℕ) (rows : List Row) → IsAfterRows reader.old text rows
+        → HasReadRows reader.new text (rows ++ fields_of row.new ∷ [])) }
+    ensures end { (text : List ℕ) (rows : List Row) → HasReadRows reader.old text rows
         → IfOk result (λ found. found ≡ false → AreRows text rows) }
 {
     let Ok(found) = reader.read_byte_record(row) else {
@@ -42,9 +43,9 @@ fn read_next(reader: &mut Reader<&[u8]>, row: &mut ByteRecord) -> Result<bool, N
 
 /// Reads this number of rows. Returns whether there are that many.
 fn skip_rows(reader: &mut Reader<&[u8]>, row: &mut ByteRecord, count: u64) -> Result<bool, NoMemory>
-    ensures more { (text : List ℕ) (rows : List Row) → IsAfterRows reader.old text rows
+    ensures more { (text : List ℕ) (rows : List Row) → HasReadRows reader.old text rows
         → IfOk result (λ found. found ≡ true → SkipsRows reader.new text rows count) }
-    ensures end { (text : List ℕ) (rows : List Row) → IsAfterRows reader.old text rows
+    ensures end { (text : List ℕ) (rows : List Row) → HasReadRows reader.old text rows
         → IfOk result (λ found. found ≡ false → HasFewerRows text rows count) }
 {
     for _row in 0..count {

@@ -113,11 +113,11 @@ pub(crate) fn other_words(cause: FoundCause) -> &'static str
         FoundCause::Missing => "there is no such file",
         FoundCause::IsFolder => "it is a folder; name a file",
         FoundCause::Denied => "you may not read it",
-        FoundCause::TooLong => "it has more than 8,388,608 bytes; make several files of it",
+        FoundCause::TooLong => "it has more than 8,388,608 octets; make several files of it",
         FoundCause::NoFolder => "there is no folder for it; make that first",
         FoundCause::FolderDenied => "you may not make files in its folder",
         FoundCause::SocketTaken => "another program listens there",
-        FoundCause::LongPath => "a socket's path has at most 107 bytes; name a shorter one",
+        FoundCause::LongPath => "a socket's path has at most 107 octets; name a shorter one",
         FoundCause::NotSocket => "something else is there; move it away, or name another path",
         _ => "it can't be read",
     }

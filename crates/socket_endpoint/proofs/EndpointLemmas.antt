@@ -12,19 +12,30 @@ use Rattle.socket_endpoint.specs.SocketEvents.{Accepting, DoesAtSockets, ReadsPl
 use Rattle.socket_endpoint.specs.declared.endpoint.EndpointOver.{EndpointOver}
 
 module _ {S L C : Type 0} (log : S → SocketLog L C) where
-  pub accept_does : (place : ℕ) (outcome : Accepted) (old new : EndpointOver S L C) → Accepting log place outcome old new → DoesAtSockets log old (accept_event place outcome) new
+  pub accept_does : (place : ℕ) (outcome : Accepted) (old new : EndpointOver S L C)
+      → Accepting log place outcome old new → DoesAtSockets log old (accept_event place outcome) new
   accept_does place accepted.Connection old new it = it
   accept_does place accepted.NoneNow old new it = it
   accept_does place accepted.Later old new it = it
   accept_does place accepted.Failed old new it = it
 
-  pub read_does : (place : ℕ) (buffer : List ℕ) (outcome : Received) (old new : EndpointOver S L C) → ReadsPlace log place buffer outcome old new → DoesAtSockets log old (read_event place buffer outcome) new
-  read_does place buffer (received.Octets count) old new it = record { buffer = buffer; count = count; octets_are = refl; reads = it }
+  pub read_does : (place : ℕ) (buffer : List ℕ) (outcome : Received) (old new : EndpointOver S L C)
+      → ReadsPlace log place buffer outcome old new → DoesAtSockets log old (read_event place buffer
+      outcome) new
+  read_does place buffer (received.Octets count) old new it = record {
+    buffer = buffer;
+    count =
+        count;
+    octets_are = refl;
+    reads = it;
+  }
   read_does place buffer received.NoneNow old new it = record { buffer = buffer; reads = it }
   read_does place buffer received.End old new it = record { buffer = buffer; reads = it }
   read_does place buffer received.Failed old new it = record { buffer = buffer; reads = it }
 
-  pub write_does : (place : ℕ) (offered : List ℕ) (outcome : Sent) (old new : EndpointOver S L C) → WritesPlace log place offered outcome old new → DoesAtSockets log old (write_event place offered outcome) new
+  pub write_does : (place : ℕ) (offered : List ℕ) (outcome : Sent) (old new : EndpointOver S L C)
+      → WritesPlace log place offered outcome old new → DoesAtSockets log old (write_event place
+      offered outcome) new
   write_does place offered (sent.Octets count) old new it = it
   write_does place offered sent.NoneNow old new it = it
   write_does place offered sent.Failed old new it = it

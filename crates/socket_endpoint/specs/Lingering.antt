@@ -9,7 +9,7 @@ use Rattle.std.specs.declared.io.ErrorKind.TheVariants.{Interrupted, WouldBlock}
 use Rattle.socket_endpoint.specs.Lingers.{is_given_up, linger_after, new_linger, octets_left}
 use Rattle.socket_endpoint.specs.LingerSlots.{IsFirstSlot, is_slot_given_up, slot_after}
 use Rattle.socket_endpoint.specs.SocketCalls.{Repeats, SocketCall, SocketLog, logged}
-use Rattle.socket_endpoint.specs.SocketCalls.SocketCall.{EndsSending, Reads}
+use Rattle.socket_endpoint.specs.SocketCalls.SocketCall.{EndsSending, ReadsSocket}
 use Rattle.socket_endpoint.specs.SocketCalls.SocketCall.{WatchesInput}
 use Rattle.socket_endpoint.specs.Subjects.{subject_of}
 use Rattle.socket_endpoint.specs.declared.dropping.Dropped.{Dropped}
@@ -101,7 +101,7 @@ module _ {L C : Type 0} where
     pub whole : length buffer ≡ min most room
     pub some : 0 < length buffer
     pub answer : Result ℕ Error
-    pub made : after ≡ logged (Reads stream buffer answer) before
+    pub made : after ≡ logged (ReadsSocket stream buffer answer) before
     pub meant : IsDropped answer count expected
 
   -- one read from the socket, if octets may be dropped
@@ -222,7 +222,7 @@ module _ {L C : Type 0} where
 
   -- the call reads from one of these sockets, or has its input reported under the token of its slot
   abbrev pub IsDrain : List (Option (Lingerer C)) → SocketCall L C → Type 0
-  IsDrain slots (Reads stream buffer answer) = IsLingering slots stream
+  IsDrain slots (ReadsSocket stream buffer answer) = IsLingering slots stream
   IsDrain slots (WatchesInput stream token answer) = IsLingeringUnder slots token stream
   IsDrain slots _ = ⊥
 

@@ -20,9 +20,9 @@ pub data SocketCall (Listener Stream : Type 0) : Type 0 where
   -- having input of the socket alone reported, under another token
   WatchesInput : Stream → ℕ → Result (Unit {0}) Error → SocketCall Listener Stream
   -- reading from the socket: the buffer afterwards, and how many of its octets were read
-  Reads : Stream → List ℕ → Result ℕ Error → SocketCall Listener Stream
+  ReadsSocket : Stream → List ℕ → Result ℕ Error → SocketCall Listener Stream
   -- writing to the socket: the octets that were offered, and how many of them it took
-  Writes : Stream → List ℕ → Result ℕ Error → SocketCall Listener Stream
+  WritesSocket : Stream → List ℕ → Result ℕ Error → SocketCall Listener Stream
   -- ending the sending side of the socket
   EndsSending : Stream → Result (Unit {0}) Error → SocketCall Listener Stream
 
@@ -43,6 +43,6 @@ logged call (Some calls) = Some (call ∷ calls)
 pub data Repeats {L C : Type 0} (IsSuch : SocketCall L C → Type 0)
     : ℕ → SocketLog L C → SocketLog L C → Type 0 where
   no_call : {log : SocketLog L C} → Repeats IsSuch 0 log log
-  one_more : {count : ℕ} {before middle after : SocketLog L C} (call : SocketCall L C)
+  one_more_call : {count : ℕ} {before middle after : SocketLog L C} (call : SocketCall L C)
       → Repeats IsSuch count before middle → IsSuch call → after ≡ logged call middle
       → Repeats IsSuch (count + 1) before after

@@ -8,7 +8,7 @@ use Rattle.hub_server.specs.declared.outcome.Sent.{Sent}
 use Rattle.hub_server.specs.declared.outcome.Sent.TheVariants as sent
 use Rattle.std.specs.declared.io.ErrorKind.TheVariants.{Interrupted, WouldBlock}
 use Rattle.socket_endpoint.specs.SocketCalls.{Repeats, SocketCall, SocketLog, logged}
-use Rattle.socket_endpoint.specs.SocketCalls.SocketCall.{Reads, Writes}
+use Rattle.socket_endpoint.specs.SocketCalls.SocketCall.{ReadsSocket, WritesSocket}
 
 -- the most tries of a call that is interrupted
 abbrev pub most_tries : ℕ
@@ -17,12 +17,12 @@ most_tries = 1000
 module _ {L C : Type 0} where
   -- a read from the socket, or a write of these octets to it, that was interrupted
   abbrev pub IsInterruptedRead : C → SocketCall L C → Type 0
-  IsInterruptedRead stream (Reads at buffer (Err error)) =
+  IsInterruptedRead stream (ReadsSocket at buffer (Err error)) =
       (at ≡ stream) × (error_kind error ≡ Interrupted)
   IsInterruptedRead stream _ = ⊥
 
   abbrev pub IsInterruptedWrite : C → List ℕ → SocketCall L C → Type 0
-  IsInterruptedWrite stream offered (Writes at octets (Err error)) =
+  IsInterruptedWrite stream offered (WritesSocket at octets (Err error)) =
       (at ≡ stream) × (octets ≡ offered) × (error_kind error ≡ Interrupted)
   IsInterruptedWrite stream offered _ = ⊥
 
@@ -41,13 +41,13 @@ module _ {L C : Type 0} where
   -- system gave: the octets at the front of the buffer.
   abbrev pub EndsReading : C → List ℕ → Received → ℕ → SocketLog L C → SocketLog L C → Type 0
   EndsReading stream buffer (received.Octets count) tries before after =
-      after ≡ logged (Reads stream buffer (Ok count)) before
+      after ≡ logged (ReadsSocket stream buffer (Ok count)) before
   EndsReading stream buffer received.End tries before after =
-      after ≡ logged (Reads stream buffer (Ok 0)) before
+      after ≡ logged (ReadsSocket stream buffer (Ok 0)) before
   EndsReading stream buffer received.NoneNow tries before after =
-      WouldWait (λ error. Reads stream buffer (Err error)) before after
+      WouldWait (λ error. ReadsSocket stream buffer (Err error)) before after
   EndsReading stream buffer received.Failed tries before after =
-      FailsWith (λ error. Reads stream buffer (Err error)) before after
+      FailsWith (λ error. ReadsSocket stream buffer (Err error)) before after
       ⊎ ((tries ≡ most_tries) × (after ≡ before))
 
   -- Interrupted reads from the socket, and then one whose answer is the outcome. There is room for
@@ -63,13 +63,13 @@ module _ {L C : Type 0} where
   -- The last of the writes. What is reported is what the system took: the first of the octets.
   abbrev pub EndsWriting : C → List ℕ → Sent → ℕ → SocketLog L C → SocketLog L C → Type 0
   EndsWriting stream offered (sent.Octets count) tries before after =
-      after ≡ logged (Writes stream offered (Ok count)) before
+      after ≡ logged (WritesSocket stream offered (Ok count)) before
   EndsWriting stream offered sent.NoneNow tries before after =
-      WouldWait (λ error. Writes stream offered (Err error)) before after
+      WouldWait (λ error. WritesSocket stream offered (Err error)) before after
   EndsWriting stream offered sent.Failed tries before after =
-      FailsWith (λ error. Writes stream offered (Err error)) before after
+      FailsWith (λ error. WritesSocket stream offered (Err error)) before after
       ⊎ ((tries ≡ most_tries) × (after ≡ before))
-      ⊎ (after ≡ logged (Writes stream offered (Ok 0)) before)
+      ⊎ (after ≡ logged (WritesSocket stream offered (Ok 0)) before)
 
   -- interrupted writes of these octets to the socket, and then one whose answer is the outcome
   pub record WritesTo (stream : C) (offered : List ℕ) (outcome : Sent)

@@ -5,9 +5,9 @@ ghost use Rattle.mio.specs.Events.{capacity as events_capacity, items};
 ghost use Rattle.socket_endpoint.specs.PollTimes.{nanos_in};
 ghost use Rattle.socket_endpoint.specs.SocketCalls.{SocketCall, SocketLog, logged};
 ghost use Rattle.socket_endpoint.specs.SocketCalls.SocketCall.{Accepts, EndsSending, Polls};
-ghost use Rattle.socket_endpoint.specs.SocketCalls.SocketCall.{Reads, ReadsClock, SendsAtOnce};
-ghost use Rattle.socket_endpoint.specs.SocketCalls.SocketCall.{Watches, WatchesInput};
-ghost use Rattle.socket_endpoint.specs.SocketCalls.SocketCall.{WatchesListener, Writes};
+ghost use Rattle.socket_endpoint.specs.SocketCalls.SocketCall.{ReadsClock, ReadsSocket};
+ghost use Rattle.socket_endpoint.specs.SocketCalls.SocketCall.{SendsAtOnce, Watches, WatchesInput};
+ghost use Rattle.socket_endpoint.specs.SocketCalls.SocketCall.{WatchesListener, WritesSocket};
 
 use mio::{Events, Token};
 use std::alloc::Global;
@@ -64,13 +64,13 @@ pub trait Sockets<L, C> {
     /// Reads octets from the socket.
     fn read(&mut self, stream: &C, buffer: &mut [u8]) -> io::Result<usize>
         ensures bound { ReadsAtMost result buffer.new }
-        ensures logged { log self.new ≡ logged (Reads stream.now buffer.new result)
+        ensures logged { log self.new ≡ logged (ReadsSocket stream.now buffer.new result)
             (log self.old) };
 
     /// Writes octets to the socket.
     fn write(&mut self, stream: &C, octets: &[u8]) -> io::Result<usize>
         ensures bound { WritesAtMost result octets.now }
-        ensures logged { log self.new ≡ logged (Writes stream.now octets.now result)
+        ensures logged { log self.new ≡ logged (WritesSocket stream.now octets.now result)
             (log self.old) };
 
     /// Ends the sending side of the socket.

@@ -1,4 +1,4 @@
-use Rattle.cli_host.proofs.CallLemmas.{export_stopped, resync_stopped}
+use Rattle.cli_host.proofs.StoreCallLemmas.{export_stopped, resync_stopped}
 use Rattle.cli_host.proofs.running.do_store_work.Goals as goal
 
 pub returns-in-Resync-clause-stopped : goal.returns-in-Resync-clause-stopped

@@ -1,5 +1,5 @@
 use Rattle.std.proofs.lemmas.Result.{err_from_is_err_and}
-use Rattle.cli_host.proofs.CallLemmas.{rows_file_imported, rows_file_unimported, rows_unread}
+use Rattle.cli_host.proofs.StoreCallLemmas.{rows_file_imported, rows_file_unimported, rows_unread}
 use Rattle.cli_host.proofs.running.import_rows.Goals as goal
 
 pub returns-in_err-body-clause-stopped : goal.returns-in_err-body-clause-stopped

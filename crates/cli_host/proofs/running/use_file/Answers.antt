@@ -2,7 +2,8 @@ use Rattle.std.proofs.Common.{false, rules, Ok, Err}
 use Rattle.std.proofs.lemmas.Result.{err_from_is_err_and}
 use Rattle.cli_host.specs.Hosts.{Opens}
 use Rattle.cli_host.specs.OrdersOnHost.{DoesStoreWork}
-use Rattle.cli_host.proofs.CallLemmas.{file_stopped, file_unopened, store_opened_at}
+use Rattle.cli_host.proofs.CallLemmas.{store_opened_at}
+use Rattle.cli_host.proofs.StoreCallLemmas.{file_stopped, file_unopened}
 use Rattle.cli_host.proofs.CallLemmas.{store_used_well}
 use Rattle.cli_host.proofs.running.use_file.Goals as goal
 

@@ -5,8 +5,8 @@ use Rattle.cli_host.specs.Hosts.{LogsCalls}
 use Rattle.cli_host.specs.OrdersOnHost.{GetsStore}
 use Rattle.http_fronts.specs.Fronts.{with_front}
 use Rattle.http_requests.specs.GuardedHandlers.{guarded}
-use Rattle.cli_host.proofs.CallLemmas.{store_missing, store_served, store_unserved}
-use Rattle.cli_host.proofs.CallLemmas.{store_without_memory}
+use Rattle.cli_host.proofs.StoreCallLemmas.{store_missing, store_served, store_unserved}
+use Rattle.cli_host.proofs.StoreCallLemmas.{store_without_memory}
 use Rattle.cli_host.proofs.serving.run_guarded.Goals as goal
 
 pub returns-in_err-store-clause-stopped : goal.returns-in_err-store-clause-stopped

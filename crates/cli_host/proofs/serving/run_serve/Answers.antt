@@ -1,4 +1,4 @@
-use Rattle.std.proofs.Common.{◌∙◌, false, Ok, Err, IfErr, OnOk, rules, subst}
+use Rattle.std.proofs.Common.{false, Ok, Err, IfErr, OnOk, rules, subst}
 use Rattle.std.proofs.lemmas.Result.{err_from_is_err_and}
 use Rattle.cli_host.specs.Hosts.{Closes, LogsCalls, Opens}
 use Rattle.cli_host.specs.OrdersInTurn.{ServesAtPort, StopsAtPort}

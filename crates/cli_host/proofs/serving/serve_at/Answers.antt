@@ -2,7 +2,7 @@ use Rattle.std.proofs.Common.{IfErr, OnOk, subst}
 use Rattle.std.proofs.lemmas.Result.{err_from_is_err_and}
 use Rattle.cli_host.specs.Hosts.{Finishes}
 use Rattle.cli_orders.specs.Announcements.{AnnouncesAndServes, StopsServing}
-use Rattle.cli_host.proofs.CallLemmas.{at_served, at_stopped, at_unbound}
+use Rattle.cli_host.proofs.StoreCallLemmas.{at_served, at_stopped, at_unbound}
 use Rattle.cli_host.proofs.serving.serve_at.Goals as goal
 
 pub returns-in_err-endpoint-clause-stopped : goal.returns-in_err-endpoint-clause-stopped

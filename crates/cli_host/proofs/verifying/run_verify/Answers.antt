@@ -3,9 +3,10 @@ use Rattle.cli_host.specs.Hosts.{FindsFault, Opens}
 use Rattle.cli_host.specs.OrdersOnHost.{DoesStoreWork}
 use Rattle.cli_host.specs.declared.listing.Listing.TheVariants.{Verified}
 use Rattle.cli_host.specs.declared.work.StoreWork.TheVariants.{ListBooks}
-use Rattle.cli_host.proofs.CallLemmas.{damage_reported, listing_done, listing_stopped}
-use Rattle.cli_host.proofs.CallLemmas.{store_opened_at, store_used_well, verify_stopped}
-use Rattle.cli_host.proofs.CallLemmas.{verify_unopened}
+use Rattle.cli_host.proofs.StoreCallLemmas.{damage_reported, listing_done, listing_stopped}
+use Rattle.cli_host.proofs.CallLemmas.{store_opened_at, store_used_well}
+use Rattle.cli_host.proofs.StoreCallLemmas.{verify_stopped}
+use Rattle.cli_host.proofs.StoreCallLemmas.{verify_unopened}
 use Rattle.store_schema.specs.declared.open_fault.OpenFault.TheVariants.{Damaged}
 use Rattle.cli_host.proofs.verifying.run_verify.Goals as goal
 

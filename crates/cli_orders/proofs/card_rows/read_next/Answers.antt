@@ -1,5 +1,5 @@
 use Rattle.csv.specs.Records.{fields_of}
-use Rattle.cli_orders.proofs.RowReaderLemmas.{none_left, one_more_read}
+use Rattle.csv_cards.proofs.ReaderLemmas.{none_left, one_more_read}
 use Rattle.cli_orders.proofs.card_rows.read_next.Goals as goal
 
 pub returns-clause-more : goal.returns-clause-more

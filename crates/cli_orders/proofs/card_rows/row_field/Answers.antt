@@ -1,5 +1,5 @@
 use Rattle.csv.specs.Records.{fields_of}
-use Rattle.cli_orders.proofs.RowReaderLemmas.{field-none, field-some}
+use Rattle.csv_cards.proofs.RecordLemmas.{field-none, field-some}
 use Rattle.cli_orders.proofs.card_rows.row_field.Goals as goal
 
 pub returns-in-Some : goal.returns-in-Some

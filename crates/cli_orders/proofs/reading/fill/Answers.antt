@@ -1,6 +1,6 @@
 use Rattle.std.proofs.Common.{◌≡◌, ◌-◌, ◌∙◌, length, ap}
 use Rattle.std.proofs.lemmas.List.{length-drop}
-use Rattle.cli_orders.proofs.OctetLemmas.{read_more, read_none, rest_is}
+use Rattle.import_text.proofs.FillLemmas.{read_more, read_none, rest_is}
 use Rattle.cli_orders.proofs.reading.fill.Goals as goal
 use Rattle.cli_orders.proofs.reading.fill.Goals.{in-Ok, in-Err}
 

@@ -4,4 +4,5 @@ use Rattle.socket_endpoint.proofs.lingerers.give_up.Given as goal
 
 -- the slots that were looked at, and then the others
 abbrev pub invariant-loop-slot : goal.invariant-loop-slot
-invariant-loop-slot g l = l.slots ≡ map (slot_after l.now) (take l.slot l.fn.slots) ++ drop l.slot l.fn.slots
+invariant-loop-slot g l = l.slots ≡ map (slot_after l.now) (take l.slot l.fn.slots) ++ drop l.slot
+    l.fn.slots

@@ -12,6 +12,9 @@ use Rattle.socket_endpoint.proofs.lingerers.look_at_reported.Given as goal
 abbrev pub invariant-loop-event : goal.invariant-loop-event
 invariant-loop-event g l =
     DrainsSlots l.fn.slots l.slots (g.S.Sockets.log l.fn.system) (g.S.Sockets.log l.system)
-    × ((new : List (Option (Lingerer g.row.C.Denot))) (after : SocketLog g.row.L.Denot g.row.C.Denot)
-    → LooksAtEach (length l.fn.room) l.now (map event_subject (iter_rest l.event-iterator)) l.slots new (g.S.Sockets.log l.system) after
-    → LooksAtEach (length l.fn.room) l.now (map event_subject (items l.events)) l.fn.slots new (g.S.Sockets.log l.fn.system) after)
+    × ((new : List (Option (Lingerer g.row.C.Denot))) (after : SocketLog g.row.L.Denot
+    g.row.C.Denot)
+    → LooksAtEach (length l.fn.room) l.now (map event_subject (iter_rest l.event-iterator)) l.slots
+    new (g.S.Sockets.log l.system) after
+    → LooksAtEach (length l.fn.room) l.now (map event_subject (items l.events)) l.fn.slots new
+    (g.S.Sockets.log l.fn.system) after)

@@ -7,5 +7,6 @@ use Rattle.socket_endpoint.proofs.lingerers.next_slot.Given as goal
 abbrev pub invariant-loop-slot : goal.invariant-loop-slot
 invariant-loop-slot g l =
     (0 < length l.slots → l.best < length l.slots)
-    × ((other : ℕ) → (slot chosen : Option (Lingerer g.row.C.Denot)) → other < l.slot → slice_get l.slots other ≡ Some slot → slice_get l.slots l.best ≡ Some chosen
+    × ((other : ℕ) → (slot chosen : Option (Lingerer g.row.C.Denot)) → other < l.slot
+    → slice_get l.slots other ≡ Some slot → slice_get l.slots l.best ≡ Some chosen
     → slot_rank chosen ≤ slot_rank slot)

@@ -8,11 +8,13 @@ returns-then-place-len-clause-taken g c = λ taken. inr (omega arith)
 pub returns-clause-free : goal.returns-clause-free
 returns-clause-free g c = λ is.
     let there : c.args.place < length c.args.self.now.places.items = omega arith in
-    let found = get_or_read c.args.self.now.places.items c.args.place c.index.result.now there c.index.ensures None in
+    let found = get_or_read c.args.self.now.places.items c.args.place c.index.result.now there
+    c.index.ensures None in
     (there, ap is_some (sym found) ∙ c.is_none.ensures ∙ ap not is)
 
 pub returns-clause-taken : goal.returns-clause-taken
 returns-clause-taken g c = λ is.
     let there : c.args.place < length c.args.self.now.places.items = omega arith in
-    let found = get_or_read c.args.self.now.places.items c.args.place c.index.result.now there c.index.ensures None in
+    let found = get_or_read c.args.self.now.places.items c.args.place c.index.result.now there
+    c.index.ensures None in
     inl (ap is_some (sym found) ∙ c.is_none.ensures ∙ ap not is)

@@ -16,15 +16,34 @@ returns-clause-drains g c =
     let len = c.args.self.now.slots.len in
     let looked = c.look_at_reported.new.slots in
     let given = c.give_up.new.slots in
-    let long : length looked ≡ length old = omega (arith, c.look_at_reported.auto.slots, ap length c.deref_mut.ensures.value) in
+    let long : length looked ≡ length old = omega (
+      arith,
+      c.look_at_reported.auto.slots,
+      ap length
+          c.deref_mut.ensures.value,
+    ) in
     let first = written_back old looked len c.args.self.now.slots.ok.0 long in
     let middle = take len (looked ++ drop (length looked) old) in
-    let given_is = c.give_up.ensures ∙ ap (map (slot_after c.args.now)) (c.deref_mut-3.ensures.value ∙ first) in
-    let again : length given ≡ length middle = omega (arith, c.give_up.auto.slots, ap length c.deref_mut-3.ensures.value) in
-    let whole : len ≡ length middle = omega (arith, c.args.self.now.slots.ok.0, long, ap length first) in
+    let given_is = c.give_up.ensures ∙ ap (map (slot_after c.args.now)) (c.deref_mut-3.ensures.value
+    ∙ first) in
+    let again : length given ≡ length middle = omega (
+      arith,
+      c.give_up.auto.slots,
+      ap length
+          c.deref_mut-3.ensures.value,
+    ) in
+    let whole : len ≡ length middle = omega (
+      arith,
+      c.args.self.now.slots.ok.0,
+      long,
+      ap length
+          first,
+    ) in
     let written = written_back middle given len whole again in
-    let drains = subst (λ s. DrainsSlots s looked before after) c.deref_mut.ensures.value c.look_at_reported.ensures.drains in
-    subst (λ s. DrainsSlots old s before after) (sym written) (given_up_leave c.args.now old looked given before after given_is drains)
+    let drains = subst (λ s. DrainsSlots s looked before after) c.deref_mut.ensures.value
+    c.look_at_reported.ensures.drains in
+    subst (λ s. DrainsSlots old s before after) (sym written) (given_up_leave c.args.now old looked
+    given before after given_is drains)
 
 pub returns-clause-given_up : goal.returns-clause-given_up
 returns-clause-given_up g c =
@@ -32,14 +51,32 @@ returns-clause-given_up g c =
     let len = c.args.self.now.slots.len in
     let looked = c.look_at_reported.new.slots in
     let given = c.give_up.new.slots in
-    let long : length looked ≡ length old = omega (arith, c.look_at_reported.auto.slots, ap length c.deref_mut.ensures.value) in
+    let long : length looked ≡ length old = omega (
+      arith,
+      c.look_at_reported.auto.slots,
+      ap length
+          c.deref_mut.ensures.value,
+    ) in
     let first = written_back old looked len c.args.self.now.slots.ok.0 long in
     let middle = take len (looked ++ drop (length looked) old) in
-    let given_is = c.give_up.ensures ∙ ap (map (slot_after c.args.now)) (c.deref_mut-3.ensures.value ∙ first) in
-    let again : length given ≡ length middle = omega (arith, c.give_up.auto.slots, ap length c.deref_mut-3.ensures.value) in
-    let whole : len ≡ length middle = omega (arith, c.args.self.now.slots.ok.0, long, ap length first) in
+    let given_is = c.give_up.ensures ∙ ap (map (slot_after c.args.now)) (c.deref_mut-3.ensures.value
+    ∙ first) in
+    let again : length given ≡ length middle = omega (
+      arith,
+      c.give_up.auto.slots,
+      ap length
+          c.deref_mut-3.ensures.value,
+    ) in
+    let whole : len ≡ length middle = omega (
+      arith,
+      c.args.self.now.slots.ok.0,
+      long,
+      ap length
+          first,
+    ) in
     let written = written_back middle given len whole again in
-    subst (λ s. NoneIsOver c.args.now s) (sym written) (given_up_none c.args.now looked given given_is)
+    subst (λ s. NoneIsOver c.args.now s) (sym written) (given_up_none c.args.now looked given
+    given_is)
 
 pub returns-clause-serves : goal.returns-clause-serves
 returns-clause-serves g c =
@@ -51,13 +88,33 @@ returns-clause-serves g c =
     let len = c.args.self.now.slots.len in
     let looked = c.look_at_reported.new.slots in
     let given = c.give_up.new.slots in
-    let long : length looked ≡ length old = omega (arith, c.look_at_reported.auto.slots, ap length c.deref_mut.ensures.value) in
+    let long : length looked ≡ length old = omega (
+      arith,
+      c.look_at_reported.auto.slots,
+      ap length
+          c.deref_mut.ensures.value,
+    ) in
     let first = written_back old looked len c.args.self.now.slots.ok.0 long in
     let middle = take len (looked ++ drop (length looked) old) in
-    let given_is = c.give_up.ensures ∙ ap (map (slot_after c.args.now)) (c.deref_mut-3.ensures.value ∙ first) in
-    let again : length given ≡ length middle = omega (arith, c.give_up.auto.slots, ap length c.deref_mut-3.ensures.value) in
-    let whole : len ≡ length middle = omega (arith, c.args.self.now.slots.ok.0, long, ap length first) in
+    let given_is = c.give_up.ensures ∙ ap (map (slot_after c.args.now)) (c.deref_mut-3.ensures.value
+    ∙ first) in
+    let again : length given ≡ length middle = omega (
+      arith,
+      c.give_up.auto.slots,
+      ap length
+          c.deref_mut-3.ensures.value,
+    ) in
+    let whole : len ≡ length middle = omega (
+      arith,
+      c.args.self.now.slots.ok.0,
+      long,
+      ap length
+          first,
+    ) in
     let written = written_back middle given len whole again in
-    let by_room = subst (λ n. LooksAtEach n c.args.now subjects c.deref_mut.result.now looked before after) (ap length c.deref_mut-2.ensures.value ∙ c.args.self.now.whole) c.look_at_reported.ensures.looks in
-    let looks = subst (λ s. LooksAtEach room_octets c.args.now subjects s looked before after) c.deref_mut.ensures.value by_room in
+    let by_room = subst (λ n. LooksAtEach n c.args.now subjects c.deref_mut.result.now looked before
+    after) (ap length c.deref_mut-2.ensures.value ∙ c.args.self.now.whole)
+    c.look_at_reported.ensures.looks in
+    let looks = subst (λ s. LooksAtEach room_octets c.args.now subjects s looked before after)
+    c.deref_mut.ensures.value by_room in
     record { looked = looked; looks = looks; gives_up = written ∙ given_is }
