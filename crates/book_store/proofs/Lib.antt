@@ -14,3 +14,6 @@ pub mod CopyLemmas
 pub mod RestartLemmas
 pub mod PathLemmas
 pub mod LegalLemmas
+pub mod BeginningLemmas
+pub mod UnbegunLemmas
+pub mod OrderLemmas

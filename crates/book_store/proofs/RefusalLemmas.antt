@@ -36,6 +36,7 @@ use Rattle.store_check.specs.OpenResults.{max_limits}
 use Rattle.book_store.specs.FileRefusals.{IsCreationFaultAfter, IsCreationRefusalAfter}
 use Rattle.book_store.specs.FileRefusals.{IsFileCreationFault, IsOpenFaultAfter, IsOpenRefusalAfter}
 use Rattle.book_store.specs.OpenOutcomes.{IsCreationRefusal, IsOpenRefusal}
+use Rattle.book_store.proofs.UnbegunLemmas.{begun_files, begun_store, unbegun_schema}
 
 -- ---- a connection was opened over the files
 
@@ -91,8 +92,11 @@ module _ {D : Type 0} {g : Ghosts D} (image : Image) (conn refused : Held (FileS
   created_fault (OtherSchema has) h is_clean = absurd h
   created_fault Damaged h is_clean = absurd h
   created_fault NotEmpty h is_clean =
-      shown (λ db. ¬ (db.schema ≡ empty_schema)) (subst (λ c. HasCleanDisk (file_state c)) h.1
-      (still_clean refused last quiet is_clean)) h.0
+      let clean = subst (λ c. HasCleanDisk (file_state c)) h.1
+      (still_clean refused last quiet is_clean) in (
+        λ unbegun. h.0 (unbegun_schema image (file_state conn) (found clean) (opened clean) unbegun),
+        shown (λ db. ¬ (db.schema ≡ empty_schema)) clean h.0,
+      )
   created_fault Memory h is_clean = tt
 
 -- ---- the kinds of faults
@@ -131,7 +135,8 @@ no_database_left files error code rest is code_is h =
 pub unopened_creation : {D : Type 0} {g : Ghosts D} (files : Files D) (rest : Leftover D g)
     → HasNoStore rest → IsLeftOf files (SqliteFailure NotADatabase) rest
     → IsFileCreationFault (image_of g files) rest NotOurs
-unopened_creation files rest none is clean = inl (unopened_files files rest none is clean)
+unopened_creation files rest none is clean =
+    (begun_files files rest is clean, inl (unopened_files files rest none is clean))
 
 -- a store was opened over them, and its schema was loaded
 module _ {D : Type 0} {g : Ghosts D} (files : Files D) (old new : FileStore D g) (quiet :
@@ -141,27 +146,36 @@ module _ {D : Type 0} {g : Ghosts D} (files : Files D) (old new : FileStore D g)
       → (IsClean (view new) → LoadsSchema (recovers old) (view new).trees (Ok schema))
       → schema ≡ empty_schema → IsFileCreationFault (image_of g files) (leftover.Store new) NotOurs
   empty_creation schema loads empty is_clean =
-      let clean : IsClean (view new) = no_doubt (view new).is_clean is_clean in
-      inr (inr (listed_as files old new quiet is schema (view new).trees
-      (λ db. (db.schema ≡ empty_schema) × ¬ HoldsDatabase (image_of g files) db.trees) clean
-      (loads clean) (empty, holds_none files old new quiet is clean (view new).trees)))
+      let clean : IsClean (view new) = no_doubt (view new).is_clean is_clean in (
+        begun_store files old new quiet is is_clean,
+        inr (inr (listed_as files old new quiet is schema
+            (view new).trees (λ db. (db.schema ≡ empty_schema)
+            × ¬ HoldsDatabase (image_of g files) db.trees) clean (loads clean) (
+              empty,
+              holds_none files old new quiet is clean (view new).trees,
+            ))),
+      )
 
   pub full_creation : (schema : Schema)
       → (IsClean (view new) → LoadsSchema (recovers old) (view new).trees (Ok schema))
       → ¬ (schema ≡ empty_schema) → IsFileCreationFault (image_of g files) (leftover.Store new)
       NotEmpty
   full_creation schema loads full is_clean =
-      let clean : IsClean (view new) = no_doubt (view new).is_clean is_clean in
-      listed_as files old new quiet is schema (view new).trees (λ db. ¬ (db.schema ≡ empty_schema))
-      clean (loads clean) full
+      let clean : IsClean (view new) = no_doubt (view new).is_clean is_clean in (
+        begun_store files old new quiet is is_clean,
+        listed_as files old new quiet is schema
+            (view new).trees (λ db. ¬ (db.schema ≡ empty_schema)) clean (loads clean) full,
+      )
 
   pub load_creation : (fault : OpenFault) → IsCreationFault fault
       → (IsClean (view new) → LoadsSchema (recovers old) (view new).trees (Err fault))
       → IsFileCreationFault (image_of g files) (leftover.Store new) fault
   load_creation Store kind loads is_clean = tt
   load_creation NotOurs kind loads is_clean =
-      let clean : IsClean (view new) = no_doubt (view new).is_clean is_clean in
-      inr (inl (listed_none files old new quiet is clean (loads clean)))
+      let clean : IsClean (view new) = no_doubt (view new).is_clean is_clean in (
+        begun_store files old new quiet is is_clean,
+        inr (inl (listed_none files old new quiet is clean (loads clean))),
+      )
   load_creation (OtherSchema has) kind loads is_clean = absurd kind
   load_creation Damaged kind loads is_clean = absurd kind
   load_creation NotEmpty kind loads is_clean =

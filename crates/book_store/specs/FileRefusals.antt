@@ -4,8 +4,9 @@ use Rattle.sqlite.specs.declared.error.Error.{Error}
 use Rattle.sqlite.specs.declared.error.Error.TheVariants.{SqliteFailure}
 use Rattle.sqlite.specs.declared.error.ErrorCode.TheVariants.{NotADatabase}
 use Rattle.sqlite.specs.declared.file.Leftover.{Leftover}
-use Rattle.sqlite.specs.Files.{HoldsDatabase, IsCleanLeft, image_of}
+use Rattle.sqlite.specs.Files.{HoldsDatabase, IsCleanLeft, IsEmpty, IsNothing, image_of}
 use Rattle.sqlite.specs.Recovery.{Image}
+use Rattle.sqlite.specs.Tree.{Trees}
 use Rattle.sqlite_disk.specs.declared.Disk.{Ghosts}
 use Rattle.sqlite_disk.specs.declared.Files.{Files}
 use Rattle.store_tables.specs.SchemaCreation.{empty_schema}
@@ -26,20 +27,26 @@ IsUnlessNoDatabase error Then = ¬ (error ≡ SqliteFailure NotADatabase) → Th
 
 -- ---- new stores
 
+-- The files are empty or half made, or they hold a database without tables: so a creation leaves
+-- them that was stopped before its tables were committed.
+abbrev pub IsUnbegun : Image → Type 0
+IsUnbegun image = IsNothing image ⊎ ((db : Trees) × HoldsDatabase image db × IsEmpty db)
+
 module _ {D : Type 0} {g : Ghosts D} (image : Image) (left : Leftover D g) where
   -- The fault of creating a store is right for files with these bytes, of which this is left: they
-  -- hold tables, or they hold no database. Files whose rows break the declarations of their tables
-  -- hold no database either, but they hold tables. An error of the database is possible in every
-  -- case.
+  -- hold tables, or they hold no database and something else. Files whose rows break the
+  -- declarations of their tables hold no database either, but they hold tables. An error of the
+  -- database is possible in every case.
   abbrev pub IsRightCreationFault : OpenFault → Type 0
   IsRightCreationFault Store = ⊤
-  IsRightCreationFault NotOurs =
-      (HasNoStore left × HoldsNoDatabase image)
+  IsRightCreationFault NotOurs = (¬ IsUnbegun image)
+      × ((HasNoStore left × HoldsNoDatabase image)
       ⊎ (FileHasNoSchema image
-      ⊎ FileHas image (λ db. (db.schema ≡ empty_schema) × ¬ HoldsDatabase image db.trees))
+      ⊎ FileHas image (λ db. (db.schema ≡ empty_schema) × ¬ HoldsDatabase image db.trees)))
   IsRightCreationFault (OtherSchema has) = ⊥
   IsRightCreationFault Damaged = ⊥
-  IsRightCreationFault NotEmpty = FileHas image (λ db. ¬ (db.schema ≡ empty_schema))
+  IsRightCreationFault NotEmpty = (¬ IsUnbegun image)
+      × FileHas image (λ db. ¬ (db.schema ≡ empty_schema))
   IsRightCreationFault Memory = ⊤
 
   -- the same, if the disk has returned what was written

@@ -12,6 +12,7 @@ ghost use Rattle.book_model.specs.Books.{Books};
 ghost use Rattle.book_model.specs.Bounds.{Bounds};
 ghost use Rattle.book_resync.specs.ResyncLaws.{HasLegalCards};
 ghost use Rattle.book_store.specs.Crashes.{StoresSurviveCrashes};
+ghost use Rattle.book_store.specs.OpenOutcomes.{AreNewStoreTrees};
 ghost use Rattle.book_store.specs.Restarts.{HoldsStore};
 ghost use Rattle.book_store.specs.StoreViews.{StoredTrees};
 ghost use Rattle.sqlite.specs.Effect.{Database};
@@ -21,9 +22,14 @@ ghost use Rattle.sqlite.specs.Tree.{Trees};
 ghost use Rattle.store_check.specs.OpenResults.{max_limits};
 ghost use Rattle.store_lookups.specs.ChangeFaults.{AcceptChanges};
 ghost use Rattle.store_lookups.specs.StoreFaults.{AreFaultless};
+ghost use Rattle.store_migration.specs.Migration.{CommitsMigration};
 ghost use Rattle.store_rows.specs.SoundTables.{AreWellFormed, HoldsWellFormed};
 ghost use Rattle.store_rows.specs.TableBooks.{books_in};
 ghost use Rattle.store_rows.specs.TableRows.{TableRows};
+ghost use Rattle.store_tables.specs.Tables.{book_schema};
+ghost use Rattle.sqlite_trees.specs.Tree.{IsTable};
+ghost use Rattle.std.specs.FinMap as finite;
+ghost use Rattle.std.specs.List.{AllByRecursion};
 ghost use Rattle.std.specs.Prelude.{◌<◌, ◌*◌, ◌^◌};
 
 use sqlite::Alter;
@@ -62,6 +68,26 @@ pub fn stores_survive_crashes<S: Alter>()
 pub fn left_stores_open()
     ensures { (image : Image) (trees : Trees) → HoldsDatabase image trees
         → (stored : StoredTrees trees) → HoldsStore image stored.books }
+{}
+
+/// The rows of each table of a file that holds a store are in the order of their ids, and no two of
+/// a table have one id. So the id that the engine chooses for a new row, one above the last, is new.
+pub fn stored_rows_are_in_order()
+    ensures { (image : Image) (books : Books) → (stored : HoldsStore image books)
+        → AllByRecursion (λ t. IsTable (stored.trees t.tree)) book_schema.tables }
+{}
+
+/// A life begins with a creation or with a migration.
+/// - `created`: files with tables that were just created hold a store without books. That is what a
+///   crash leaves of a creation, unless it leaves what it could leave before.
+/// - `migrated`: files with the tables of a migration hold a store, with the books of these tables.
+///   That is what a crash leaves of a migration, unless it leaves what it could leave before.
+pub fn beginnings_open()
+    ensures created { (image : Image) (trees : Trees) → HoldsDatabase image trees
+        → AreNewStoreTrees trees → HoldsStore image finite.empty }
+    ensures migrated { (image : Image) (first : Database) (trees : Trees)
+        → HoldsDatabase image trees → CommitsMigration max_limits first trees
+        → HoldsStore image (books_in trees) }
 {}
 
 /// A text can spell each live card of a file that holds a store, whoever wrote it, as the life of a

@@ -24,5 +24,6 @@ mod sql_store;
 pub use copy_fault::CopyFault;
 pub use faulty::FileSearch;
 pub use files::{FileBooks, FileBooksFrom};
+pub use restarting::open_left;
 pub use sql_store::SqlStore;
 pub use store_schema::OpenFault;

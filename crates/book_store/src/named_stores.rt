@@ -8,12 +8,13 @@ ghost use Rattle.book_store.specs.Restarts.{HasPathCause, HoldsStore, declared_o
 ghost use Rattle.named_files.specs.FileOpenings.{OpensFilled, OpensFound, OpensOrCreates};
 ghost use Rattle.sqlite.specs.Files.{file_state};
 ghost use Rattle.sqlite.specs.Start.{FindsIn};
+ghost use Rattle.sqlite.specs.State.{HasCleanDisk};
 ghost use Rattle.store_check.specs.OpenResults.{max_limits};
 ghost use Rattle.store_lookups.specs.StoredBooks.{IsOpenOnHonestDisk, stored_books};
 ghost use Rattle.store_rows.specs.SoundTables.{HoldsWellFormed};
 ghost use Rattle.store_schema.specs.OpenFaults.{IsCreationFault};
 ghost use Rattle.std.specs.FinMap as finite;
-ghost use Rattle.std.specs.Prelude.{◌≡◌, IfErr, IfOk, true};
+ghost use Rattle.std.specs.Prelude.{◌≡◌, IfErr, IfOk, IsTrue, true};
 
 use crate::files::{FileBooksFrom, creation_refusal, open_refusal};
 use crate::sql_store::SqlStore;
@@ -49,6 +50,8 @@ impl<S: Start> SqlStore<FileStore<FileFrom<S>>> {
             (F.image files.old path.now) store.conn) }
         ensures books { IfOk result (λ store. IsOpenOnHonestDisk (file_state store.conn)
             → stored_books (file_state store.conn) ≡ finite.empty) }
+        ensures opened { IfOk result (λ store. HasCleanDisk (file_state store.conn)
+            → IsTrue (file_state store.conn).is_open) }
         ensures limits { IfOk result (λ store. store.limits ≡ limits) }
         ensures fault { IfErr result (λ refused. IsCreationFault refused.0) }
 
@@ -88,6 +91,8 @@ impl<S: Start> SqlStore<FileStore<FileFrom<S>>> {
         ensures opens { (books : Books) → HoldsStore (F.image files.old path.now) books
             → IfOk result (λ store. IsOpenOnHonestDisk (file_state store.conn)
             → stored_books (file_state store.conn) ≡ books) }
+        ensures opened { IfOk result (λ store. HasCleanDisk (file_state store.conn)
+            → IsTrue (file_state store.conn).is_open) }
         ensures well_formed { IfOk result (λ store. IsOpenOnHonestDisk (file_state store.conn)
             → HoldsWellFormed max_limits (file_state store.conn).now) }
         ensures limits { IfOk result (λ store. store.limits ≡ limits) }
@@ -124,6 +129,8 @@ impl<S: Start> SqlStore<FileStore<FileFrom<S>>> {
         ensures opens { (books : Books) → HoldsStore (F.image files.old path.now) books
             → IfOk result (λ store. IsOpenOnHonestDisk (file_state store.conn)
             → stored_books (file_state store.conn) ≡ books) }
+        ensures opened { IfOk result (λ store. HasCleanDisk (file_state store.conn)
+            → IsTrue (file_state store.conn).is_open) }
         ensures well_formed { IfOk result (λ store. IsOpenOnHonestDisk (file_state store.conn)
             → HoldsWellFormed max_limits (file_state store.conn).now) }
         ensures limits { IfOk result (λ store. store.limits ≡ limits) }

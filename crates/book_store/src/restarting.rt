@@ -1,9 +1,10 @@
 //! The end of a run of a store in files, and the opening by the next run.
 ghost use Rattle.book_model.specs.Books.{Books};
-ghost use Rattle.book_store.specs.Restarts.{HasCrashCause, HasRestartCause, HoldsStore, LeftStore};
-ghost use Rattle.book_store.specs.Restarts.{declared_over};
+ghost use Rattle.book_store.specs.Restarts.{FailsAgain, HasCrashCause, HasRestartCause, HoldsStore};
+ghost use Rattle.book_store.specs.Restarts.{LeaveStores, LeftStore, OpensLeft, declared_over};
 ghost use Rattle.book_store.specs.StoreViews.{LeftTrees, table_model};
-ghost use Rattle.named_files.specs.Restarts.{LeaveOneOf};
+ghost use Rattle.named_files.specs.Leftovers.{LeavesTheSame};
+ghost use Rattle.named_files.specs.Restarts.{LeaveSealedOneOf};
 ghost use Rattle.sqlite.specs.Files.{IsCleanLeft, LeavesFiles, file_state, image_of, over_files};
 ghost use Rattle.sqlite.specs.State.{HasCleanDisk};
 ghost use Rattle.sqlite.specs.WalReads.{AreClean};
@@ -13,7 +14,7 @@ ghost use Rattle.store_writes.specs.TableChanges.{TreesHold};
 ghost use Rattle.sync_core.specs.StoreCrashes.{IsSettled, RestartsFrom};
 ghost use Rattle.std.specs.Prelude.{◌≡◌, IfErr, IfOk, IsTrue};
 
-use crate::laws::{left_stores_open, stores_survive_crashes};
+use crate::laws::stores_survive_crashes;
 use crate::sql_store::SqlStore;
 use book_model::Limits;
 use named_files as runs;
@@ -28,9 +29,9 @@ impl<D: Disk + Drop> SqlStore<FileStore<D>> {
     /// what was written. That is so also if the connection was closed. If it was open, the books
     /// are those of the store.
     pub fn into_files(self) -> Files<D>
-        ensures leaves { LeaveOneOf D.Disk result (LeftTrees (file_state self.conn)) }
-        ensures books { IsOpenOnHonestDisk (file_state self.conn) → LeaveOneOf D.Disk result
-            (TreesHold (stored_books (file_state self.conn))) }
+        ensures leaves { LeaveSealedOneOf D.Disk result (LeftTrees (file_state self.conn)) }
+        ensures books { IsOpenOnHonestDisk (file_state self.conn)
+            → LeaveSealedOneOf D.Disk result (TreesHold (stored_books (file_state self.conn))) }
         ensures clean { AreClean D.Disk result.log result.db → HasCleanDisk (file_state self.conn) }
     {
         stores_survive_crashes::<FileStore<D>>();
@@ -67,6 +68,7 @@ impl<D: Disk + Drop> SqlStore<FileStore<D>> {
         // A refusal harms nothing: what is left of the files stands for what they stood for.
         ensures unharmed { IfErr result (λ refused. IsCleanLeft refused.1
             → LeavesFiles files refused.1) }
+        ensures leaves { IfErr result (λ refused. LeavesTheSame files refused.1) }
     {
         match runs::open_again(alloc, files, options) {
             Ok(connection) => match SqlStore::try_adopt(alloc, connection, limits) {
@@ -84,10 +86,10 @@ impl<D: Crash + Drop> SqlStore<FileStore<D>> {
     pub fn crash(self) -> Files<D>
         ensures leaves { AreClean D.Disk result.log result.db
             → ∥ LeftStore (file_state self.conn) (image_of D.Disk result) ∥₁ }
+        ensures again { LeaveStores D.Disk (file_state self.conn) result }
         ensures log { IsTrue (D.Disk.is_usable result.log) }
         ensures db { IsTrue (D.Disk.is_usable result.db) }
     {
-        left_stores_open();
         runs::crash_files(self.into_files())
     }
 
@@ -110,6 +112,27 @@ impl<D: Crash + Drop> SqlStore<FileStore<D>> {
         store.assert_settled();
         Ok(store)
     }
+}
+
+/// Opens a store from what an opening that failed left of its files, after one more crash. It has
+/// the books that a crash of the store before them may leave, however many openings failed since.
+/// It fails as `open_again` does.
+pub fn open_left<D: Crash + Drop>(
+    alloc: Global,
+    left: Leftover<D>,
+    options: Options,
+    limits: Limits,
+) -> Result<SqlStore<FileStore<D>>, (OpenFault, Leftover<D>)>
+    ensures restarts { IfOk result (OpensLeft left limits) }
+    ensures again { IfErr result (λ refused. FailsAgain left refused.1 refused.0) }
+{
+    let files = runs::crash_left(left);
+    let store = match SqlStore::open_again(alloc, files, options, limits) {
+        Ok(store) => store,
+        Err(refused) => return Err(refused),
+    };
+    store.assert_settled();
+    Ok(store)
 }
 
 impl<S: Alter> SqlStore<S> {

@@ -4,7 +4,7 @@ ghost use Rattle.store_tables.specs.SchemaCreation.{empty_schema};
 ghost use Rattle.store_schema.specs.OpenFaults.{IsErrorFault, IsCreationFault};
 ghost use Rattle.store_schema.specs.declared.open_fault.OpenFault.TheVariants.{NotEmpty};
 ghost use Rattle.book_store.specs.OnConnections.{IsStore};
-ghost use Rattle.store_tables.specs.OnConnections.{Survives};
+ghost use Rattle.store_tables.specs.OnConnections.{HasCleanDisk, IsConnectionOpen, Survives};
 ghost use Rattle.store_lookups.specs.OnConnections.{IsOpenOnHonestDisk, stored_books};
 ghost use Rattle.sqlite.specs.Steps.{over_memory};
 ghost use Rattle.std.specs.FinMap as finite;
@@ -90,6 +90,8 @@ impl<S: Alter> SqlStore<S> {
         ensures limits { IfOk result (λ store. store.limits ≡ limits) }
         ensures premise { IfOk result (λ store. IsOpenOnHonestDisk S.Store store.conn
             → IsOpenOnHonestDisk S.Store connection) }
+        ensures opened { IfOk result (λ store. HasCleanDisk S.Store store.conn
+            → IsConnectionOpen S.Store store.conn) }
         ensures was_empty { OnOk result (connection.schema ≡ empty_schema) }
         ensures not_empty { ¬ (connection.schema ≡ empty_schema)
             → IfErr result (λ refused. refused.0 ≡ NotEmpty) }

@@ -6,6 +6,13 @@ use Rattle.book_store.proofs.RefusalLemmas.{empty_creation, full_creation, load_
 use Rattle.book_store.proofs.RefusalLemmas.{unopened_creation}
 use Rattle.book_store.proofs.files.creation_fault.Goals as goal
 
+pub returns-in-Files-clause-fault : goal.returns-in-Files-clause-fault
+returns-in-Files-clause-fault g c files is =
+    unopened_creation files c.args.left.now (elim c.in-Files.is [
+      | inl e ↦ subst HasNoStore (sym e.1) tt
+      | inr e ↦ subst HasNoStore (sym e.1) tt
+    ]) is
+
 pub returns-in-Files-2-clause-fault : goal.returns-in-Files-2-clause-fault
 returns-in-Files-2-clause-fault g c files is =
     unopened_creation files c.args.left.now (elim c.in-Files.is [

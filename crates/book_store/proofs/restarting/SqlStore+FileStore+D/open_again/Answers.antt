@@ -9,6 +9,7 @@ use Rattle.store_tables.proofs.SchemaCreationLemmas.{clean_before}
 use Rattle.book_store.specs.Restarts.{declared_over}
 use Rattle.book_store.proofs.RestartLemmas.{cause_kind, clean_left, shown_books, unopened_cause}
 use Rattle.book_store.proofs.RestartLemmas.{unread_cause, unread_files}
+use Rattle.named_files.proofs.SealedLemmas.{leaves_the_same}
 use Rattle.book_store.proofs.restarting.SqlStore+FileStore+D.open_again.Goals as goal
 
 pub returns-in-Ok-try_adopt-clause-opens : goal.returns-in-Ok-try_adopt-clause-opens
@@ -63,3 +64,8 @@ returns-in-Err-try_adopt-clause-unharmed g c clean =
     (λ trees may. settled_at c.in-Ok.connection.store g.met.D.Disk.seen_may_stay trees
     (c.in-Ok.ensures.opened early).0.is_open may)
     (c.in-Ok.ensures.found early) late refused.left_unchanged.survives c.into_store.ensures.quiet
+
+pub returns-in-Err-try_adopt-clause-leaves : goal.returns-in-Err-try_adopt-clause-leaves
+returns-in-Err-try_adopt-clause-leaves g c =
+    leaves_the_same c.args.files (leftover.Store c.into_store.result)
+    (returns-in-Err-try_adopt-clause-unharmed g c)

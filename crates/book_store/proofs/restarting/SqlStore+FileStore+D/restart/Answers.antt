@@ -1,6 +1,7 @@
 use Rattle.std.proofs.Common.{ap, ◌∙◌}
+use Rattle.sqlite.specs.Files.{file_state}
 use Rattle.book_store.specs.StoreViews.{StoreView}
-use Rattle.book_store.proofs.RestartLemmas.{restarted}
+use Rattle.book_store.proofs.RestartLemmas.{restarted, still_leaves}
 use Rattle.book_store.proofs.restarting.SqlStore+FileStore+D.restart.Goals as goal
 
 pub returns-clause-restarts : goal.returns-clause-restarts
@@ -15,4 +16,6 @@ returns-in-Err-clause-cause g c = record {
   holds = c.crash.ensures.leaves;
   cause = c.in-Err.ensures.cause;
   unharmed = c.in-Err.ensures.unharmed;
+  still = still_leaves (file_state c.args.self.conn) c.crash.result c.in-Err.refused.1
+      c.crash.ensures.leaves c.crash.ensures.again c.in-Err.ensures.leaves;
 }

@@ -23,3 +23,9 @@ invariant_of-result g c =
       },
       λ order sound. c.new.ensures.right (stored_books (state g.S.Store c.commit_tables.new.conn)),
     )
+
+pub returns-in-Ok-clause-opened : goal.returns-in-Ok-clause-opened
+returns-in-Ok-clause-opened g c clean =
+    let bare : (state g.S.Store c.args.connection).now.schema ≡ empty_schema =
+    sym c.schema.ensures.value ∙ c.is_schema_empty.ensures.0 (search rules) in
+    (c.in-Ok.ensures.creates_tables clean bare).is_open
