@@ -249,6 +249,22 @@ class Cut(ConvertTest):
         for size in range(1, 400):
             self.in_same_parts(octets, "rows.csv", [HEAD_OCTETS + 900, size])
 
+    def test_wrong_quotes_are_cut_at_every_octet(self):
+        rows = [f'u{number},"{card(f"u{number}", "Ann")}"\r\n' for number in range(300)]
+        for number in range(5, 300, 9):
+            rows[number] = rows[number].replace("FN:Ann", 'FN:Ann "x')
+        for number in range(7, 300, 11):
+            rows[number] = rows[number].replace('"\r\n', "")
+        octets = ("uid,vcard\r\n" + "".join(rows)).encode()
+        for size in range(1, 400, 7):
+            self.in_same_parts(octets, "rows.csv", [HEAD_OCTETS + 900, size])
+
+    def test_rows_with_wrong_quotes_need_no_more_parts(self):
+        """A part has 400 rows: only the octets that were looked at count beside a row."""
+        for row in b'"P,p@x.test\n', b'P,"p@x.test\n', b'"P "x" y",p@x.test\n':
+            *_, parts = self.in_parts(b"Name,Email\n" + 4_000 * row, [PIECE])
+            self.assertLessEqual(len(parts), 11, row)
+
     def in_same_parts(self, octets, name, sizes):
         """The parts are those of the whole, which is converted once."""
         if getattr(self, "whole_of", None) != octets:
@@ -348,6 +364,18 @@ class Refused(ConvertTest):
             status, value = self.post(octets)
             self.assertEqual((422, 35), (status, value["number"]), octets)
             self.assertIn(words, value["text"])
+
+    def test_a_later_part_may_begin_with_any_octets(self):
+        """The first part of a file shows its format; a later one may begin with text or a row."""
+        one, two = old_card(1, "NOTE:" + "x" * HEAD_OCTETS), old_card(2)
+        for front in [b"[]\n", b"<html>\n", b"BEGIN:VCALENDAR\n", b"%PDF-1.7\n", b"\xff\xfe\n", b"dn: a\n"]:
+            with self.subTest(front):
+                parts = self.compare(one + front + two, "cards.vcf", [len(one) + 1])
+                self.assertEqual([1, 1], [part["written"] for part in parts])
+        rows = b"".join(b"Ann %d,a%d@x.test\n" % (number, number) for number in range(2))
+        for front in b"<none>,Name,Email\n", b"[],Name,Email\n":
+            parts = self.compare(front + b"<none>," + rows.replace(b"\n", b"\n[],")[:-3], "a.csv")
+            self.assertEqual([2], [part["written"] for part in parts])
 
     def test_wrong_columns_are_told(self):
         octets = (GOOGLE + "Ann,a@x.test,,,\n").encode()
