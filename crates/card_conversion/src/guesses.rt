@@ -21,12 +21,25 @@ fn is_quoted(line: &[u8]) -> bool {
     is_encoded_as(line, b"QUOTED-PRINTABLE")
 }
 
+/// Whether the head of a line ends with a CHARSET that has no name.
+fn ends_unnamed(line: &[u8]) -> bool {
+    let head = line.len().saturating_sub(value_of(line).len());
+    let end = line.get(head.saturating_sub(8)..head).unwrap_or(&[]);
+    end.eq_ignore_ascii_case(b"CHARSET=")
+}
+
+/// Whether the head of a line names UTF-8.
+fn names_utf8(line: &[u8]) -> bool {
+    is_encoded_as(line, b"CHARSET=UTF") || is_encoded_as(line, b"CHARSET=\"UTF")
+}
+
 /// Whether the head of a line names a character set other than UTF-8.
 fn names_charset(line: &[u8]) -> bool {
     is_encoded_as(line, b"CHARSET")
-        && !is_encoded_as(line, b"CHARSET=UTF")
-        && !is_encoded_as(line, b"CHARSET=\"UTF")
+        && !names_utf8(line)
+        && !is_encoded_as(line, b"CHARSET=;")
         && !is_encoded_as(line, b"CHARSET=US-ASCII")
+        && !ends_unnamed(line)
 }
 
 /// The line without the ends of the physical lines that it is folded to, and without the first
@@ -50,7 +63,7 @@ fn unfolded(alloc: Global, line: &[u8]) -> Result<Vec<u8>, NoMemory> {
     Ok(octets)
 }
 
-/// What is after the first colon of a line.
+/// What is from the first colon of a line on.
 fn value_of(line: &[u8]) -> &[u8] {
     let place = line
         .iter()
@@ -59,9 +72,10 @@ fn value_of(line: &[u8]) -> &[u8] {
     line.get(place..).unwrap_or(&[])
 }
 
-/// Whether the value of a line of quoted-printable is read as Windows-1252 once it is decoded.
+/// Whether the value of a line of quoted-printable is read as Windows-1252 once it is decoded. One
+/// that the line says is in UTF-8 isn't.
 fn is_guessed_value(alloc: Global, line: &[u8]) -> Result<bool, NoMemory> {
-    if !is_quoted(line) {
+    if !is_quoted(line) || names_utf8(line) {
         return Ok(false);
     }
     let octets = read_quoted_printable(alloc, value_of(line))?;
