@@ -15,7 +15,7 @@ from program import run
 from test_convert_posts import ConvertTest
 
 SAID = "#1=fn,#2=email"
-WIDTH = "not carried: the row has more or fewer cells than there are columns"
+WIDTH = "not carried: the row has 1 cell in place of {}"
 
 
 class Headerless(ConvertTest):
@@ -53,7 +53,7 @@ class Headerless(ConvertTest):
                         text = above.replace("\n", end) + end.join(rows) + last
                         ended = self.convert(text.encode(), said="#1=fn,#2=email,#3=note")
                         # A cell that has a line feed takes a line more.
-                        report = digest([f"row 3, line {count + 4}: {WIDTH}"], 3, 0, 1)
+                        report = digest([f"row 3, line {count + 4}: {WIDTH.format(3)}"], 3, 0, 1)
                         self.assertEqual((1, report), (ended.status, ended.err.decode()))
                         self.assertEqual(["Ann Lee", "Bob", "Dee"], self.values(ended, "FN"))
                         uid = added_uid(b"#1\x1fAnn Lee\x1e#2\x1fa@x.test\x1e#3\x1f7\x1e")
@@ -158,7 +158,7 @@ class Headerless(ConvertTest):
 
     def test_a_short_row_comes_first(self):
         ended = self.convert(b"Total: 2\nAnn,a@x.test\nBob,b@x.test\n")
-        self.assertEqual((1, digest([f"row 1, line 1: {WIDTH}"], 2, 0, 1)),
+        self.assertEqual((1, digest([f"row 1, line 1: {WIDTH.format(2)}"], 2, 0, 1)),
                          (ended.status, ended.err.decode()))
         self.assertEqual(["Ann", "Bob"], self.values(ended, "FN"))
 
@@ -236,5 +236,5 @@ class Headerless(ConvertTest):
         """A later part in which no row has all columns is told, and not refused."""
         said = SAID + ",rows=comma;cells=2"
         part = self.part(b"too short\n", "?line=9&card=9&columns=" + quote(said))
-        self.assertEqual((0, 1, [{"card": 9, "line": 9, "text": WIDTH}]),
+        self.assertEqual((0, 1, [{"card": 9, "line": 9, "text": WIDTH.format(2)}]),
                          (part["written"], part["not_carried"], part["report"]))

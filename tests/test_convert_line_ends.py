@@ -98,7 +98,7 @@ class ConvertLineEnds(OrderTest):
                     octets = "".join(line + end for line in above + rows).encode()
                     ended = self.convert(octets)
                     self.assertEqual((1, ["C"]), (ended.status, self.names(ended)))
-                    why = "not carried: the row has more or fewer cells than there are columns\n"
+                    why = "not carried: the row has 3 cells in place of 2\n"
                     told = ended.err.decode()
                     self.assertIn(f"row 1, line {count + 2}: {why}", told)
                     self.assertIn(f"row 2, line {count + 4}: {why}", told)

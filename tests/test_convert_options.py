@@ -443,7 +443,7 @@ class ConvertOptions(OrderTest):
         ended = self.convert(octets, "--report", "r.txt")
         lines = ["row 1, line 2: the cell of Shoe kept as X-SHOE",
                  "row 1, line 2: the cell of Birthday rewritten",
-                 "row 2, line 3: not carried: the row has more or fewer cells than there are columns"]
+                 "row 2, line 3: not carried: the row has 2 cells in place of 4"]
         self.assertEqual((1, digest(lines, 1, 1, 1)), (ended.status, ended.err.decode()))
         self.assertEqual(ended, self.convert(octets))
         listed = "".join(line + "\n" for line in lines)

@@ -53,7 +53,7 @@ abbrev pub with_fault : Summary → RowFault → Summary
 with_fault summary row.Empty = summary
 with_fault summary row.Broken = with_refused summary
 with_fault summary (row.Nul place) = with_refused summary
-with_fault summary row.Width = with_refused summary
+with_fault summary (row.Width count) = with_refused summary
 with_fault summary row.Header = with_refused summary
 with_fault summary (row.Card fault) = with_refused summary
 

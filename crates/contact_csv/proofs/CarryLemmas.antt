@@ -8,8 +8,9 @@ use Rattle.vcard_import.specs.declared.change.Change.{Change}
 use Rattle.contact_csv.specs.Carrying.{IsPartHeld, ArePartsHeld, IsLabelHeld, IsCarried, void_part}
 use Rattle.contact_csv.specs.Carrying.{whole_part, starred_part, last_part, next_part, as_types}
 use Rattle.contact_csv.specs.Carrying.{as_name, as_text, left_out, no_value, in_component, whole}
-use Rattle.contact_csv.specs.Carrying.{in_parts, in_addresses, as_label, as_date, kept_aside}
+use Rattle.contact_csv.specs.Carrying.{in_parts, in_addresses, as_label, as_date, as_date_text}
 use Rattle.contact_csv.specs.Carrying.{IsComponentPart, void_component, held_component}
+use Rattle.contact_csv.specs.Carrying.{kept_aside}
 use Rattle.contact_columns.specs.declared.columns.Column.{Column}
 
 pub any_stays : {X : Type 0} (p : X → Bool) (xs ys : List X) → list_any p xs ≡ true
@@ -69,6 +70,8 @@ carried_stays column place text lines more changes further (as_label label is of
     as_label label is of_cell (label_stays label lines more held)
 carried_stays column place text lines more changes further (as_date is line reported) =
     as_date is (any_stays _ lines more line) (Contains-append_left changes further _ reported)
+carried_stays column place text lines more changes further (as_date_text is line reported) =
+    as_date_text is (any_stays _ lines more line) (Contains-append_left changes further _ reported)
 carried_stays column place text lines more changes further (kept_aside line has name value
     reported) = kept_aside line (Contains-append_left lines more line has) name value
     (Contains-append_left changes further _ reported)

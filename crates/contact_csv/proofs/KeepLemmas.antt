@@ -1,6 +1,6 @@
 -- What the loop over the cells keeps, and the UID of the card.
 use Rattle.std.proofs.Common.{◌≡◌, ◌≤◌, ◌+◌, ℕ, List, [], ◌∷◌, ◌++◌, get_or, length, true, Some, None}
-use Rattle.std.proofs.Common.{inl, inr, map, ap, refl, sym, subst, ◌∙◌, arith}
+use Rattle.std.proofs.Common.{◌&&◌, inl, inr, map, ap, refl, sym, subst, ◌∙◌, arith}
 use Rattle.std.specs.Char.{to_ascii_uppercase}
 use Rattle.std.specs.Str.{str_to_ascii_uppercase}
 use Rattle.std.specs.List.{Contains, list_any}
@@ -17,9 +17,10 @@ use Rattle.vcard_text.specs.Cards.{uid_of}
 use Rattle.vcard_text.specs.Making.{upper_line, upper_lines}
 use Rattle.vcard_property.specs.declared.change_kind.ChangeKind.{ChangeKind}
 use Rattle.vcard_property.specs.declared.change_kind.ChangeKind.TheVariants.{Rewritten, KeptAside}
+use Rattle.vcard_property.specs.declared.change_kind.ChangeKind.TheVariants.{Unreadable}
 use Rattle.contact_csv.specs.Carrying.{IsCarried, column_at, component_in, change, is_date_column}
-use Rattle.contact_csv.specs.Carrying.{is_date_name, as_date, in_addresses, in_component, in_parts}
-use Rattle.contact_csv.specs.Carrying.{kept_aside, whole}
+use Rattle.contact_csv.specs.Carrying.{is_date_name, as_date, as_date_text, in_addresses}
+use Rattle.contact_csv.specs.Carrying.{has_text, in_component, in_parts, kept_aside, whole}
 use Rattle.contact_csv.specs.internal.Keeping.{BeginsWithUid, IsCarriedWhole, KeepsAside, KeepsCell}
 use Rattle.contact_csv.specs.internal.Keeping.{IsComponentCarried}
 use Rattle.contact_csv.specs.internal.Keeping.{Keeps, ReportsOnly}
@@ -134,6 +135,24 @@ date_keeps column place text old new dates line lines changes = record {
       (sym lines) line)
       (subst (λ cs. Contains cs (change place Rewritten)) (sym changes)
       (last_is old.changes (change place Rewritten)));
+}
+
+-- a report of a date that isn't read
+pub date_text_keeps : (column : Column) (place : ℕ) (text : List ℕ) (old new : Kept)
+    → is_date_column column.property ≡ true
+    → list_any (λ line. is_date_name line.name && has_text text line) old.lines ≡ true
+    → new.lines ≡ old.lines → new.changes ≡ old.changes ++ change place Unreadable ∷ []
+    → KeepsCell column place text old new
+date_text_keeps column place text old new dates line lines changes = record {
+  lines = [];
+  upper = refl;
+  lines_are = lines ∙ sym (append-nil old.lines);
+  changes = change place Unreadable ∷ [];
+  changes_are = changes;
+  carried = as_date_text dates (subst (λ (ls : List Line). list_any (λ l. is_date_name l.name
+      && has_text text l) ls ≡ true) (sym lines) line)
+      (subst (λ cs. Contains cs (change place Unreadable)) (sym changes)
+      (last_is old.changes (change place Unreadable)));
 }
 
 -- a line and a report

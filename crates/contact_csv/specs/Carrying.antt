@@ -10,6 +10,7 @@ use Rattle.vcard_lines.specs.TextValues.{escaped_value, components}
 use Rattle.vcard_import.specs.declared.change.Change.{Change}
 use Rattle.vcard_property.specs.declared.change_kind.ChangeKind.{ChangeKind}
 use Rattle.vcard_property.specs.declared.change_kind.ChangeKind.TheVariants.{Rewritten, KeptAside}
+use Rattle.vcard_property.specs.declared.change_kind.ChangeKind.TheVariants.{Unreadable}
 use Rattle.contact_columns.specs.Cells.{is_void}
 use Rattle.contact_columns.specs.Components.{component_of}
 use Rattle.contact_columns.specs.declared.columns.Column.{Column}
@@ -138,6 +139,11 @@ pub data IsCarried (column : Column) (place : ℕ) (text : List ℕ) (lines : Li
   as_date : is_date_column column.property ≡ true
       → list_any (λ line. is_date_name line.name) lines ≡ true
       → Contains changes (change place Rewritten) → IsCarried column place text lines changes
+  -- it is in a column of dates, a line that is a date has the text, and the cell is reported as one
+  -- that isn't read
+  as_date_text : is_date_column column.property ≡ true
+      → list_any (λ line. is_date_name line.name && has_text text line) lines ≡ true
+      → Contains changes (change place Unreadable) → IsCarried column place text lines changes
   -- a line whose name begins with X- has the text, and the cell is reported
   kept_aside : (line : Line) → Contains lines line → IsAsideName line.name
       → line.value ≡ escaped_value text → Contains changes (change place KeptAside)

@@ -44,7 +44,8 @@ abbrev pub IsFaulty : List Column → List (List ℕ) → RowFault → Type 0
 IsFaulty columns fields row.Empty = is_empty_row fields ≡ true
 IsFaulty columns fields row.Broken = is_broken fields ≡ true
 IsFaulty columns fields (row.Nul place) = has_nul (get_or fields place []) ≡ true
-IsFaulty columns fields row.Width = has_width columns fields ≡ false
+IsFaulty columns fields (row.Width count) =
+    (count ≡ length fields) × (has_width columns (map cell_text fields) ≡ false)
 IsFaulty columns fields row.Header = has_names columns fields ≡ true
 IsFaulty columns fields (row.Card fault) = IsRefused columns fields fault
 

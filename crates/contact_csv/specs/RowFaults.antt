@@ -1,6 +1,6 @@
 -- Why a row isn't converted.
-use Rattle.std.specs.Prelude.{ℕ, ◌==◌, ◌||◌, Bool, List, [], ◌∷◌}
-use Rattle.std.specs.Prelude.{get_or, length, map, nat_eq}
+use Rattle.std.specs.Prelude.{ℕ, ◌==◌, ◌||◌, ◌&&◌, Bool, List, [], ◌∷◌}
+use Rattle.std.specs.Prelude.{drop, get_or, length, map, nat_eq, nat_lt}
 use Rattle.std.specs.List.{list_all, list_any, starts_with}
 use Rattle.std.specs.Str.{str_eq_ignore_ascii_case, trim}
 use Rattle.contact_columns.specs.Cells.{cell_text, is_void}
@@ -20,9 +20,11 @@ has_nul octets = list_any (λ octet. octet == 0) octets
 abbrev pub is_empty_row : List (List ℕ) → Bool
 is_empty_row fields = list_all is_void (map cell_text fields)
 
--- as many cells as the header
+-- as many cells as the header, but for cells without a value after them; `texts` are those of the
+-- row's cells
 abbrev pub has_width : List Column → List (List ℕ) → Bool
-has_width columns fields = length fields == length columns
+has_width columns texts = length texts == length columns
+    || nat_lt (length columns) (length texts) && list_all is_void (drop (length columns) texts)
 
 -- a column has this name, but for the case of letters
 abbrev pub has_column : List Column → List ℕ → Bool

@@ -1,5 +1,5 @@
 //! Whether a line of a card holds a cell.
-ghost use Rattle.std.specs.Prelude.{◌≡◌, ◌<◌, ◌++◌, [], ℕ, List, true, IfOk, IfSome, IsTrue};
+ghost use Rattle.std.specs.Prelude.{◌≡◌, ◌<◌, ◌++◌, ◌&&◌, [], ℕ, List, true, IfOk, IfSome, IsTrue};
 ghost use Rattle.std.specs.Prelude.{bytes_eq, codes, get_or, length, map, string_bytes};
 ghost use Rattle.std.specs.List.{list_any};
 ghost use Rattle.vcard_lines.specs.TextValues.{components};
@@ -354,8 +354,33 @@ pub(crate) fn is_dated(lines: &[Line], home: usize, property: &str) -> bool
     home < lines.len() && is_date_name(lines[home].name.as_str())
 }
 
+/// Whether the line at the index has the text, and is a date that is a text, and the column has
+/// dates.
+pub(crate) fn holds_date_text(
+    alloc: Global,
+    lines: &[Line],
+    home: usize,
+    property: &str,
+    text: &str,
+) -> Result<bool, NoMemory>
+    ensures column { IfOk result (λ holds. IsTrue holds → is_date_column property.now ≡ true) }
+    ensures line { IfOk result (λ holds. IsTrue holds → list_any (λ line. is_date_name line.name
+        && has_text text.now line) lines.now ≡ true) }
+{
+    if !is_date_text(lines, home, property) || home >= lines.len() {
+        return Ok(false);
+    }
+    let line = &lines[home];
+    if !is_date_name(line.name.as_str()) {
+        return Ok(false);
+    }
+    has_text(alloc, line, text)
+}
+
 /// Whether the line at the index is a date that is a text, and the column has dates.
-pub(crate) fn is_date_text(lines: &[Line], home: usize, property: &str) -> bool {
+pub(crate) fn is_date_text(lines: &[Line], home: usize, property: &str) -> bool
+    ensures { IsTrue result → is_date_column property.now ≡ true }
+{
     if !is_dated(lines, home, property) {
         return false;
     }

@@ -11,7 +11,8 @@ ghost use Rattle.contact_csv.specs.internal.Keeping.{IsComponentCarried};
 ghost use Rattle.contact_csv.specs.internal.Keeping.{KeepsCell, Keeps, ReportsOnly};
 
 use crate::carried::{
-    holds_component, holds_components, holds_label, holds_parts, holds_text, is_date_text, is_dated,
+    holds_component, holds_components, holds_date_text, holds_label, holds_parts, holds_text,
+    is_date_text, is_dated,
 };
 use crate::uid::is_uid_column;
 use contact_columns::{Column, component_of, is_void, row_field};
@@ -210,7 +211,11 @@ impl Kept {
         if is_carried(alloc, lines, home, column, text)? {
             return self.report_text(column, place, home);
         }
-        if is_dated(lines, home, column.property.as_str()) {
+        let property = column.property.as_str();
+        if holds_date_text(alloc, lines, home, property, text)? {
+            return self.report(place, ChangeKind::Unreadable);
+        }
+        if is_dated(lines, home, property) {
             return self.report(place, ChangeKind::Rewritten);
         }
         self.keep_aside(alloc, column.name.as_str(), place, text)

@@ -22,8 +22,9 @@ pub enum RowFault {
     Broken,
     /// The cell at this index has a NUL.
     Nul(usize),
-    /// It has more or fewer cells than the header.
-    Width,
+    /// It has this number of cells: fewer than the header, or more, of which one beyond the header
+    /// has a value.
+    Width(usize),
     /// Its cells are the names of the columns, at most 64 of them in other columns than their own:
     /// it is the header again.
     Header,
@@ -56,11 +57,13 @@ fn nul_place(row: &ByteRecord) -> Option<usize>
     None
 }
 
-/// Whether the row has as many cells as the header.
-fn has_width(columns: &[Column], row: &ByteRecord) -> bool
-    ensures { result ≡ has_width columns.now (fields_of row.now) }
+/// Whether a row with these texts has as many cells as the header, but for cells without a value
+/// after them.
+fn has_width(columns: &[Column], cells: &[Text]) -> bool
+    ensures { result ≡ has_width columns.now cells.now }
 {
-    row.len() == columns.len()
+    let width = columns.len();
+    cells.len() == width || width < cells.len() && are_void(&cells[width..])
 }
 
 /// Whether the column has this name, in any case.
@@ -146,8 +149,8 @@ pub(crate) fn fault_of_row(columns: &[Column], row: &ByteRecord, cells: &[Text])
     if are_void(cells) {
         return Some(RowFault::Empty);
     }
-    if !has_width(columns, row) {
-        return Some(RowFault::Width);
+    if !has_width(columns, cells) {
+        return Some(RowFault::Width(row.len()));
     }
     if !has_many_moved(columns, cells) && has_names(columns, cells) && has_as_many(columns, cells) {
         return Some(RowFault::Header);

@@ -188,8 +188,13 @@ fn list_refused<E: Write, T: Write>(
     report.list_line(alloc, row_line(alloc, place, words.as_str())?.as_str())
 }
 
-/// Why a row of another number of cells isn't carried.
-const OTHER_WIDTH: &str = "the row has more or fewer cells than there are columns";
+/// Why a row of this number of cells isn't carried.
+fn width_words(alloc: Global, cells: usize, columns: &[Column]) -> Result<String, NoMemory> {
+    let things = if cells == 1 { "cell" } else { "cells" };
+    let cells = cells as u64;
+    let columns = columns.len() as u64;
+    Ok(format!(in alloc; "the row has {cells} {things} in place of {columns}")?)
+}
 
 /// Why a row isn't carried whose cells are the names of the columns.
 const HEADER_AGAIN: &str = "it is the header again";
@@ -228,6 +233,23 @@ pub(crate) fn report_broken<E: Write, T: Write>(
     report.write_line(alloc, Weight::NotCarried, line.as_str())
 }
 
+/// Reports a row of this number of cells. After a broken row it is mostly one of its lines.
+fn report_width<E: Write, T: Write>(
+    alloc: Global,
+    place: RowPlace,
+    cells: usize,
+    columns: &[Column],
+    broken: &mut BrokenLines,
+    report: &mut Report<E, T>,
+) -> Result<(), ConversionFault> {
+    let why = width_words(alloc, cells, columns)?;
+    if broken.is_open() {
+        broken.add(place);
+        return list_refused(alloc, place, why.as_str(), report);
+    }
+    report_refused(alloc, place, why.as_str(), report)
+}
+
 /// Reports a row that isn't converted. One without a value is no loss.
 fn report_fault<E: Write, T: Write>(
     alloc: Global,
@@ -248,11 +270,7 @@ fn report_fault<E: Write, T: Write>(
             let why = format!(in alloc; "the cell of {name} has a NUL")?;
             report_refused(alloc, place, why.as_str(), report)
         }
-        RowFault::Width if broken.is_open() => {
-            broken.add(place);
-            list_refused(alloc, place, OTHER_WIDTH, report)
-        }
-        RowFault::Width => report_refused(alloc, place, OTHER_WIDTH, report),
+        RowFault::Width(cells) => { report_width(alloc, place, *cells, columns, broken, report) }
         RowFault::Header => report_refused(alloc, place, HEADER_AGAIN, report),
         RowFault::Card(fault) => {
             let why = format!(in alloc; "{fault}")?;
@@ -297,7 +315,10 @@ pub(crate) fn report_row<E: Write, T: Write>(
     broken: &mut BrokenLines,
     report: &mut Report<E, T>,
 ) -> Result<(), ConversionFault> {
-    if !matches!(fate, RowFate::Refused(RowFault::Width | RowFault::Broken)) {
+    if !matches!(
+        fate,
+        RowFate::Refused(RowFault::Width(_) | RowFault::Broken)
+    ) {
         report_broken(alloc, broken, report)?;
     }
     match fate {
