@@ -91,9 +91,9 @@ module _ (g : given.Over) (c : After-commit g) (rows : TableRows) (name : List �
   kept first = c.in_ok-write_removal_with_drop.ensures.keeps_commit header id_is rows name first
       inside there
 
-  crash : (last : _) (same : c.commit.new.self.0 ≡ last)
-      → Survives (old g c) (state g.S.Store last) (TreesHold (made g c rows name header why last))
-  crash last same = survives_both g.S.Store (block g c last same)
+  crash : (ended : _) (same : c.commit.new.self.0 ≡ ended)
+      → Survives (old g c) (state g.S.Store ended) (TreesHold (made g c rows name header why last))
+  crash ended same = survives_both g.S.Store (block g c ended same)
       (TreesHold (made g c rows name header why last))
       (λ first. trees_held (mid g c).now (made g c rows name header why last) (left first).holds)
       c.write_removal_with_drop.ensures.survives c.commit.ensures.survives

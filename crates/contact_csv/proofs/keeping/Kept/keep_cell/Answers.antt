@@ -17,7 +17,7 @@ returns-then-branch c =
 pub returns-then-branch-2 : goal.returns-then-branch-2
 returns-then-branch-2 c =
     let column : is_date_column c.args.column.now.property ≡ true =
-    subst (λ property. is_date_column property ≡ true) c.as_str.ensures
+    subst (λ property. is_date_column property ≡ true) c.as_str-property.ensures
     (c.in_ok-holds_date_text.ensures.column c.if-branch-2.true) in
     let line : list_any (λ line. is_date_name line.name && has_text c.args.text.now line)
     c.args.self.now.lines ≡ true = subst (λ lines. list_any (λ line. is_date_name line.name
@@ -30,14 +30,14 @@ returns-then-branch-2 c =
 pub returns-then-is_dated : goal.returns-then-is_dated
 returns-then-is_dated c =
     let column : is_date_column c.args.column.now.property ≡ true =
-    subst (λ property. is_date_column property ≡ true) c.as_str.ensures
+    subst (λ property. is_date_column property ≡ true) c.as_str-property.ensures
     (c.is_dated.ensures.column c.if-is_dated.true) in
     let line : list_any (λ line. is_date_name line.name) c.args.self.now.lines ≡ true =
     subst (λ lines. list_any (λ line. is_date_name line.name) lines ≡ true)
     c.as_slice-lines.ensures (c.is_dated.ensures.line c.if-is_dated.true) in
-    ok_both c.report.result (date_keeps c.args.column.now c.args.place c.args.text.now
-    c.args.self.now c.report.new.self column line) c.report.ensures.lines
-    c.report.ensures.changes
+    ok_both c.report-then-is_dated.result (date_keeps c.args.column.now c.args.place c.args.text.now
+    c.args.self.now c.report-then-is_dated.new.self column line) c.report-then-is_dated.ensures.lines
+    c.report-then-is_dated.ensures.changes
 
 pub returns : goal.returns
 returns c = ok_then c.keep_aside.result (λ done kept. aside_keeps c.args.column.now c.args.place
