@@ -682,6 +682,35 @@ CARDS = [
         [],
     ),
     of_ann(
+        "nor is one cut at a width whose folded lines have 76 and 75 octets: it is folded at white "
+        "space",
+        "2.1",
+        ["NOTE:" + LONG_WORD[:71], " " + LONG_WORD[:74], " end"],
+        ["NOTE:" + LONG_WORD[:71] + " " + LONG_WORD[:74] + " end"],
+        [],
+    ),
+    of_ann(
+        "a note that is cut at 75 octets between characters, so that the first line has 74",
+        "2.1",
+        ["NOTE:" + LONG_WORD[:69], " ü" + LONG_WORD[:72], " ende"],
+        ["NOTE:" + LONG_WORD[:69] + "ü" + LONG_WORD[:72] + "ende"],
+        [],
+    ),
+    of_ann(
+        "a note that is cut at 75 characters",
+        "2.1",
+        ["NOTE:" + 10 * "ü" + LONG_WORD[:60], " " + LONG_WORD[:74], " ende"],
+        ["NOTE:" + 10 * "ü" + LONG_WORD[:60] + LONG_WORD[:74] + "ende"],
+        [],
+    ),
+    of_ann(
+        "a note that is cut at 75 octets beside the space before each rest",
+        "2.1",
+        ["NOTE:" + LONG_WORD[:70], " " + LONG_WORD[70:145], " " + LONG_WORD[145:]],
+        ["NOTE:" + LONG_WORD],
+        [],
+    ),
+    of_ann(
         "a photo that is cut at 72 octets tells nothing of the text beside it, which is cut at 76: "
         "its words stay whole, before and after the photo",
         "2.1",

@@ -88,7 +88,8 @@ fn addresses_of(
     Ok(places)
 }
 
-/// The place of the first address of these types, and with these parts, that has no label so far.
+/// The place of the first address of these types that has no label so far, and to which a label
+/// with these parts belongs.
 fn address_with(
     labels: &[Labelling],
     found: &[Found],
@@ -98,7 +99,9 @@ fn address_with(
     for item in found {
         match &item.line {
             AddressLine::Address(its, others)
-                if are_same(*its, types) && others == parts && is_free(labels, item.index) => {
+                if are_same(*its, types)
+                    && parts.belong_to(others)
+                    && is_free(labels, item.index) => {
                 return Some(item.index);
             }
             _ => {}
@@ -146,7 +149,8 @@ fn set(labels: &mut Vec<Labelling>, index: usize, labelling: Labelling) {
     }
 }
 
-/// Gives the labels with a group or with parameters to addresses that have the same.
+/// Gives the labels with a group or with parameters to addresses that have the same, or that have
+/// the same group if that is all.
 fn join_own_labels(labels: &mut Vec<Labelling>, found: &[Found]) -> Result<(), NoMemory> {
     let mut count: usize = 0;
     for item in found {
@@ -219,8 +223,8 @@ fn join_labels(
 
 /// What the labels of a card make of each of its logical lines. A label belongs to the next address
 /// with exactly its types that has none, or else to the next that is as much of home and of work;
-/// one with a group or with parameters only to an address that has the same. Empty if there are no
-/// labels, or in vCard 4.0, which has none.
+/// one with a group only to an address with that group, and one with parameters only to one with
+/// the same group and parameters. Empty if there are no labels, or in vCard 4.0, which has none.
 pub(crate) fn labels_of(
     alloc: Global,
     raws: &[RawLine],

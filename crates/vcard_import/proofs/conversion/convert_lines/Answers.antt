@@ -11,7 +11,9 @@ use Rattle.vcard_import.proofs.conversion.convert_lines.Goals as goal
 
 lines_are : (c : goal.After-drop-raws-2) → c.add_lines.new.lines ≡ c.in_ok-lines.field-0.lines
     ++ missing_lines c.args.octets.now c.in_ok-missing.ensures.0 c.in_ok-lines.field-0.lines
-lines_are c = search rules
+lines_are c = c.in_ok-add_lines.ensures.lines
+    ∙ ap (λ missing. c.in_ok-lines.field-0.lines ++ missing) (c.in_ok-missing.ensures.3
+    ∙ ap (missing_lines c.args.octets.now c.in_ok-missing.ensures.0) c.as_slice-2.ensures)
 
 changes_are : (c : goal.After-drop-raws-2) → c.add_lines.new.changes ≡ c.in_ok-lines.field-0.changes
     ++ map addition (missing_lines c.args.octets.now c.in_ok-missing.ensures.0
