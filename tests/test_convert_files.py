@@ -388,6 +388,35 @@ class ConvertFiles(OrderTest):
                     self.assertEqual((0, plain.out, plain.err), ended[:3])
                     self.assertNotIn("\ufffd", ended.out.decode())
 
+    def test_wrong_quotes_in_rows_of_cards(self):
+        """Only their own row is lost, which is told with its lines; if just the last quote of a card
+        is missing, the card is carried."""
+        for end in "\r\n", "\n":
+            def row(uid, old="", new=""):
+                lines = [f'{uid},"BEGIN:VCARD', "VERSION:4.0", f"UID:{uid}", f"FN:{uid}", "END:VCARD",
+                         '"', ""]
+                return end.join(lines).replace(old, new) if old else end.join(lines)
+            last = f'END:VCARD{end}"{end}'
+            for wrong, status, uids, lost in [
+                (row("b", last, f"END:VCARD{end}"), 0, "abc", 0),
+                (row("b", "FN:b", 'FN:b "Bo"'), 1, "ac", 6),
+                (row("b", "FN:b", 'FN:b 5" pipe'), 1, "ac", 6),
+                (row("b", "b,", '"b,'), 1, "ac", 6),
+                (row("b", "FN:b", 'FN:b ""Bo""'), 0, "abc", 0),
+            ]:
+                with self.subTest(wrong):
+                    self.write(a_csv=(f"uid,vcard{end}" + row("a") + wrong + row("c")).encode())
+                    ended = self.convert("a.csv")
+                    self.assertEqual(list(uids), [it[0] for it in rows_of(ended.out)])
+                    told = (f"line 8: not carried: a quote isn't closed in its row, and {lost} lines "
+                            "are lost with it\n") if lost else ""
+                    told += f"look first at: {told}" if lost else ""
+                    told += numbers(len(uids), 0, 0, status)
+                    self.assertEqual((status, told), (ended.status, ended.err.decode()))
+        self.write(a_csv=('uid,vcard\na,"b"c\n').encode())
+        ended = self.convert("a.csv")
+        self.assertIn(b"line 2: not carried: a quote isn't closed in its row\n", ended.err)
+
     def test_lines_of_a_broken_row(self):
         """A quote that isn't closed is told with the lines that it takes with it."""
         head = "First Name,E-mail Address,Notes\n"

@@ -249,6 +249,22 @@ class Cut(ConvertTest):
         for size in range(1, 400):
             self.in_same_parts(octets, "rows.csv", [HEAD_OCTETS + 900, size])
 
+    def test_wrong_quotes_are_cut_at_every_octet(self):
+        rows = [f'u{number},"{card(f"u{number}", "Ann")}"\r\n' for number in range(300)]
+        for number in range(5, 300, 9):
+            rows[number] = rows[number].replace("FN:Ann", 'FN:Ann "x')
+        for number in range(7, 300, 11):
+            rows[number] = rows[number].replace('"\r\n', "")
+        octets = ("uid,vcard\r\n" + "".join(rows)).encode()
+        for size in range(1, 400, 7):
+            self.in_same_parts(octets, "rows.csv", [HEAD_OCTETS + 900, size])
+
+    def test_rows_with_wrong_quotes_need_no_more_parts(self):
+        """A part has 400 rows: only the octets that were looked at count beside a row."""
+        for row in b'"P,p@x.test\n', b'P,"p@x.test\n', b'"P "x" y",p@x.test\n':
+            *_, parts = self.in_parts(b"Name,Email\n" + 4_000 * row, [PIECE])
+            self.assertLessEqual(len(parts), 11, row)
+
     def in_same_parts(self, octets, name, sizes):
         """The parts are those of the whole, which is converted once."""
         if getattr(self, "whole_of", None) != octets:

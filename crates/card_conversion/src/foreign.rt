@@ -1,6 +1,6 @@
 //! Files of other formats, which aren't converted.
 
-use import_text::begins_with_word;
+use import_text::{begins_with_word, is_card, split_piece};
 
 /// What files are that begin with these octets.
 const FORMATS: &[(&[u8], &str)] = &[
@@ -86,11 +86,24 @@ fn is_ldif(text: &[u8]) -> bool {
         || text.starts_with(b"version: 1\r\n")
 }
 
+/// Whether a delimiter of cells follows the first `>`, as after a first cell like `<none>`.
+fn ends_cell(text: &[u8]) -> bool {
+    match text.iter().position(|octet| *octet == b'>') {
+        Some(place) => {
+            let after = text.get(place.saturating_add(1)).copied();
+            matches!(after, Some(b',' | b';' | b'\t' | b'|'))
+        }
+        None => false,
+    }
+}
+
 /// Whether the text, which begins with no white space, is XML or HTML: a tag, a declaration or a
-/// comment.
+/// comment, after which no cell ends.
 fn is_markup(text: &[u8]) -> bool {
     match text.strip_prefix(b"<") {
-        Some([next, ..]) => next.is_ascii_alphabetic() || *next == b'?' || *next == b'!',
+        Some([next, ..]) if next.is_ascii_alphabetic() || *next == b'?' || *next == b'!' => {
+            !ends_cell(text)
+        }
         _ => false,
     }
 }
@@ -106,9 +119,8 @@ fn is_json(text: &[u8]) -> bool {
     }
 }
 
-/// What a file of text is, and what to do with it, if it begins so and isn't converted.
+/// What a file of text is, and what to do with it, if its front says so whatever comes after it.
 fn text_words(text: &[u8]) -> Option<&'static str> {
-    let start = text.trim_ascii_start();
     if is_saved_export(text) {
         Some(
             "rows of cards that were saved again, without commas between uid and vcard; convert \
@@ -116,15 +128,15 @@ fn text_words(text: &[u8]) -> Option<&'static str> {
         )
     } else if is_ldif(text) {
         Some("LDIF; export the contacts as vCard or CSV")
-    } else if is_markup(start) {
-        Some("XML or HTML; export the contacts as vCard or CSV")
-    } else if is_json(start) {
-        Some("JSON; export the contacts as vCard or CSV")
-    } else if begins_with_word(start, b"BEGIN:VCALENDAR") {
-        Some("a calendar; export the contacts as vCard or CSV")
     } else {
         None
     }
+}
+
+/// Whether a card begins somewhere among the octets.
+pub fn has_card(octets: &[u8]) -> bool {
+    let (piece, after) = split_piece(octets);
+    is_card(piece) || !after.is_empty()
 }
 
 /// The octets after one that is the first, if it is; else all.
@@ -156,8 +168,7 @@ fn export_delimiter(text: &[u8]) -> Option<u8> {
 /// Whether a file that begins with these octets has rows of cards whose header is `uid,vcard`, with
 /// each name in quotes or without: programs write them that quote all cells.
 pub fn is_quoted_export(head: &[u8]) -> bool {
-    let text = head.strip_prefix(b"\xEF\xBB\xBF").unwrap_or(head);
-    export_delimiter(text) == Some(b',')
+    export_delimiter(without_mark(head)) == Some(b',')
 }
 
 /// Whether the text has rows of cards that a spreadsheet saved, with something else than commas
@@ -166,13 +177,46 @@ fn is_saved_export(text: &[u8]) -> bool {
     matches!(export_delimiter(text), Some(b';' | b'\t' | b'|'))
 }
 
+/// The octets without a byte order mark of UTF-8.
+fn without_mark(head: &[u8]) -> &[u8] {
+    head.strip_prefix(b"\xEF\xBB\xBF").unwrap_or(head)
+}
+
+/// Whether a file that begins with these octets is text in UTF-32: it has a byte order mark, or two
+/// characters below 256.
+pub fn is_utf32(front: &[u8]) -> bool {
+    if front.starts_with(b"\xFF\xFE\0\0") || front.starts_with(b"\0\0\xFE\xFF") {
+        return true;
+    }
+    match front {
+        [a, 0, 0, 0, b, 0, 0, 0, ..] => *a != 0 && *b != 0,
+        [0, 0, 0, a, 0, 0, 0, b, ..] => *a != 0 && *b != 0,
+        _ => false,
+    }
+}
+
 /// What a file is, and what to do with it, if it begins with these octets and has a format that
-/// isn't converted.
+/// isn't converted, whatever else is in it.
 pub fn foreign_format(head: &[u8]) -> Option<&'static str> {
-    let text = head.strip_prefix(b"\xEF\xBB\xBF").unwrap_or(head);
     if head.starts_with(b"PK\x03\x04") {
         Some(archive_words(head))
     } else {
-        format_words(head).or(text_words(text))
+        format_words(head).or(text_words(without_mark(head)))
     }
+}
+
+/// What a file of text is that begins with these octets, and what to do with it: XML, HTML, JSON or
+/// a calendar in which no card begins. A table may begin so, too: its header is looked for first.
+pub fn foreign_text(head: &[u8]) -> Option<&'static str> {
+    let start = without_mark(head).trim_ascii_start();
+    let words = if is_markup(start) {
+        "XML or HTML; export the contacts as vCard or CSV"
+    } else if is_json(start) {
+        "JSON; export the contacts as vCard or CSV"
+    } else if begins_with_word(start, b"BEGIN:VCALENDAR") {
+        "a calendar; export the contacts as vCard or CSV"
+    } else {
+        return None;
+    };
+    if has_card(head) { None } else { Some(words) }
 }

@@ -2,6 +2,7 @@
 //! the file of the report one for each change.
 
 use crate::change_words::{Reported, Said, change_words};
+use crate::export_text::broken_lines;
 use crate::fate::Fate;
 use crate::fault::ConversionFault;
 use crate::form_changes::FormKind;
@@ -348,14 +349,32 @@ fn report_too_long<E: Write, T: Write>(
     report_refused(alloc, place, why.as_str(), report)
 }
 
+/// Why a text that is no card isn't carried. It may stand for a row of an export with a quote that
+/// isn't closed.
+fn other_words(alloc: Global, piece: &[u8]) -> Result<String, NoMemory> {
+    let words = match broken_lines(piece) {
+        None => "no card begins here",
+        Some(lines) if lines > 1 => {
+            return Ok(format!(in alloc;
+                "a quote isn't closed in its row, and {lines} lines are lost with it"
+            )?);
+        }
+        Some(_) => "a quote isn't closed in its row",
+    };
+    Ok(String::from_str(alloc, words)?)
+}
+
 /// Reports a text that is no card.
 fn report_other<E: Write, T: Write>(
     alloc: Global,
     place: Place,
+    piece: &[u8],
     report: &mut Report<E, T>,
 ) -> Result<(), ConversionFault> {
     let line = place.line;
-    let text = format!(in alloc; "line {line}: not carried: no card begins here")?;
+    let words = other_words(alloc, piece)?;
+    let words = words.as_str();
+    let text = format!(in alloc; "line {line}: not carried: {words}")?;
     report.write_to_both(alloc, Weight::NotCarried, text.as_str())
 }
 
@@ -372,7 +391,7 @@ pub(crate) fn report_piece<E: Write, T: Write>(
 ) -> Result<(), ConversionFault> {
     match fate {
         Fate::Blank => Ok(()),
-        Fate::Other => report_other(alloc, place, report),
+        Fate::Other => report_other(alloc, place, piece, report),
         Fate::Long => {
             report_refused(
                 alloc,

@@ -6,7 +6,7 @@ ghost use Rattle.contact_csv.specs.Contacts.{IsReady};
 
 use crate::content::Content;
 use card_conversion::{
-    CardSink, ConversionFault, Course, MediaSink, Report, convert_contacts_under,
+    CardSink, ConversionFault, Course, ExportText, MediaSink, Report, convert_contacts_under,
     convert_more_cards, convert_more_exports,
 };
 use contact_columns::RowText;
@@ -49,7 +49,7 @@ pub(crate) fn convert_to<R: Read + Drop, O: CardSink, P: MediaSink, E: Write, T:
 {
     match content {
         Content::Export => {
-            let rows = ExportRows::new(alloc, reader);
+            let rows = ExportRows::new(alloc, ExportText::new(alloc, reader));
             convert_more_exports(alloc, course, rows, sink, media, report)
         }
         Content::Contacts(header) => {

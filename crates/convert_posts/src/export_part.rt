@@ -11,6 +11,7 @@ use crate::frame::{Frame, finished_part, open_part, small_part};
 use crate::part::{Dates, Kind, Part};
 use crate::row_cut::{RowKind, cut_rows, header_len};
 use base_types::{NoMemory, Text};
+use card_conversion::ExportText;
 use csv_cards::{ExportRow, ExportRows};
 use import_text::{is_card, split_piece};
 use std::alloc::Global;
@@ -37,7 +38,7 @@ fn add_starts(starts: &mut Vec<u64>, row: &ExportRow) -> Result<(), NoMemory> {
 /// For each card in the rows of a text the number of line feeds before it. Rows that can't be read
 /// have none.
 fn starts_in(alloc: Global, text: &[u8]) -> Result<Vec<u64>, NoMemory> {
-    let mut rows = ExportRows::new(alloc, text);
+    let mut rows = ExportRows::new(alloc, ExportText::new(alloc, text));
     let mut starts = Vec::new(alloc);
     for _row in 0..u64::MAX {
         match rows.next_row(alloc) {
@@ -74,7 +75,7 @@ fn convert_cut(
     if let Some(part) = small_part(alloc, frame, cut)? {
         return Ok(Some(part));
     }
-    let rows = ExportRows::new(alloc, text);
+    let rows = ExportRows::new(alloc, ExportText::new(alloc, text));
     match convert_exports(alloc, rows, frame.origin, starts.as_slice())? {
         Some(converted) => {
             let columns = Text::copy_of(alloc, "")?;

@@ -5,6 +5,7 @@ use crate::card_cut::front;
 use crate::cut::{Cut, Front, PIECE_OCTETS_MAX, PIECES_MAX, count_feeds};
 use crate::weight::{card_weight, row_weight, scan_weight};
 use base_types::NoMemory;
+use card_conversion::{ExportEnd, export_row_end};
 use contact_columns::{RowEnd, row_end};
 use std::alloc::Global;
 
@@ -13,7 +14,7 @@ use std::alloc::Global;
 pub(crate) enum RowKind {
     /// As those of contacts, with this delimiter and this number of cells of the header.
     Contacts(u8, usize),
-    /// As those of an export: a line feed in quotes ends no row.
+    /// As those of an export: a line feed in quotes ends no row, unless the next line begins one.
     Export,
 }
 
@@ -26,17 +27,10 @@ struct RowLen {
 
 /// The number of octets of the first row of an export, with its end; `None` if it doesn't end.
 fn export_row_len(text: &[u8]) -> Option<usize> {
-    let mut is_quoted = false;
-    let mut len: usize = 0;
-    for octet in text {
-        len = len.saturating_add(1);
-        if *octet == b'"' {
-            is_quoted = !is_quoted;
-        } else if *octet == b'\n' && !is_quoted {
-            return Some(len);
-        }
+    match export_row_end(text) {
+        ExportEnd::At(len) | ExportEnd::Unclosed(len) | ExportEnd::Broken(len) => Some(len),
+        ExportEnd::Open | ExportEnd::OpenBroken => None,
     }
-    None
 }
 
 /// The number of octets of the first row of contacts; `None` if it doesn't end. `is_last` says that
