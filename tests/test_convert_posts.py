@@ -365,6 +365,18 @@ class Refused(ConvertTest):
             self.assertEqual((422, 35), (status, value["number"]), octets)
             self.assertIn(words, value["text"])
 
+    def test_a_later_part_may_begin_with_any_octets(self):
+        """The first part of a file shows its format; a later one may begin with text or a row."""
+        one, two = old_card(1, "NOTE:" + "x" * HEAD_OCTETS), old_card(2)
+        for front in [b"[]\n", b"<html>\n", b"BEGIN:VCALENDAR\n", b"%PDF-1.7\n", b"\xff\xfe\n", b"dn: a\n"]:
+            with self.subTest(front):
+                parts = self.compare(one + front + two, "cards.vcf", [len(one) + 1])
+                self.assertEqual([1, 1], [part["written"] for part in parts])
+        rows = b"".join(b"Ann %d,a%d@x.test\n" % (number, number) for number in range(2))
+        for front in b"<none>,Name,Email\n", b"[],Name,Email\n":
+            parts = self.compare(front + b"<none>," + rows.replace(b"\n", b"\n[],")[:-3], "a.csv")
+            self.assertEqual([2], [part["written"] for part in parts])
+
     def test_wrong_columns_are_told(self):
         octets = (GOOGLE + "Ann,a@x.test,,,\n").encode()
         for columns, words in [

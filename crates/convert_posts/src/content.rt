@@ -6,11 +6,11 @@ use crate::contact_part::header_octets;
 use crate::cut::PIECE_OCTETS_MAX;
 use crate::unconverted::Unconverted;
 use base_types::NoMemory;
-use card_conversion::{foreign_format, is_quoted_export};
+use card_conversion::{foreign_format, foreign_text, has_card, is_quoted_export, is_utf32};
 use contact_columns::{are_numbers, has_row_form, rows_end_with_returns, wish_fault};
 use contact_csv::{Header, find_header};
 use csv_cards::is_export;
-use import_text::{begins_with_word, is_card, split_piece};
+use import_text::begins_with_word;
 use std::alloc::Global;
 
 /// The most octets among which a header is.
@@ -189,20 +189,21 @@ fn header_fault(
     Ok(line_fault(cells, entries_of(header.wished)))
 }
 
-/// Whether a card begins somewhere among the octets.
-fn has_card(octets: &[u8]) -> bool {
-    let (piece, after) = split_piece(octets);
-    is_card(piece) || !after.is_empty()
-}
-
 /// Whether all octets are white space, perhaps after a byte order mark.
 fn is_blank(octets: &[u8]) -> bool {
     let text = octets.strip_prefix(b"\xEF\xBB\xBF").unwrap_or(octets);
     text.iter().all(|octet| octet.is_ascii_whitespace())
 }
 
-/// Why a body isn't converted, whatever is asked: its format.
-fn format_fault(body: &[u8]) -> Option<&'static str> {
+/// Why a body isn't converted, whatever is asked of its columns: the format of a file that begins
+/// with it. A later part may begin with any octets.
+fn format_fault(asked: &Asked, body: &[u8]) -> Option<&'static str> {
+    if asked.line > 1 {
+        return None;
+    }
+    if is_utf32(body) {
+        return Some("text in UTF-32; send it in UTF-8");
+    }
     if body.starts_with(b"\xFF\xFE") || body.starts_with(b"\xFE\xFF") {
         return Some("text in UTF-16; send it in UTF-8");
     }
@@ -270,6 +271,20 @@ fn contacts_in<'a>(alloc: Global, asked: &'a Asked, body: &[u8]) -> Result<Conte
     }
 }
 
+/// What such a body has. If it is a file's first part, has neither contacts nor cards, and nothing
+/// is said of columns, the words are those for what it begins with, if this is known.
+fn texts_in<'a>(alloc: Global, asked: &'a Asked, body: &[u8]) -> Result<Content<'a>, NoMemory> {
+    let found = contacts_in(alloc, asked, body)?;
+    let is_none = matches!(found, Content::None(_));
+    if !is_none || asked.line > 1 || !asked.columns.is_empty() {
+        return Ok(found);
+    }
+    match foreign_text(front(body, FRONT_OCTETS)) {
+        Some(words) => Ok(Content::None(NotContent::Foreign(words))),
+        None => Ok(found),
+    }
+}
+
 /// Whether a body that begins with these octets has rows of cards.
 fn is_of_rows(head: &[u8]) -> bool {
     is_export(head) || is_quoted_export(head)
@@ -281,13 +296,13 @@ pub(crate) fn content_of<'a>(
     asked: &'a Asked,
     body: &[u8],
 ) -> Result<Content<'a>, NoMemory> {
-    if let Some(words) = format_fault(body) {
+    if let Some(words) = format_fault(asked, body) {
         return Ok(Content::None(NotContent::Foreign(words)));
     }
     let text = body.strip_prefix(b"\xEF\xBB\xBF").unwrap_or(body);
     let is_of_rows = is_of_rows(front(body, HEAD_OCTETS));
     if !is_of_rows && !begins_with_word(text, b"BEGIN:VCARD") {
-        return contacts_in(alloc, asked, body);
+        return texts_in(alloc, asked, body);
     }
     if !asked.columns.is_empty() {
         Ok(Content::None(NotContent::NoColumns))
