@@ -299,7 +299,6 @@ class Convert(OrderTest):
     def test_what_is_not_carried(self):
         ann = text(card("4.0", "UID:a", "FN:Ann"))
         for title, octets, written, line in [
-            ("no octet", "", 0, ""),
             ("blank lines between cards", "\n\n" + ann + "\r\n \n", 1, ""),
             ("words between cards", ann + "words\nmore\n" + ann.replace("UID:a", "UID:b"), 2,
              "line 6: not carried: no card begins here"),
@@ -316,6 +315,36 @@ class Convert(OrderTest):
                 self.assertEqual(int(refused), ended.status)
                 self.assertEqual(written, len(rows_of(ended.out)))
                 self.assertTrue(ended.out.startswith(HEAD))
+
+    def test_nothing_to_carry(self):
+        """A file in which nothing is may be a failed export."""
+        nothing = b"nothing was converted: there are no cards and no contacts\n"
+        for octets in b"", b"\r\n \n", b"\xef\xbb\xbf":
+            self.assertEqual(Ended(1, HEAD, nothing + report([], 0, 0, 0)), self.convert(octets))
+
+    def test_what_has_no_text(self):
+        (self.folder / "old").mkdir()
+        self.assertEqual(b"fault device 1: old is a folder; convert the files in it\n",
+                         run("convert", "old", cwd=self.folder).err)
+        self.assertEqual(b"fault device 1: - can't be read; standard input is /dev/stdin\n",
+                         run("convert", "-", cwd=self.folder).err)
+        octets = text(card("4.0", "UID:a", "FN:Ann"))
+        for encoding in "utf-32", "utf-32-le", "utf-32-be":
+            ended = self.convert(octets.encode(encoding))
+            self.assertEqual(3, ended.status)
+            self.assertIn(b"cards.vcf is in UTF-32; make UTF-8 of it", ended.err)
+
+    def test_cards_after_text_of_another_format(self):
+        """Text of another format before a card is text that is no card, and refuses no file."""
+        ann = text(card("4.0", "UID:a", "FN:Ann"))
+        line = "line 1: not carried: no card begins here"
+        for front in ["<!-- saved -->\n", "<!DOCTYPE html>\r\n<pre>\r\n", "<?xml version='1.0'?>\n",
+                      "[]\n", "[\n", '{"a": 1}\n', "\n<html>\n",
+                      "BEGIN:VCALENDAR\r\nVERSION:2.0\r\nEND:VCALENDAR\r\n"]:
+            with self.subTest(front):
+                ended = self.convert((front + ann).encode())
+                self.assertEqual((1, report([line], 1, 0, 1)), (ended.status, ended.err))
+                self.assertEqual(["a"], [row[0] for row in rows_of(ended.out)])
 
     def test_a_line_of_a_million_parameters(self):
         """It isn't carried, in 60 MB of memory; 65,536 semicolons are, and the cards around it."""

@@ -188,8 +188,11 @@ class ConvertContacts(OrderTest):
                 self.assertEqual(ended, self.convert(coded))
 
     def test_no_row(self):
-        ended = self.convert(csv_text([OUTLOOK_HEAD]).encode())
-        self.assertEqual(Ended(0, HEAD, numbers(0, 0, 0, 0).encode()), ended)
+        """A file in which nothing is may be a failed export."""
+        nothing = "nothing was converted: there are no cards and no contacts\n"
+        for octets in csv_text([OUTLOOK_HEAD]).encode(), b"uid,vcard\n":
+            ended = self.convert(octets)
+            self.assertEqual(Ended(1, HEAD, (nothing + numbers(0, 0, 0, 0)).encode()), ended)
 
     def test_a_row_that_is_too_long(self):
         long = ["Ann", *[""] * 7, "x" * 262_144, ""]
@@ -290,7 +293,7 @@ class ConvertContacts(OrderTest):
     def test_headers_of_an_export(self):
         for title, octets, refused in [
             ("a row that is no card", b"uid,vcard\na,b\n", 1),
-            ("a byte order mark", b"\xef\xbb\xbfuid,vcard\r\n", 0),
+            ("a byte order mark", b"\xef\xbb\xbfuid,vcard\r\na,b\r\n", 1),
         ]:
             with self.subTest(title):
                 ended = self.convert(octets)
@@ -394,9 +397,6 @@ class ConvertContacts(OrderTest):
                 self.assertEqual((1, report), (ended.status, ended.err.decode()))
                 self.assertEqual(["Bob"], self.names(ended))
 
-    def test_lines_of_rows(self):
-        """A row is told with its own line: not with that of an empty one before it."""
-        lines = ["First Name,E-mail Address,Shoe,Notes", "", "", 'A,,1,"a\nb"', "", "B,,2,",
     def test_a_date_of_google_that_is_not_read(self):
         """It is told as one, and not as a change of form."""
         ended = self.convert(b"First Name,E-mail 1 - Value,Event 1 - Label,Event 1 - Value\n"
@@ -416,6 +416,9 @@ class ConvertContacts(OrderTest):
                 self.assertEqual((0, numbers(2, 0, 0, 0)), (ended.status, ended.err.decode()))
                 self.assertEqual(["Ann", "Bob"], self.names(ended))
 
+    def test_lines_of_rows(self):
+        """A row is told with its own line: not with that of an empty one before it."""
+        lines = ["First Name,E-mail Address,Shoe,Notes", "", "", 'A,,1,"a\nb"', "", "B,,2,",
                  'C,,3,"x', "D,,4,"]
         kept = "the cell of Shoe kept as X-SHOE"
         report = digest([f"row 1, line 4: {kept}", f"row 2, line 7: {kept}",
@@ -640,6 +643,17 @@ class ConvertContacts(OrderTest):
             for name in "a.csv", "a.vcf":
                 ended = self.convert(octets, name=name)
                 self.assertEqual(Ended(3, b"", f"fault device 1: {name} is {words}\n".encode()), ended)
+
+    def test_a_table_that_begins_as_another_format(self):
+        """A cell like a tag or an empty list is no sign of HTML or JSON."""
+        for cell in "<none>", "<a>", "[]":
+            with self.subTest(cell):
+                ended = self.convert(f"{cell},Name,Email\n1,Ann,a@x.test\n".encode())
+                self.assertEqual((0, ["Ann"]), (ended.status, self.names(ended)))
+                ended = self.convert(f"{cell},Ann,a@x.test\n".encode(), "--columns", "#2=fn,#3=email")
+                self.assertEqual((0, ["Ann"]), (ended.status, self.names(ended)))
+        ended = self.convert(b"<none>,Ann,a@x.test\n")
+        self.assertIn(b" has no header of contacts that is known", ended.err)
 
     def test_random_rows(self):
         """Cells with quotes, commas and line ends are those that Python's csv reads."""

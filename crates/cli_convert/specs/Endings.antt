@@ -1,6 +1,6 @@
 -- How the order `convert` ends, and what it writes to standard output.
 use Rattle.std.specs.Prelude.{ℕ, ◌≡◌, ◌||◌, ◌&&◌, ◌==◌, Bool, not, List, []}
-use Rattle.std.specs.Prelude.{Option, IfSome, IsTrue, is_some, if◌then◌else◌}
+use Rattle.std.specs.Prelude.{Option, IfSome, IsTrue, is_some, nat_lt, if◌then◌else◌}
 use Rattle.vcard_lines.specs.declared.line.Line.{Line}
 use Rattle.card_conversion.specs.Accounts.{WritesRows}
 use Rattle.card_conversion.specs.Courses.{AllHaveFates, Part, cards_of_all, summary_of_all}
@@ -11,9 +11,10 @@ use Rattle.cli_convert.specs.FileTexts.{ArePartsOf}
 use Rattle.cli_convert.specs.declared.options.ConvertOptions.{ConvertOptions}
 
 -- The exit status of a conversion that didn't stop: 0 if all was carried, and 1 if something
--- wasn't, or if a photo was lost that was to be written beside its card.
+-- wasn't, if no card was written, or if a photo was lost that was to be written beside its card.
 abbrev pub status_of : Bool → Summary → ℕ
-status_of lost summary = if summary.refused == 0 && not lost then 0 else 1
+status_of lost summary =
+    if summary.refused == 0 && nat_lt 0 summary.written && not lost then 0 else 1
 
 -- rows go to standard output: no folder and no bound is given
 abbrev pub prints_rows : ConvertOptions → Bool

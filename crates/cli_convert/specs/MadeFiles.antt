@@ -5,8 +5,8 @@ use Rattle.std.specs.Prelude.{◌≡◌, ℕ, List, [], Option, IfSome}
 abbrev pub IsEmpty : Option (List ℕ) → Type 0
 IsEmpty written = IfSome written (λ octets. octets ≡ [])
 
--- A file was made at the path, and exactly these octets were written to it, as far as is known.
--- `place` is where a file was made, and `written` what was written to it.
+-- A file was made at the path, and once exactly these octets were written to it, as far as is
+-- known. `place` is where a file was made, and `written` what was written to it.
 pub record IsMade {T : Type 0} (place written : T → Option (List ℕ)) (path octets : List ℕ) : Type 0
   where
     pub file : T

@@ -19,7 +19,8 @@ impl<'a, F: FileSystem> CardSink for CardFiles<'a, F> {
     ghost use Rattle.std.specs.Prelude.{◌≡◌};
     ghost use Rattle.cli_convert.specs.CardFolders.{IsCardFile};
 
-    // A card is written to a file of its own, with its canonical text and nothing else.
+    // A file is made for the card, and its canonical text is written to it: once exactly this text
+    // was in it.
     ghost writes = { λ card before after. (after ≡ before)
         × IsCardFile (F.place before.files.now) (F.written before.files.now) before.folder.now
         card };

@@ -46,7 +46,7 @@ fn without_bom(octets: &[u8]) -> &[u8]
 }
 
 /// Whether a text that begins with these octets is taken for cards.
-fn is_card_head(head: &[u8]) -> bool
+pub(crate) fn is_card_head(head: &[u8]) -> bool
     ensures { result ≡ is_card_head head.now }
 {
     !is_export(head) && begins_with_word(without_bom(head), b"BEGIN:VCARD")

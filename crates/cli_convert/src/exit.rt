@@ -49,6 +49,17 @@ pub(crate) fn unreadable(alloc: Global, file: &str) -> ConvertStop {
     }
 }
 
+/// The stop for a file that can't be opened. `-` is no name of standard input here.
+pub(crate) fn unopened(alloc: Global, file: &str) -> ConvertStop {
+    if file != "-" {
+        return unreadable(alloc, file);
+    }
+    match format!(in alloc; "- can't be read; standard input is /dev/stdin") {
+        Ok(words) => ConvertStop::Device(Text::new(words)),
+        Err(_) => ConvertStop::Memory,
+    }
+}
+
 /// The words for a file of rows whose header isn't known.
 fn header_words(alloc: Global, file: &str, head: &[u8]) -> Result<String, NoMemory> {
     let names = unknown_columns(alloc, head)?;
@@ -155,9 +166,9 @@ fn report_stop<E: Write>(alloc: Global, stop: &ConvertStop, errors: &mut E) {
     };
 }
 
-/// Reports a stop, and returns the exit status: 0 if all was carried, 1 if something wasn't, and 3
-/// for a stop. `photos` says that photos are to be written beside their cards, and `lost` that one
-/// of them wasn't.
+/// Reports a stop, and returns the exit status: 0 if all was carried, 1 if something wasn't, or if
+/// there was nothing, and 3 for a stop. `photos` says that photos are to be written beside their
+/// cards, and `lost` that one of them wasn't.
 pub(crate) fn end<E: Write>(
     alloc: Global,
     done: Result<Summary, ConvertStop>,
@@ -170,7 +181,7 @@ pub(crate) fn end<E: Write>(
         (λ summary. result ≡ status_of (photos && lost) summary) (λ _. result ≡ 3) }
 {
     match done {
-        Ok(summary) if summary.refused == 0 && !(photos && lost) => 0,
+        Ok(summary) if summary.refused == 0 && summary.written > 0 && !(photos && lost) => 0,
         Ok(_) => 1,
         Err(stop) => {
             report_stop(alloc, &stop, errors);

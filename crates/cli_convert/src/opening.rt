@@ -8,14 +8,14 @@ ghost use Rattle.cli_convert.specs.declared.charset_reader.Encoding.TheVariants.
 ghost use Rattle.cli_convert.specs.declared.content.Content.TheVariants.{Cards};
 
 use crate::charset_reader::{CharsetReader, Encoding, encoding_named};
-use crate::content::{Content, HEAD_OCTETS, HeadFault, content_of, read_head};
+use crate::content::{Content, HEAD_OCTETS, HeadFault, content_of, is_card_head, read_head};
 use crate::exit::{
-    ConvertStop, foreign_file, open_dates, unknown_charset, unknown_header, unreadable,
+    ConvertStop, foreign_file, open_dates, unknown_charset, unknown_header, unopened, unreadable,
     wrong_columns,
 };
 use crate::file_system::FileSystem;
 use crate::options::ConvertOptions;
-use card_conversion::foreign_format;
+use card_conversion::{foreign_format, foreign_text, is_utf32};
 use contact_columns::{DateOrder, Header, RowText, made_header, read_date_order, wish_fault};
 use import_text::TextReader;
 use std::alloc::Global;
@@ -23,6 +23,9 @@ use std::io::{Chain, ErrorKind, Read};
 
 /// The number of octets from which it is known how a file is decoded.
 const FRONT_OCTETS: usize = 64;
+
+/// What a file in UTF-32 is, and what to do with it.
+const UTF32_WORDS: &str = "in UTF-32; make UTF-8 of it, as by iconv -f UTF-32 -t UTF-8";
 
 /// The first octets of what is read from the path.
 fn head_of<R: Read>(
@@ -66,10 +69,16 @@ pub(crate) fn open_file<F: FileSystem>(
     ensures { IfOk result (λ opened. ReadsHead 64 (F.octets files.now path.now)
         (F.Source.remaining opened.1) opened.0.items) }
 {
+    if files.is_folder(path) {
+        return Err(foreign_file(alloc, path, "a folder; convert the files in it"));
+    }
     let Ok(mut file) = files.open(path) else {
-        return Err(unreadable(alloc, path));
+        return Err(unopened(alloc, path));
     };
     let front = head_of(alloc, path, &mut file, FRONT_OCTETS)?;
+    if is_utf32(front.as_slice()) {
+        return Err(foreign_file(alloc, path, UTF32_WORDS));
+    }
     Ok((front, file))
 }
 
@@ -113,6 +122,9 @@ pub(crate) fn wanted_encoding(
     }
 }
 
+/// What is wrong with columns of a file of cards.
+const NO_COLUMNS: &str = "the file has cards, and no columns";
+
 /// Fails if columns are given that the file doesn't have, or that can't be read.
 fn check_columns(
     alloc: Global,
@@ -122,9 +134,36 @@ fn check_columns(
     if wanted.columns.is_empty() {
         return Ok(());
     }
+    if is_card_head(head) {
+        return Err(wrong_columns(alloc, wanted.file, NO_COLUMNS));
+    }
     match wish_fault(alloc, head, wanted.columns)? {
         Some(words) => Err(wrong_columns(alloc, wanted.file, words.as_str())),
         None => Ok(()),
+    }
+}
+
+/// Fails if the file has no contacts, and isn't converted for what it begins with, or since
+/// something is said of its columns.
+fn check_text(
+    alloc: Global,
+    wanted: ConvertOptions<'_>,
+    content: Content<'_>,
+    head: &[u8],
+) -> Result<(), ConvertStop> {
+    let path = wanted.file;
+    let is_of_rows = matches!(content, Content::OtherRows);
+    if wanted.columns.is_empty() {
+        if let Some(words) = foreign_text(head) {
+            return Err(foreign_file(alloc, path, words));
+        }
+    } else if !is_of_rows {
+        return Err(wrong_columns(alloc, path, NO_COLUMNS));
+    }
+    if is_of_rows {
+        Err(unknown_header(alloc, path, head))
+    } else {
+        Ok(())
     }
 }
 
@@ -146,12 +185,11 @@ pub(crate) fn read_content<'a, R: Read>(
     }
     check_columns(alloc, wanted, head.as_slice())?;
     match content_of(alloc, path, head.as_slice(), wanted.columns)? {
-        Content::OtherRows => Err(unknown_header(alloc, path, head.as_slice())),
         Content::Contacts(header) => Ok((head, Content::Contacts(header))),
-        _ if !wanted.columns.is_empty() => {
-            Err(wrong_columns(alloc, path, "the file has cards, and no columns"))
+        content => {
+            check_text(alloc, wanted, content, head.as_slice())?;
+            Ok((head, content))
         }
-        content => Ok((head, content)),
     }
 }
 

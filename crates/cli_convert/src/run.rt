@@ -86,6 +86,20 @@ fn report_left_out<E: Write, T: Write>(
     }
 }
 
+/// Says that there was nothing to carry, if there was nothing.
+fn report_nothing<E: Write, T: Write>(
+    summary: Summary,
+    report: &mut Report<E, T>,
+) -> Result<(), ConvertStop> {
+    if summary.written > 0 || summary.refused > 0 {
+        return Ok(());
+    }
+    match report.say("nothing was converted: there are no cards and no contacts\n") {
+        Ok(()) => Ok(()),
+        Err(_) => Err(ConvertStop::Report),
+    }
+}
+
 /// Writes the end of the report. `files` is the number of files that were made, if the cards went
 /// to files.
 fn report_end<E: Write, T: Write>(
@@ -95,6 +109,7 @@ fn report_end<E: Write, T: Write>(
     files: Option<u64>,
     report: &mut Report<E, T>,
 ) -> Result<(), ConvertStop> {
+    report_nothing(summary, report)?;
     match report.finish(alloc, summary, files) {
         Ok(()) => Ok(()),
         Err(fault) => Err(stop_of(alloc, fault, wanted.file)),
@@ -241,7 +256,8 @@ fn convert<F: FileSystem, W: Write, E: Write>(
 /// file if one is wanted.
 ///
 /// Returns the exit status of the program: 0 if all was carried, 1 if something wasn't, or a photo
-/// that was to be written beside its card, and 3 if the conversion stopped: a file, a folder,
+/// that was to be written beside its card, or if there was nothing to carry, and 3 if the
+/// conversion stopped: a file, a folder,
 /// standard output or standard error can't be used, or there is no memory. It is only tested what
 /// becomes of files, a folder and standard error, and of standard output if the conversion stopped,
 /// and that nothing is written before each file was opened.
@@ -259,8 +275,8 @@ pub fn run_convert<F: FileSystem, W: Write, E: Write + Drop>(
     // are those of pieces that together are its whole text. Of rows no clause says that they are
     // the file's own. Each piece or row has its fate after all before it; that a row which counts
     // as a repeat is the same contact as the earlier one is only tested. The status is 0 if the
-    // summary counts none as refused, and otherwise 1. With `photos` it may also be 1 where that
-    // says 0: no clause says when a photo is lost.
+    // summary counts some as written and none as refused, and otherwise 1. With `photos` it may
+    // also be 1 where that says 0: no clause says when a photo is lost.
 
     // A conversion to standard output that didn't stop wrote one header and a row for each card
     // that was carried, and nothing else. They are read back as these cards, of which no two have
@@ -270,8 +286,9 @@ pub fn run_convert<F: FileSystem, W: Write, E: Write + Drop>(
         (W.contents rows.old.writer) (W.contents rows.new.writer)) result }
 
     // A conversion to a file for each card that didn't stop made a file in the folder for each card
-    // that was carried, with its canonical text and nothing else, where something is known of new
-    // files. A file that was there stays as it is: no call of a file system changes one.
+    // that was carried, and wrote its canonical text to it, where something is known of new files:
+    // once exactly this text was in it. That nothing was written after it is only tested. A file
+    // that was there stays as it is: no call of a file system changes one.
     ensures filled { result < 3 → IfSome wanted.entry.folder (λ folder.
         IsTrue (is_for_cards wanted.entry) → Ends (is_some wanted.entry.photos)
         (FillsFolder (F.place files.now) (F.written files.now) folder.now
