@@ -419,25 +419,6 @@ class ConvertContacts(OrderTest):
     def test_lines_of_rows(self):
         """A row is told with its own line: not with that of an empty one before it."""
         lines = ["First Name,E-mail Address,Shoe,Notes", "", "", 'A,,1,"a\nb"', "", "B,,2,",
-    def test_a_date_of_google_that_is_not_read(self):
-        """It is told as one, and not as a change of form."""
-        ended = self.convert(b"First Name,E-mail 1 - Value,Event 1 - Label,Event 1 - Value\n"
-                             b"Pat,p@x.test,Anniversary,31.04.1980\n")
-        told = "the cell of Event 1 - Value kept as text: its day, month or year isn't certain"
-        report = digest([f"row 1, line 2: {told}"], 1, 1, 0)
-        self.assertEqual((0, report), (ended.status, ended.err.decode()))
-        [card] = rows_of(ended.out)
-        self.assertIn("ANNIVERSARY;VALUE=text:31.04.1980", self.lines(card))
-
-    def test_empty_cells_beyond_the_header(self):
-        """They lose nothing, also in a row of several lines."""
-        header = "First Name,E-mail Address,Notes\n"
-        for row in "Ann,a@x.test,n,\n", "Ann,a@x.test,n,, ,\n", 'Ann,a@x.test,"n\nm",,\n':
-            with self.subTest(row):
-                ended = self.convert((header + row + "Bob,,\n").encode())
-                self.assertEqual((0, numbers(2, 0, 0, 0)), (ended.status, ended.err.decode()))
-                self.assertEqual(["Ann", "Bob"], self.names(ended))
-
                  'C,,3,"x', "D,,4,"]
         kept = "the cell of Shoe kept as X-SHOE"
         report = digest([f"row 1, line 4: {kept}", f"row 2, line 7: {kept}",
