@@ -301,7 +301,7 @@ KNOWN_HEADERS = [
         "Salesforce: the salutation is another column",
         "Salutation,First Name,Last Name,Suffix,Title,Company,Mailing City,Phone\n"
         "Ms.,Ann,Lee,Jr.,CEO,Acme,Town,1\n",
-        ["FN:Ann Lee Jr.", "N:Lee;Ann;;;Jr.", "ORG:Acme", "TEL:1", "TITLE:CEO"],
+        ["ADR:;;;Town;;;", "FN:Ann Lee Jr.", "N:Lee;Ann;;;Jr.", "ORG:Acme", "TEL:1", "TITLE:CEO"],
     ),
     (
         "Outlook: a prefix beside a suffix",

@@ -230,7 +230,7 @@ class ConvertColumns(OrderTest):
         self.refused("Name,Phonetic First Name,E-mail privat\nAnn,An,a@x.test\n", "E-mail privat",
                      "E-mail privat=email")
         ended = self.convert("Name,Phone,Mailing City\nAnn,1,Town\n")
-        self.assertEqual((0, ["FN:Ann", "TEL:1", "X-MAILING-CITY:Town"]),
+        self.assertEqual((0, ["ADR:;;;Town;;;", "FN:Ann", "TEL:1"]),
                          (ended.status, self.lines(ended)))
 
     def test_properties_in_any_case(self):

@@ -370,7 +370,7 @@ class Refused(ConvertTest):
         one, two = old_card(1, "NOTE:" + "x" * HEAD_OCTETS), old_card(2)
         for front in [b"[]\n", b"<html>\n", b"BEGIN:VCALENDAR\n", b"%PDF-1.7\n", b"\xff\xfe\n", b"dn: a\n"]:
             with self.subTest(front):
-                parts = self.compare(one + front + two, "cards.vcf", [len(one) + 1])
+                parts = self.compare(one + front + two, "cards.vcf", [len(one + front)])
                 self.assertEqual([1, 1], [part["written"] for part in parts])
         rows = b"".join(b"Ann %d,a%d@x.test\n" % (number, number) for number in range(2))
         for front in b"<none>,Name,Email\n", b"[],Name,Email\n":
