@@ -1,1 +1,0 @@
-"""The forms of phone books, one a file: what a maker's phones read."""

@@ -1,1 +1,0 @@
-"""A read-only LDAP directory of an office's books."""

@@ -1,1 +1,0 @@
-"""What the commands `tosculai` and `follow` are made of, and copies in a folder."""

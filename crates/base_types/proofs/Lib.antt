@@ -1,3 +1,0 @@
-pub mod BoolLemmas
-pub mod TextLemmas
-pub mod TextMapLemmas

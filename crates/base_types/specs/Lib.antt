@@ -1,2 +1,0 @@
-pub mod Octets
-pub mod TextMaps

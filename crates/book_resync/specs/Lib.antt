@@ -1,3 +1,0 @@
-pub mod Resyncing
-pub mod ResyncCalls
-pub mod ResyncLaws

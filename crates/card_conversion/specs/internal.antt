@@ -1,3 +1,0 @@
-pub mod PieceReaders
-pub mod States
-pub mod ContactStates

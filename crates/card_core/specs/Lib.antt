@@ -1,3 +1,0 @@
-pub mod FaultTexts
-pub mod Groups
-pub mod internal

@@ -1,3 +1,0 @@
-pub mod SubcommandLemmas
-pub mod ValueLemmas
-pub mod MatchLemmas

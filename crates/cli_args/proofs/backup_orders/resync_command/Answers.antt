@@ -1,6 +1,0 @@
-use Rattle.cli_args.specs.Subcommands as lines
-use Rattle.cli_args.proofs.backup_orders.resync_command.Goals as goal
-
-pub returns : goal.returns
-returns c = c.order_command.ensures lines.resync_command.rules (rw c.in_ok-from_array.ensures.items
-    (c.file_arg.ensures, (c.skip_option.ensures, tt)))

@@ -1,4 +1,0 @@
-pub mod HostNames
-pub mod Subcommands
-pub mod ParsedOrders
-pub mod WorkedLines

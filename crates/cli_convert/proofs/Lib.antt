@@ -1,6 +1,0 @@
-pub mod DoesLemmas
-mod EndLemmas
-pub mod FolderLemmas
-pub mod HeadLemmas
-pub mod StatusLemmas
-pub mod TextLemmas

@@ -1,2 +1,0 @@
-mod FieldLemmas
-pub mod TextLemmas

@@ -1,5 +1,0 @@
-mod CarryLemmas
-mod KeepLemmas
-mod ResultLemmas
-mod RowLemmas
-mod TextLemmas

@@ -1,9 +1,0 @@
--- Tests of texts.
-use Rattle.std.proofs.Common.{◌≡◌, Bool, ◌||◌, List, [], ◌∷◌, map, refl, ap}
-use Rattle.std.specs.List.{list_any}
-
--- a test of what the elements are
-pub any_mapped : {X Y : Type 0} (p : Y → Bool) (h : X → Y) (xs : List X)
-    → list_any p (map h xs) ≡ list_any (λ x. p (h x)) xs
-any_mapped p h [] = refl
-any_mapped p h (x ∷ xs) = ap (λ b. p (h x) || b) (any_mapped p h xs)

@@ -1,2 +1,0 @@
-pub mod Carets
-pub mod Labels

@@ -1,3 +1,0 @@
-mod FloatLemmas
-mod PartLemmas
-mod RowLemmas

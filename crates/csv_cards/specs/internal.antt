@@ -1,4 +1,0 @@
-pub mod ReaderState
-pub mod LineEnds
-pub mod RowCauses
-pub mod WriterState

@@ -1,9 +1,0 @@
-pub mod HandledRequests
-pub mod FedPieces
-pub mod Links
-pub mod Hubs
-pub mod Holdings
-pub mod PlaceCounts
-pub mod HubRuns
-pub mod PieceRequests
-pub mod BoundedHubs

@@ -1,2 +1,0 @@
-pub mod HeadScans
-pub mod Progress

@@ -1,9 +1,0 @@
-pub mod Routes
-pub mod RouteFaults
-pub mod Paths
-pub mod RouterRows
-pub mod Actions
-pub mod Queries
-pub mod Commands
-pub mod WorkedPaths
-pub mod internal

@@ -1,9 +1,0 @@
-pub mod Encodings
-pub mod Pieces
-pub mod PieceLaws
-pub mod QuotedPrintable
-pub mod RawLines
-pub mod Units
-pub mod Readers
-pub mod Texts
-pub mod internal

@@ -1,4 +1,0 @@
-pub mod ConnectionLemmas
-pub mod RestartLemmas
-pub mod SealedLemmas
-pub mod NothingLemmas

@@ -1,5 +1,0 @@
-pub mod FileCalls
-pub mod Connections
-pub mod FileOpenings
-pub mod Restarts
-pub mod Leftovers

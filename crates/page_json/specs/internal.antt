@@ -1,2 +1,0 @@
-pub mod ParsedTexts
-pub mod WrittenTokens

@@ -1,9 +1,0 @@
-use Rattle.std.proofs.Common.{codes, refl}
-use Rattle.request_log.proofs.endpoint.LoggedEndpointEndpoint.write.Goals as goal
-
-pub note-requires : goal.note-requires
-note-requires g c = record {
-  words = codes "a connection failed while it was written";
-  line_is = refl;
-  printable = refl;
-}

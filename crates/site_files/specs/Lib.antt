@@ -1,4 +1,0 @@
-pub mod MediaTypes
-pub mod Sites
-pub mod SiteReplies
-pub mod SiteHandlers

@@ -1,4 +1,0 @@
-pub mod BooksWithout
-pub mod CopiedRows
-pub mod OnConnections
-pub mod RowsWithout

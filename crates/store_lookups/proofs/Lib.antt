@@ -1,4 +1,0 @@
-pub mod ReadLemmas
-pub mod FindLemmas
-pub mod StoreFaultLemmas
-pub mod ChangeFaultLemmas

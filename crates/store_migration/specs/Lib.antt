@@ -1,4 +1,0 @@
-pub mod InitialKeeps
-pub mod Migration
-pub mod OnConnections
-pub mod internal

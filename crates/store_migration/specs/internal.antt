@@ -1,4 +1,0 @@
-pub mod FirstRows
-pub mod MigrationPlans
-pub mod MigrationWrites
-pub mod OnConnections

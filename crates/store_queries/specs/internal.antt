@@ -1,2 +1,0 @@
-pub mod RowLists
-pub mod QuerySteps

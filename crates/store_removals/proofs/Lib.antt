@@ -1,4 +1,0 @@
-pub mod CountLemmas
-pub mod RemoveLemmas
-pub mod MoveLemmas
-pub mod FaultLemmas

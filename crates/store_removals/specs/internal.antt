@@ -1,3 +1,0 @@
-pub mod Removals
-pub mod Moves
-pub mod OnConnections

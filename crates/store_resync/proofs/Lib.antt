@@ -1,4 +1,0 @@
-mod ListLemmas
-mod StageLemmas
-mod BooksLemmas
-mod PlanLemmas

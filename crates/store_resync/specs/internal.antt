@@ -1,4 +1,0 @@
-pub mod Plans
-pub mod Stages
-pub mod Changes
-pub mod OnConnections

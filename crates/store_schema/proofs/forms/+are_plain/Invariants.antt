@@ -1,5 +1,0 @@
-use Rattle.std.proofs.Common.{length}
-use Rattle.store_schema.proofs.forms.+are_plain.Given as goal
-
-abbrev pub decreases-are_plain : goal.decreases-are_plain
-decreases-are_plain l = length l.keys.now

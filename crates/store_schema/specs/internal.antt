@@ -1,3 +1,0 @@
-pub mod SchemaTests
-pub mod StatedNumber
-pub mod MetaCursor

@@ -1,4 +1,0 @@
-pub mod TableChanges
-pub mod AcceptedChanges
-pub mod OnConnections
-pub mod internal

@@ -1,3 +1,0 @@
-pub mod SpellingLemmas
-pub mod PrefixLemmas
-pub mod CardLemmas

@@ -1,2 +1,0 @@
-pub mod FoldingLoop
-pub mod UnescapeLoop

@@ -1,4 +1,0 @@
-pub mod ProperLemmas
-pub mod SameLemmas
-pub mod MadeLemmas
-pub mod NameLemmas

@@ -1,4 +1,0 @@
-pub mod BreakLoop
-pub mod RewriteLoop
-pub mod UriNames
-pub mod MarkLoop

@@ -1,3 +1,0 @@
-#!/bin/sh
-# @SAID@
-exec /usr/bin/python3 -B @PREFIX@/share/tosculai/@SCRIPT@ "$@"
