@@ -831,6 +831,25 @@ CARDS = [
          "line 8: ANNIVERSARY rewritten", "line 9: BDAY rewritten"],
     ),
     of_ann(
+        "a day that the calendar hasn't is a text as it stands, also 29 February of a year without it; "
+        "a REV has no texts (RFC 6350, section 6.7.4) and stays",
+        "3.0",
+        ["BDAY:1996-99-99", "ANNIVERSARY:19970229", "BDAY;VALUE=date:1997-02-29",
+         "BDAY:1900-02-29T10:22:30Z", "BDAY:--0431", "ANNIVERSARY:1996-04-00",
+         "BDAY;X-APPLE-OMIT-YEAR=1604:16040230", "BDAY:0000-02-30", "REV:1997-02-29T10:22:30Z",
+         "BDAY:2000-02-29", "BDAY:--02-29", "ANNIVERSARY:1996-02-29T10:22:30Z"],
+        ["BDAY;VALUE=text:1996-99-99", "ANNIVERSARY;VALUE=text:19970229",
+         "BDAY;VALUE=text:1997-02-29", "BDAY;VALUE=text:1900-02-29T10:22:30Z",
+         "BDAY;VALUE=text:--0431", "ANNIVERSARY;VALUE=text:1996-04-00",
+         "BDAY;X-APPLE-OMIT-YEAR=1604;VALUE=text:16040230", "BDAY;VALUE=text:0000-02-30",
+         "REV:1997-02-29T10:22:30Z", "BDAY:20000229", "BDAY:--0229",
+         "ANNIVERSARY:19960229T102230Z"],
+        [f"line {line}: {name} rewritten" for line, name in (
+            (5, "BDAY"), (6, "ANNIVERSARY"), (7, "BDAY"), (8, "BDAY"), (9, "BDAY"),
+            (10, "ANNIVERSARY"), (11, "BDAY"), (12, "BDAY"), (14, "BDAY"), (15, "BDAY"),
+            (16, "ANNIVERSARY"))],
+    ),
+    of_ann(
         "the forms of RFC 6350, section 4.3, are dates, and so are those without a day or a year",
         "2.1",
         ["BDAY:19800415", "BDAY:1980-04", "BDAY:1980", "BDAY:--0415", "BDAY:--04", "BDAY:---15",

@@ -346,6 +346,26 @@ class Convert(OrderTest):
                 self.assertEqual((1, report([line], 1, 0, 1)), (ended.status, ended.err))
                 self.assertEqual(["a"], [row[0] for row in rows_of(ended.out)])
 
+    def test_cards_after_a_megabyte_of_another_format(self):
+        """They are carried. A file that goes on after its head is refused only if no card comes in
+        it."""
+        ann = text(card("4.0", "UID:a", "FN:Ann"))
+        line = "line 1: not carried: no card begins here"
+        for front, kind in [
+            ("BEGIN:VCALENDAR\r\n" + "BEGIN:VEVENT\r\nEND:VEVENT\r\n" * 60_000, "a calendar"),
+            ('[{"a": 1},\n' + '{"a": 2},\n' * 150_000, "JSON"),
+            ("<html>\n" + "<p>a</p>\n" * 150_000, "XML or HTML"),
+        ]:
+            with self.subTest(kind):
+                ended = self.convert((front + ann).encode())
+                self.assertEqual((1, report([line], 1, 0, 1)), (ended.status, ended.err))
+                self.assertEqual(["a"], [row[0] for row in rows_of(ended.out)])
+                ended = self.convert(front.encode())
+                words = f"cards.vcf is {kind}; export the contacts as vCard or CSV"
+                self.assertEqual((3, f"{line}\nfault device 1: {words}\n".encode()),
+                                 (ended.status, ended.err))
+                self.assertEqual([], rows_of(ended.out))
+
     def test_a_line_of_a_million_parameters(self):
         """It isn't carried, in 60 MB of memory; 65,536 semicolons are, and the cards around it."""
         ann, bob = (text(card("3.0", f"UID:{name}", f"FN:{name}")) for name in ("Ann", "Bob"))

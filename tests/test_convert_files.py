@@ -389,30 +389,50 @@ class ConvertFiles(OrderTest):
                     self.assertNotIn("\ufffd", ended.out.decode())
 
     def test_wrong_quotes_in_rows_of_cards(self):
-        """Only their own row is lost, which is told with its lines; if just the last quote of a card
-        is missing, the card is carried."""
+        """A card is carried to its END, whatever its quotes, and those that are wrong are told. If a
+        quote may have cut a card, only its own row is lost, which is told with its lines."""
         for end in "\r\n", "\n":
             def row(uid, old="", new=""):
                 lines = [f'{uid},"BEGIN:VCARD', "VERSION:4.0", f"UID:{uid}", f"FN:{uid}", "END:VCARD",
                          '"', ""]
                 return end.join(lines).replace(old, new) if old else end.join(lines)
             last = f'END:VCARD{end}"{end}'
-            for wrong, status, uids, lost in [
-                (row("b", last, f"END:VCARD{end}"), 0, "abc", 0),
-                (row("b", "FN:b", 'FN:b "Bo"'), 1, "ac", 6),
-                (row("b", "FN:b", 'FN:b 5" pipe'), 1, "ac", 6),
-                (row("b", "b,", '"b,'), 1, "ac", 6),
-                (row("b", "FN:b", 'FN:b ""Bo""'), 0, "abc", 0),
+            missing = row("b", last, f"END:VCARD{end}")
+            inch = row("b", "FN:b", 'FN:b 5", thick')
+            mended = "card 2, line 8: a quote in the row is missing, or isn't doubled\n"
+            for wrong, name, told in [
+                (missing, "b", mended),
+                (row("b", "FN:b", 'FN:b "Bo"'), 'b "Bo"', mended),
+                (row('"b"', "FN:\"b\"", 'FN:b 5" pipe').replace('UID:"b"', "UID:b"), 'b 5" pipe', mended),
+                (inch, 'b 5", thick', mended),
+                (row("b", "FN:b", 'FN:b 5"'), 'b 5"', mended),
+                (row("b", "FN:b", 'FN:b","c'), 'b","c', mended),
+                (missing.replace("FN:b", 'FN:b 5"'), 'b 5"', mended),
+                (row("b", "FN:b", 'FN:b ""Bo""'), 'b "Bo"', ""),
+                (row("b", f'{end}"', '"'), "b", ""),
+                (row("b", "b,", '"b,'), None, 6),
+                (inch.replace(f"END:VCARD{end}", ""), None, 5),
+                (row("b", last, f'END:VCARD{end}"x{end}'), None, 6),
             ]:
-                with self.subTest(wrong):
-                    self.write(a_csv=(f"uid,vcard{end}" + row("a") + wrong + row("c")).encode())
-                    ended = self.convert("a.csv")
-                    self.assertEqual(list(uids), [it[0] for it in rows_of(ended.out)])
-                    told = (f"line 8: not carried: a quote isn't closed in its row, and {lost} lines "
-                            "are lost with it\n") if lost else ""
-                    told += f"look first at: {told}" if lost else ""
-                    told += numbers(len(uids), 0, 0, status)
-                    self.assertEqual((status, told), (ended.status, ended.err.decode()))
+                for after in row("c"), "":
+                    with self.subTest(wrong, end=end, after=after):
+                        self.write(a_csv=(f"uid,vcard{end}" + row("a") + wrong + after).encode())
+                        ended = self.convert("a.csv")
+                        status = int(name is None)
+                        if status:
+                            lost = (f"line 8: not carried: a quote isn't closed in its row, and {told} "
+                                    "lines are lost with it\n")
+                        else:
+                            lost = told
+                        carried = ["a", *([] if status else ["b"]), *(["c"] if after else [])]
+                        names = ["a", *([] if status else [name]), *(["c"] if after else [])]
+                        given = rows_of(ended.out)
+                        self.assertEqual(carried, [it[0] for it in given])
+                        self.assertEqual(names, [line[3:] for it in given for line in
+                                                 it[1].splitlines() if line.startswith("FN:")])
+                        lost += f"look first at: {lost}" if lost else ""
+                        lost += numbers(len(carried), 0, 0, status)
+                        self.assertEqual((status, lost), (ended.status, ended.err.decode()))
         self.write(a_csv=('uid,vcard\na,"b"c\n').encode())
         ended = self.convert("a.csv")
         self.assertIn(b"line 2: not carried: a quote isn't closed in its row\n", ended.err)

@@ -62,8 +62,8 @@ module _ {State : Type 0} (does : HandlerRelation State) (fault_reply : FaultRep
     pub serves : FeedsInput input left output written old new (Some held)
     pub in_pieces : IsInPieces serves.octets count
 
-  -- It was served so far. Then a piece was read and fed, and the writer failed: a prefix
-  -- of the replies to the piece was written.
+  -- It was served so far. Then a piece was read and fed, and the writer failed: a prefix of the
+  -- replies to the piece was written.
   pub record FailsToWrite (input left output written : Option (List ℕ)) (old new : State)
       : Type 0 where
     pub between : Option (List ℕ)

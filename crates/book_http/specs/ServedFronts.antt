@@ -58,8 +58,7 @@ module _ {S : Type 0} (model : StoreModel S) (front : FrontRelation) where
   abbrev pub FrontedSiteStep : HandlerRelation (ServerState S)
   FrontedSiteStep = guarded (with_front front (with_site (ServiceStep model)))
 
-  -- Each connection is sent the replies to its own requests. Each request of the front's got a
-  -- reply
+  -- Each connection is sent the replies to its own requests. Each request of the front's got a reply
   -- that the front may give. The other requests of all connections, in the order of the pieces that
   -- complete them, are one run of the service, with these replies.
   pub record RunsBehindFront

@@ -29,10 +29,8 @@ pub record RunsHandled (now : SystemState) (handled : List HandledRequest) (book
   pub devices_are : (end_of now run).devices ≡ now.devices
 
 module _ {S : Type 0} (model : StoreModel S) (does : HandlerRelation S) where
-  -- Each connection is sent the replies to its own requests, and after them that of a refusal, if
-  -- it
-  -- was refused. The requests of all connections, in the order of the pieces that complete them,
-  -- are
+  -- Each connection is sent the replies to its own requests, and after them that of a refusal, if it
+  -- was refused. The requests of all connections, in the order of the pieces that complete them, are
   -- one run of the service, with these replies.
   pub record RunsForEach
       (now : SystemState) (limit : ℕ) (old : S) (steps : List HubStep) (new : S)

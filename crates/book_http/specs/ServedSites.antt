@@ -47,8 +47,7 @@ module _ {S : Type 0} (model : StoreModel S) where
   abbrev pub ServerStep : HandlerRelation (ServerState S)
   ServerStep = guarded (with_site (ServiceStep model))
 
-  -- Each connection is sent the replies to its own requests. Each request for a file of the site
-  -- got
+  -- Each connection is sent the replies to its own requests. Each request for a file of the site got
   -- the site's reply. The other requests of all connections, in the order of the pieces that
   -- complete them, are one run of the service, with these replies.
   pub record RunsBesideSite

@@ -1,3 +1,4 @@
 pub mod Resyncing
 pub mod ResyncCalls
 pub mod ResyncLaws
+pub mod Resyncs

@@ -4,5 +4,8 @@
 //! if its number is below the new one.
 #![tactic(auto)]
 
+mod admin_store;
 pub mod decisions;
 pub mod laws;
+
+pub use admin_store::AdminStore;

@@ -16,7 +16,7 @@ use Rattle.book_resync.specs.Resyncing.{accept_books, books_after_resync, resync
 use Rattle.book_resync.specs.ResyncLaws.{IsResync}
 use Rattle.sync_core.specs.StoreModels.{StoreModel}
 use Rattle.sync_core.specs.StoreCrashes.{IsAfterStep, IsSettled}
-use Rattle.admin_store.specs.Resyncs.{some_pairs}
+use Rattle.book_resync.specs.Resyncs.{some_pairs}
 use Rattle.book_commands.specs.declared.reply.Reply.{Reply}
 use Rattle.book_service.specs.declared.event.Event.{Event}
 use Rattle.book_service.specs.Crashes.{LedTo, LivedTo}

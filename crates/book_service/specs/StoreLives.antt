@@ -6,7 +6,7 @@ use Rattle.book_model.specs.Books.{Books}
 use Rattle.book_model.specs.Devices.{DeviceState}
 use Rattle.sync_core.specs.StoreModels.{StoreModel}
 use Rattle.sync_core.specs.StoreCrashes.{IsSettled, RestartsFrom}
-use Rattle.admin_store.specs.Resyncs.{Resyncs}
+use Rattle.book_resync.specs.Resyncs.{Resyncs}
 use Rattle.book_commands.specs.declared.reply.Reply.{Reply}
 use Rattle.book_service.specs.declared.event.Event.{Event}
 use Rattle.book_service.specs.Crashes.{LivesOn}

@@ -1,7 +1,7 @@
 //! The calls that only administrators need.
 use crate::files::FileBooks;
-use admin_store::AdminStore;
 use book_model::Denied;
+use book_resync::AdminStore;
 
 // Of the store over files alone. While it was of a store over any `Alter`, the prover stopped at
 // its limit where the program calls a function over any `AdminStore`.

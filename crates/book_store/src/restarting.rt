@@ -114,9 +114,9 @@ impl<D: Crash + Drop> SqlStore<FileStore<D>> {
     }
 }
 
-/// Opens a store from what an opening that failed left of its files, after one more crash. It has
-/// the books that a crash of the store before them may leave, however many openings failed since.
-/// It fails as `open_again` does.
+/// Opens a store from what an opening that failed left of its files, after one more crash. If the
+/// two facts of `IsTold` hold of each opening that failed, it has books that a crash of the store
+/// before them may leave, however many these openings were. It fails as `open_again` does.
 pub fn open_left<D: Crash + Drop>(
     alloc: Global,
     left: Leftover<D>,

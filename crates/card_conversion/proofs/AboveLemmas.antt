@@ -7,11 +7,11 @@ use Rattle.contact_columns.specs.declared.columns.Column.{Column}
 use Rattle.card_conversion.specs.AboveLines.{rows_above, with_lines_above}
 use Rattle.card_conversion.specs.ContactFates.{RowEntry, HaveFates, cards_of, summary_after}
 use Rattle.card_conversion.specs.ContactFates.{uids_of}
-use Rattle.card_conversion.specs.Counts.{with_refused}
+use Rattle.convert_report.specs.Counts.{with_refused}
 use Rattle.card_conversion.specs.Courses.{ConvertsPart, Knows, counts_of, of_rows}
 use Rattle.card_conversion.specs.Deliveries.{WritesInTurn}
 use Rattle.card_conversion.specs.declared.course.Course.{Course}
-use Rattle.card_conversion.specs.declared.ledger.Summary.{Summary}
+use Rattle.convert_report.specs.declared.ledger.Summary.{Summary}
 
 above_fates : (columns : List Column) (uids : List (List ℕ)) (lines : List AboveLine) (entries :
     List RowEntry) → HaveFates columns uids entries

@@ -14,11 +14,11 @@ use Rattle.base_types.specs.TextMaps.{text_cmp}
 use Rattle.contact_csv.specs.declared.row_fault.RowFault.{RowFault}
 use Rattle.vcard_lines.specs.declared.line.Line.{Line}
 use Rattle.vcard_text.specs.Cards.{IsCard, uid_of}
-use Rattle.vcard_import.specs.declared.conversion.Conversion.{Conversion}
+use Rattle.vcard_changes.specs.declared.conversion.Conversion.{Conversion}
 use Rattle.card_conversion.specs.Deliveries.{HasUids, WritesInTurn}
-use Rattle.card_conversion.specs.Counts.{nothing_counted}
+use Rattle.convert_report.specs.Counts.{nothing_counted}
 use Rattle.card_conversion.specs.declared.course.Course.{Course}
-use Rattle.card_conversion.specs.declared.ledger.Summary.{Summary}
+use Rattle.convert_report.specs.declared.ledger.Summary.{Summary}
 use Rattle.card_conversion.specs.Courses.{ConvertsRows, counts_of}
 use Rattle.std.proofs.lemmas.Grind.{fold-append}
 use Rattle.contact_csv.specs.Contacts.{BecomesContact, IsReady, columns_of, rows_of}

@@ -8,7 +8,7 @@ use Rattle.vcard_text.specs.Cards.{IsCard, uid_of}
 use Rattle.csv_cards.specs.Reading.{TextHasCards}
 use Rattle.csv_cards.specs.Writing.{csv_text}
 use Rattle.csv_cards.specs.declared.form.Form.TheVariants.{Cards}
-use Rattle.card_conversion.specs.declared.ledger.Summary.{Summary}
+use Rattle.convert_report.specs.declared.ledger.Summary.{Summary}
 use Rattle.card_conversion.specs.RowTexts.{card_row_text, header_row_text}
 use Rattle.card_conversion.proofs.RowLemmas.{rows_written}
 use Rattle.contact_csv.specs.declared.rows.ContactReader.{ContactReader}

@@ -3,14 +3,15 @@ use Rattle.std.proofs.Common.{◌≡◌, ◌∷◌, ◌++◌, [], ℕ, List, ref
 use Rattle.std.proofs.Common.{append-nil}
 use Rattle.std.proofs.lemmas.Grind.{flat_map-append, fold-append}
 use Rattle.vcard_lines.specs.declared.line.Line.{Line}
-use Rattle.card_conversion.specs.Counts.{counted, summary_after}
+use Rattle.convert_report.specs.Counts.{counted}
+use Rattle.card_conversion.specs.Counts.{summary_after}
 use Rattle.card_conversion.specs.Courses.{ConvertsTexts, Knows, counts_of}
 use Rattle.card_conversion.specs.Deliveries.{HasUids, WritesInTurn}
 use Rattle.card_conversion.specs.Fates.{Entry, HaveFates, cards_of, cards_of_fate, uids_of}
 use Rattle.card_conversion.specs.Fates.{uids_of_fate}
 use Rattle.card_conversion.specs.declared.course.Course.{Course}
-use Rattle.card_conversion.specs.declared.fate.Fate.{Fate}
-use Rattle.card_conversion.specs.declared.ledger.Summary.{Summary}
+use Rattle.convert_report.specs.declared.fate.Fate.{Fate}
+use Rattle.convert_report.specs.declared.ledger.Summary.{Summary}
 use Rattle.card_conversion.specs.internal.States.{TakesPiece}
 use Rattle.card_conversion.proofs.ProgressLemmas.{more_written}
 

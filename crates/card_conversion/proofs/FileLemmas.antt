@@ -8,7 +8,7 @@ use Rattle.card_conversion.specs.Courses.{ConvertsPieces}
 use Rattle.card_conversion.specs.Cuts.{AreCutOff}
 use Rattle.card_conversion.specs.Fates.{octets_of, pieces_of}
 use Rattle.card_conversion.specs.declared.course.Course.{Course}
-use Rattle.card_conversion.specs.declared.ledger.Summary.{Summary}
+use Rattle.convert_report.specs.declared.ledger.Summary.{Summary}
 
 -- what is known of the octets that a reader gives is known of the file, where its octets are known
 pub of_file : {A : Type 0} (writes : List Line → A → A → Type 0) (text : List ℕ

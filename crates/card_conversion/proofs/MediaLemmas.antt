@@ -6,7 +6,7 @@ use Rattle.std.proofs.lemmas.List.{take_more}
 use Rattle.import_text.specs.declared.raw_line.RawLine.{RawLine}
 use Rattle.vcard_values.specs.Media.{media_octets}
 use Rattle.card_conversion.specs.Media.{PutsLine, PutsLines}
-use Rattle.card_conversion.specs.declared.media_sink.MediaDelivery.{MediaDelivery}
+use Rattle.convert_report.specs.declared.media_delivery.MediaDelivery.{MediaDelivery}
 
 module _ {A : Type 0} (takes : List ℕ → A → A → Type 0) where
   -- what one more line has in it was put after that of others

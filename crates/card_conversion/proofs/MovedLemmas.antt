@@ -11,8 +11,8 @@ use Rattle.vcard_lines.specs.declared.fault.CardFault.TheVariants.{Memory}
 use Rattle.vcard_text.specs.Cards.{IsCard, IsProperLine, line_is_named, uid_of}
 use Rattle.vcard_text.specs.Making.{upper_line, upper_lines}
 use Rattle.vcard_text.specs.Cards.{canonical_text}
-use Rattle.vcard_import.specs.DerivedUid.{derived_uid}
-use Rattle.vcard_import.specs.declared.conversion.Conversion.{Conversion}
+use Rattle.vcard_changes.specs.DerivedUid.{derived_uid}
+use Rattle.vcard_changes.specs.declared.conversion.Conversion.{Conversion}
 use Rattle.card_conversion.specs.Moved.{left_out_text, line_under, lines_under, own_uid}
 
 upper_stays : (line : Line) → line.name ≡ str_to_ascii_uppercase line.name → upper_line line ≡ line

@@ -12,22 +12,23 @@ use Rattle.std.proofs.lemmas.List.Kept.{AllPairs-cons}
 use Rattle.base_types.specs.TextMaps.{text_cmp}
 use Rattle.vcard_lines.specs.declared.line.Line.{Line}
 use Rattle.vcard_text.specs.Cards.{IsCard, uid_of}
-use Rattle.card_conversion.specs.declared.fate.Fate.{Fate}
+use Rattle.convert_report.specs.declared.fate.Fate.{Fate}
 use Rattle.card_conversion.specs.declared.piece_reader.PieceReader.{PieceReader}
-use Rattle.card_conversion.specs.declared.fate.Fate.TheVariants.{Blank, Other, Long, Overfull}
-use Rattle.card_conversion.specs.declared.fate.Fate.TheVariants.{Refused, Repeated, Crowded}
-use Rattle.card_conversion.specs.declared.fate.Fate.TheVariants.{Declined, Written, Moved}
+use Rattle.convert_report.specs.declared.fate.Fate.TheVariants.{Blank, Other, Long, Overfull}
+use Rattle.convert_report.specs.declared.fate.Fate.TheVariants.{Refused, Repeated, Crowded}
+use Rattle.convert_report.specs.declared.fate.Fate.TheVariants.{Declined, Written, Moved}
 use Rattle.card_conversion.specs.Accounts.{ConvertsAll}
-use Rattle.card_conversion.specs.Counts.{counted, nothing_counted, summary_after}
+use Rattle.convert_report.specs.Counts.{counted, nothing_counted}
+use Rattle.card_conversion.specs.Counts.{summary_after}
 use Rattle.card_conversion.specs.declared.course.Course.{Course}
-use Rattle.card_conversion.specs.declared.ledger.Summary.{Summary}
+use Rattle.convert_report.specs.declared.ledger.Summary.{Summary}
 use Rattle.card_conversion.specs.Courses.{ConvertsPieces, counts_of}
 use Rattle.std.proofs.lemmas.Grind.{fold-append}
 use Rattle.card_conversion.specs.Deliveries.{HasUids, WritesInTurn}
 use Rattle.card_conversion.specs.Fates.{Entry, HaveFates, IsFate, cards_of, cards_of_fate}
 use Rattle.card_conversion.specs.Fates.{octets_of, pieces_of, uids_of, uids_of_fate}
 use Rattle.card_conversion.specs.Moved.{own_uid}
-use Rattle.vcard_import.specs.declared.conversion.Conversion.{Conversion}
+use Rattle.vcard_changes.specs.declared.conversion.Conversion.{Conversion}
 use Rattle.card_conversion.specs.internal.PieceReaders.{AreCutFrom, HasEnded, IsCutFrom, left_of}
 use Rattle.card_conversion.specs.internal.States.{Progress, TakesPiece}
 use Rattle.std.proofs.lemmas.List.{map-append}

@@ -10,7 +10,7 @@ use Rattle.csv_cards.specs.Reading.{TextHasCards}
 use Rattle.csv_cards.specs.Writing.{csv_text}
 use Rattle.csv_cards.specs.declared.form.Form.TheVariants.{Cards}
 use Rattle.card_conversion.specs.Accounts.{ConvertsAll, ConvertsToRows, WritesRows}
-use Rattle.card_conversion.specs.declared.ledger.Summary.{Summary}
+use Rattle.convert_report.specs.declared.ledger.Summary.{Summary}
 use Rattle.card_conversion.specs.Deliveries.{WritesInTurn}
 use Rattle.card_conversion.specs.Fates.{cards_of}
 use Rattle.card_conversion.specs.RowTexts.{card_row_text, header_row_text}

@@ -2,11 +2,11 @@
 use Rattle.std.specs.Prelude.{ℕ, List, [], ◌∷◌, ◌++◌, Option, fold}
 use Rattle.vcard_lines.specs.declared.line.Line.{Line}
 use Rattle.card_conversion.specs.ContactFates.{RowEntry}
-use Rattle.card_conversion.specs.Counts.{with_refused}
+use Rattle.convert_report.specs.Counts.{with_refused}
 use Rattle.card_conversion.specs.Courses.{ConvertsPart, ReadsAll, of_rows}
 use Rattle.card_conversion.specs.declared.contacts.fate.RowFate.TheVariants.{Refused}
 use Rattle.card_conversion.specs.declared.course.Course.{Course}
-use Rattle.card_conversion.specs.declared.ledger.Summary.{Summary}
+use Rattle.convert_report.specs.declared.ledger.Summary.{Summary}
 use Rattle.contact_columns.specs.declared.above.AboveLine.{AboveLine}
 use Rattle.contact_columns.specs.declared.above.AboveLine.TheVariants.{Blank, Note, Row}
 use Rattle.contact_csv.specs.Contacts.{columns_of}

@@ -10,7 +10,7 @@ use Rattle.vcard_text.specs.Cards.{IsCard, uid_of}
 use Rattle.card_conversion.specs.Cuts.{AreCutOff}
 use Rattle.card_conversion.specs.Fates.{Entry, HaveFates, cards_of, octets_of, pieces_of}
 use Rattle.card_conversion.specs.Counts.{summary_of}
-use Rattle.card_conversion.specs.declared.ledger.Summary.{Summary}
+use Rattle.convert_report.specs.declared.ledger.Summary.{Summary}
 use Rattle.card_conversion.specs.Deliveries.{WritesInTurn}
 
 -- The pieces are all octets of the input, in order, each as it is cut off what the ones before it

@@ -7,7 +7,7 @@ use Rattle.vcard_lines.specs.declared.line.Line.{Line}
 use Rattle.vcard_text.specs.Cards.{IsCard, uid_of}
 use Rattle.card_conversion.specs.Accounts.{WritesRows}
 use Rattle.card_conversion.specs.Deliveries.{WritesInTurn}
-use Rattle.card_conversion.specs.declared.ledger.Summary.{Summary}
+use Rattle.convert_report.specs.declared.ledger.Summary.{Summary}
 use Rattle.contact_csv.specs.Contacts.{columns_of, rows_of}
 use Rattle.contact_csv.specs.declared.rows.ContactReader.{ContactReader}
 use Rattle.card_conversion.specs.ContactFates.{RowEntry, HaveFates, cards_of, summary_of}

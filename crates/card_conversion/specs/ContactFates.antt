@@ -3,9 +3,9 @@ use Rattle.std.specs.Prelude.{ℕ, List, [], ◌∷◌, ◌++◌, flat_map, fold
 use Rattle.std.specs.List.{Contains}
 use Rattle.vcard_lines.specs.declared.line.Line.{Line}
 use Rattle.vcard_text.specs.Cards.{IsCard, uid_of}
-use Rattle.vcard_import.specs.declared.conversion.Conversion.{Conversion}
-use Rattle.card_conversion.specs.Counts.{nothing_counted, with_refused, with_written}
-use Rattle.card_conversion.specs.declared.ledger.Summary.{Summary}
+use Rattle.vcard_changes.specs.declared.conversion.Conversion.{Conversion}
+use Rattle.convert_report.specs.Counts.{nothing_counted, with_refused, with_written}
+use Rattle.convert_report.specs.declared.ledger.Summary.{Summary}
 use Rattle.contact_csv.specs.Contacts.{IsContact, IsFaulty}
 use Rattle.contact_csv.specs.declared.row_fault.RowFault.{RowFault}
 use Rattle.contact_csv.specs.declared.row_fault.RowFault.TheVariants as row

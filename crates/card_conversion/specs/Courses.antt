@@ -9,13 +9,13 @@ use Rattle.contact_csv.specs.declared.rows.ContactReader.{ContactReader}
 use Rattle.card_conversion.specs.ContactAccounts.{ReadsInTurn}
 use Rattle.card_conversion.specs.ContactFates as contacts
 use Rattle.card_conversion.specs.Counts as pieces
-use Rattle.card_conversion.specs.Counts.{nothing_counted}
+use Rattle.convert_report.specs.Counts.{nothing_counted}
 use Rattle.card_conversion.specs.Cuts.{AreCutOff}
 use Rattle.card_conversion.specs.Deliveries.{HasUids, WritesInTurn}
 use Rattle.card_conversion.specs.Fates.{Entry}
 use Rattle.card_conversion.specs.Fates as fates
 use Rattle.card_conversion.specs.declared.course.Course.{Course}
-use Rattle.card_conversion.specs.declared.ledger.Summary.{Summary}
+use Rattle.convert_report.specs.declared.ledger.Summary.{Summary}
 
 -- the UIDs that are known
 abbrev pub Knows : Course → List (List ℕ) → Type 0

@@ -10,11 +10,11 @@ use Rattle.vcard_text.specs.Cards.{IsCard, uid_of}
 use Rattle.vcard_text.specs.Spelling.{Spells, without_bom}
 use Rattle.vcard_import.specs.Conversions.{IsConverted, IsRefused, LeavesOutIfLong}
 use Rattle.card_conversion.specs.Moved.{IsMoved, lines_under, own_uid}
-use Rattle.vcard_import.specs.declared.conversion.Conversion.{Conversion}
-use Rattle.card_conversion.specs.declared.fate.Fate.{Fate}
-use Rattle.card_conversion.specs.declared.fate.Fate.TheVariants.{Blank, Other, Long, Overfull, Refused}
-use Rattle.card_conversion.specs.declared.fate.Fate.TheVariants.{Repeated, Crowded, Declined}
-use Rattle.card_conversion.specs.declared.fate.Fate.TheVariants.{Written, Moved}
+use Rattle.vcard_changes.specs.declared.conversion.Conversion.{Conversion}
+use Rattle.convert_report.specs.declared.fate.Fate.{Fate}
+use Rattle.convert_report.specs.declared.fate.Fate.TheVariants.{Blank, Other, Long, Overfull, Refused}
+use Rattle.convert_report.specs.declared.fate.Fate.TheVariants.{Repeated, Crowded, Declined}
+use Rattle.convert_report.specs.declared.fate.Fate.TheVariants.{Written, Moved}
 
 -- a space, a tab, a carriage return or a line feed
 abbrev pub is_white : ℕ → Bool

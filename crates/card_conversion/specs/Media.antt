@@ -4,15 +4,15 @@ use Rattle.std.specs.Prelude.{ℕ, ◌≡◌, ◌⊎◌, ⊤, List, [], ◌∷�
 use Rattle.import_text.specs.declared.raw_line.RawLine.{RawLine}
 use Rattle.vcard_text.specs.Cards.{uid_of}
 use Rattle.vcard_import.specs.Conversions.{left_out_lines}
-use Rattle.vcard_import.specs.declared.change.Change.{Change}
+use Rattle.vcard_changes.specs.declared.change.Change.{Change}
 use Rattle.vcard_values.specs.Media.{media_octets}
-use Rattle.card_conversion.specs.declared.fate.Fate.{Fate}
-use Rattle.card_conversion.specs.declared.fate.Fate.TheVariants.{Blank, Other, Long, Overfull}
-use Rattle.card_conversion.specs.declared.fate.Fate.TheVariants.{Refused, Repeated, Crowded}
-use Rattle.card_conversion.specs.declared.fate.Fate.TheVariants.{Declined}
-use Rattle.card_conversion.specs.declared.fate.Fate.TheVariants as fate
-use Rattle.card_conversion.specs.declared.media_sink.MediaDelivery.{MediaDelivery}
-use Rattle.card_conversion.specs.declared.media_sink.MediaDelivery.TheVariants as delivery
+use Rattle.convert_report.specs.declared.fate.Fate.{Fate}
+use Rattle.convert_report.specs.declared.fate.Fate.TheVariants.{Blank, Other, Long, Overfull}
+use Rattle.convert_report.specs.declared.fate.Fate.TheVariants.{Refused, Repeated, Crowded}
+use Rattle.convert_report.specs.declared.fate.Fate.TheVariants.{Declined}
+use Rattle.convert_report.specs.declared.fate.Fate.TheVariants as fate
+use Rattle.convert_report.specs.declared.media_delivery.MediaDelivery.{MediaDelivery}
+use Rattle.convert_report.specs.declared.media_delivery.MediaDelivery.TheVariants as delivery
 
 -- what became of one: it was written, or it was refused and the sink is unchanged
 abbrev pub Puts : {A : Type 0} → (A → A → Type 0) → MediaDelivery → A → A → Type 0

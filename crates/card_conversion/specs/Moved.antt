@@ -5,11 +5,11 @@ use Rattle.base_types.specs.Octets.{line_feed}
 use Rattle.import_text.specs.declared.raw_line.RawLine.{RawLine}
 use Rattle.vcard_import.specs.Conversions.{left_out_lines}
 use Rattle.vcard_import.specs.LeftOut.{has_left_out, is_left_out}
-use Rattle.vcard_import.specs.declared.change.Change.{Change}
+use Rattle.vcard_changes.specs.declared.change.Change.{Change}
 use Rattle.vcard_lines.specs.declared.line.Line.{Line}
 use Rattle.vcard_text.specs.Cards.{IsCard, canonical_text, line_is_named}
-use Rattle.vcard_import.specs.DerivedUid.{derived_uid}
-use Rattle.vcard_import.specs.declared.conversion.Conversion.{Conversion}
+use Rattle.vcard_changes.specs.DerivedUid.{derived_uid}
+use Rattle.vcard_changes.specs.declared.conversion.Conversion.{Conversion}
 
 -- the logical line, with a line feed after it
 abbrev pub ended_line : RawLine → List ℕ

@@ -3,8 +3,9 @@ ghost use Rattle.std.specs.Prelude.{◌≡◌, IfOk, List};
 ghost use Rattle.vcard_lines.specs.declared.line.Line.{Line};
 ghost use Rattle.card_conversion.specs.Deliveries.{Delivers};
 
-use base_types::{NoMemory, Text};
-use std::alloc::{AllocError, Global};
+use base_types::Text;
+use convert_report::SinkFault;
+use std::alloc::Global;
 use vcard_text::Card;
 
 /// What became of a card at a sink.
@@ -14,27 +15,6 @@ pub enum Delivery {
     Written,
     /// The sink can't take it and wrote nothing, for a reason in words.
     Refused(Text),
-}
-
-/// Why a sink takes no more cards.
-#[derive(Drop)]
-pub enum SinkFault {
-    /// An allocation failed.
-    Memory,
-    /// It couldn't write, in words.
-    Failed(Text),
-}
-
-impl From<NoMemory> for SinkFault {
-    fn from(_error: NoMemory) -> SinkFault {
-        SinkFault::Memory
-    }
-}
-
-impl From<AllocError> for SinkFault {
-    fn from(_error: AllocError) -> SinkFault {
-        SinkFault::Memory
-    }
 }
 
 /// Where converted cards go: rows to a writer, or files.

@@ -2,7 +2,7 @@
 ghost use Rattle.std.specs.Prelude.{◌<◌, IfOk, length};
 ghost use Rattle.std.specs.Io.KnownBytes.{Consumes, IsAtEnd};
 
-use crate::fault::{ConversionFault, read_fault};
+use convert_report::{ConversionFault, read_fault};
 use import_text::fill;
 use std::alloc::Global;
 use std::io::Read;

@@ -1,10 +1,10 @@
 //! `Course`: what is known of the cards that were converted so far, of one file or of several.
 ghost use Rattle.std.specs.Prelude.{◌≡◌, []};
-ghost use Rattle.card_conversion.specs.Counts.{nothing_counted};
+ghost use Rattle.convert_report.specs.Counts.{nothing_counted};
 ghost use Rattle.card_conversion.specs.Courses.{Knows, counts_of};
 
-use crate::ledger::{Ledger, Summary};
 use base_types::TextMap;
+use convert_report::{Ledger, Summary};
 use std::alloc::Global;
 
 /// What is known of the cards that were converted so far, of one file or of several: their UIDs,
@@ -36,5 +36,11 @@ impl Course {
         ensures { result ≡ counts_of self.now }
     {
         self.ledger.summary
+    }
+
+    /// The number that the next card gets in the report. It is one more after each text that begins
+    /// as a card, whatever became of it.
+    pub fn next_card(&self) -> u64 {
+        self.ledger.place.card
     }
 }

@@ -4,8 +4,8 @@ ghost use Rattle.card_conversion.specs.Deliveries.{ComesTo, HasUids};
 ghost use Rattle.card_conversion.specs.internal.States.{IsAdmitted};
 
 use crate::card_sink::{CardSink, Delivery};
-use crate::fault::ConversionFault;
 use base_types::{NoMemory, Text, TextMap};
+use convert_report::ConversionFault;
 use std::alloc::Global;
 use vcard_text::Card;
 

@@ -4,15 +4,19 @@ ghost use Rattle.card_conversion.specs.Courses.{ConvertsTexts, Knows};
 
 use crate::card_sink::CardSink;
 use crate::course::Course;
-use crate::fault::{ConversionFault, read_fault};
 use crate::media_sink::MediaSink;
-use crate::report::RowFields;
-use crate::reporting::Report;
+use crate::mended_rows::mended_uid;
 use crate::run::convert_piece;
+use convert_report::{ConversionFault, Report, RowFields, read_fault};
 use csv_cards::{ExportRow, ExportRows};
 use import_text::{read_text, split_piece};
 use std::alloc::Global;
 use std::io::{Read, Write};
+
+/// The first cell of a row, as the file has it.
+fn uid_of(row: &ExportRow) -> &[u8] {
+    mended_uid(row.uid.as_slice()).unwrap_or(row.uid.as_slice())
+}
 
 /// Converts the text of a row, piece by piece.
 fn convert_row<O: CardSink, P: MediaSink, E: Write, T: Write>(
@@ -26,10 +30,11 @@ fn convert_row<O: CardSink, P: MediaSink, E: Write, T: Write>(
     ensures { OnOk result ((uids : List (List ℕ)) → Knows course.old uids
         → ConvertsTexts O.writes uids course.old course.new sink.old sink.new) }
 {
-    let uid = read_text(alloc, row.uid.as_slice())?;
+    let uid = read_text(alloc, uid_of(row))?;
     let fields = RowFields {
         uid: uid.as_str(),
         has_more: row.has_more,
+        is_mended: mended_uid(row.uid.as_slice()).is_some(),
     };
     course.ledger.go_to_line(row.line);
     let mut rest = row.text.as_slice();

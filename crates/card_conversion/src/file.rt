@@ -6,11 +6,9 @@ ghost use Rattle.card_conversion.specs.Courses.{ConvertsPieces, Knows};
 
 use crate::card_sink::CardSink;
 use crate::course::Course;
-use crate::fault::{ConversionFault, read_fault};
-use crate::ledger::Summary;
 use crate::media_sink::MediaSink;
-use crate::reporting::Report;
 use crate::run::{convert_cards, convert_more_cards};
+use convert_report::{ConversionFault, Report, Summary, read_fault};
 use import_text::TextReader;
 use std::alloc::Global;
 use std::io::{Read, Write};

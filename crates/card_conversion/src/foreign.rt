@@ -1,6 +1,7 @@
 //! Files of other formats, which aren't converted.
 
 use import_text::{begins_with_word, is_card, split_piece};
+use vcard_import::without_bom;
 
 /// What files are that begin with these octets.
 const FORMATS: &[(&[u8], &str)] = &[
@@ -168,18 +169,13 @@ fn export_delimiter(text: &[u8]) -> Option<u8> {
 /// Whether a file that begins with these octets has rows of cards whose header is `uid,vcard`, with
 /// each name in quotes or without: programs write them that quote all cells.
 pub fn is_quoted_export(head: &[u8]) -> bool {
-    export_delimiter(without_mark(head)) == Some(b',')
+    export_delimiter(without_bom(head)) == Some(b',')
 }
 
 /// Whether the text has rows of cards that a spreadsheet saved, with something else than commas
 /// between its cells.
 fn is_saved_export(text: &[u8]) -> bool {
     matches!(export_delimiter(text), Some(b';' | b'\t' | b'|'))
-}
-
-/// The octets without a byte order mark of UTF-8.
-fn without_mark(head: &[u8]) -> &[u8] {
-    head.strip_prefix(b"\xEF\xBB\xBF").unwrap_or(head)
 }
 
 /// Whether a file that begins with these octets is text in UTF-32: it has a byte order mark, or two
@@ -201,14 +197,14 @@ pub fn foreign_format(head: &[u8]) -> Option<&'static str> {
     if head.starts_with(b"PK\x03\x04") {
         Some(archive_words(head))
     } else {
-        format_words(head).or(text_words(without_mark(head)))
+        format_words(head).or(text_words(without_bom(head)))
     }
 }
 
 /// What a file of text is that begins with these octets, and what to do with it: XML, HTML, JSON or
 /// a calendar in which no card begins. A table may begin so, too: its header is looked for first.
 pub fn foreign_text(head: &[u8]) -> Option<&'static str> {
-    let start = without_mark(head).trim_ascii_start();
+    let start = without_bom(head).trim_ascii_start();
     let words = if is_markup(start) {
         "XML or HTML; export the contacts as vCard or CSV"
     } else if is_json(start) {

@@ -5,15 +5,14 @@ ghost use Rattle.vcard_values.specs.Media.{media_octets};
 ghost use Rattle.card_conversion.specs.Media.{AreRefused, Puts, PutsLine, PutsLines, PutsMedia};
 ghost use Rattle.card_conversion.specs.Media.{PutsOfFate};
 
-use crate::fate::Fate;
-use crate::fault::ConversionFault;
-use crate::line_names::head_of;
-use crate::media_sink::{MediaDelivery, MediaKind, MediaOwner, MediaSink};
+use crate::media_sink::{MediaKind, MediaOwner, MediaSink};
 use crate::moved::{LEFT_OUT_MAX, count_left_out};
 use base_types::{NoMemory, Text};
+use convert_report::{ConversionFault, Fate, MediaDelivery, head_of};
 use import_text::RawLine;
 use std::alloc::Global;
-use vcard_import::{Conversion, left_out_lines};
+use vcard_changes::Conversion;
+use vcard_import::left_out_lines;
 use vcard_property::media_octets;
 
 /// What the logical line is that is left out.

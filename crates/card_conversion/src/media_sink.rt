@@ -2,8 +2,8 @@
 ghost use Rattle.std.specs.Prelude.{◌≡◌, ℕ, List, IfOk};
 ghost use Rattle.card_conversion.specs.Media.{Puts};
 
-use crate::card_sink::SinkFault;
 use base_types::Text;
+use convert_report::{MediaDelivery, SinkFault};
 use std::alloc::Global;
 
 /// What is left out of a card.
@@ -28,15 +28,6 @@ pub struct MediaOwner<'a> {
     pub kind: MediaKind,
     /// How many of this kind the card has up to it.
     pub which: u64,
-}
-
-/// What became of a picture or a sound.
-#[derive(Drop)]
-pub enum MediaDelivery {
-    /// It was written to the place of this name.
-    Written(Text),
-    /// It wasn't, for a reason in words.
-    Refused(Text),
 }
 
 /// Where pictures and sounds go that cards are carried without.

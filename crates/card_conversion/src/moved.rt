@@ -8,7 +8,8 @@ ghost use Rattle.vcard_text.specs.Cards.{IsCard, canonical_text, line_is_named};
 
 use import_text::RawLine;
 use std::alloc::Global;
-use vcard_import::{Change, Conversion, derived_uid, is_left_out, left_out_lines};
+use vcard_changes::{Change, Conversion, derived_uid};
+use vcard_import::{is_left_out, left_out_lines};
 use vcard_text::{Card, CardFault, Line, NoMemory, Part, Text, card_of_lines, write_card};
 
 /// The most lines that a card is carried without of which each is looked up among its changes. So

@@ -5,7 +5,7 @@ ghost use Rattle.std.specs.Io.KnownBytes.{Consumes, IsAtEnd};
 ghost use Rattle.card_conversion.specs.internal.PieceReaders.{HasEnded, IsCutFrom, left_of, unread_of};
 
 use crate::chunks::read_chunk;
-use crate::fault::ConversionFault;
+use convert_report::ConversionFault;
 use import_text::laws::pieces_stay;
 use import_text::{joined, split_text};
 use std::alloc::Global;

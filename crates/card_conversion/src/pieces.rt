@@ -9,24 +9,16 @@ ghost use Rattle.std.specs.List.{list_all};
 ghost use Rattle.card_conversion.specs.Fates.{IsApart, IsConversion, first_line, is_blank};
 ghost use Rattle.card_conversion.specs.Fates.{is_card, is_overfull, is_semicolon, is_white};
 ghost use Rattle.card_conversion.specs.internal.States.{DeliversNew, TakesPiece, TakesAfter};
-ghost use Rattle.vcard_text.specs.Spelling.{without_bom};
 
 use crate::card_sink::{CardSink, Delivery};
-use crate::fate::Fate;
-use crate::fault::ConversionFault;
 use crate::moved::{card_under, own_uid};
 use crate::piece_reader::PIECE_OCTETS_MAX;
 use base_types::{NoMemory, TextMap};
+use convert_report::{ConversionFault, Fate};
 use import_text::begins_with_word;
 use std::alloc::Global;
-use vcard_import::{Conversion, ImportFault, convert_card};
-
-/// The octets without a byte order mark of UTF-8.
-fn without_bom(octets: &[u8]) -> &[u8]
-    ensures { result.now ≡ without_bom octets.now }
-{
-    octets.strip_prefix(b"\xEF\xBB\xBF").unwrap_or(octets)
-}
+use vcard_changes::{Conversion, ImportFault};
+use vcard_import::{convert_card, without_bom};
 
 /// Whether all octets are white space.
 fn are_white(octets: &[u8]) -> bool

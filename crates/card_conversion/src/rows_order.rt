@@ -3,11 +3,10 @@ ghost use Rattle.std.specs.Prelude.{IfOk, option_map};
 ghost use Rattle.import_text.specs.Texts.{text_octets};
 ghost use Rattle.card_conversion.specs.Accounts.{ConvertsToRows};
 
-use crate::fault::ConversionFault;
 use crate::file::convert_file;
 use crate::laws::written_rows_are_read;
-use crate::ledger::Summary;
 use crate::rows_sink::RowsSink;
+use convert_report::{ConversionFault, Summary};
 use std::alloc::Global;
 use std::io::{Read, Write};
 

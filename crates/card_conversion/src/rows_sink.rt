@@ -3,9 +3,10 @@ ghost use Rattle.std.specs.Prelude.{OnOk};
 ghost use Rattle.std.specs.Io.KnownBytes.{Appends};
 ghost use Rattle.card_conversion.specs.RowTexts.{header_row_text};
 
-use crate::card_sink::{CardSink, Delivery, SinkFault};
+use crate::card_sink::{CardSink, Delivery};
 use crate::rows::{header_text, row_text};
 use base_types::Text;
+use convert_report::SinkFault;
 use std::alloc::Global;
 use std::io::Write;
 use vcard_text::Card;

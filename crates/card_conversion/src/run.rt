@@ -3,21 +3,19 @@ ghost use Rattle.std.specs.Prelude.{ℕ, List, IfOk, OnOk};
 ghost use Rattle.card_conversion.specs.Accounts.{ConvertsAll};
 ghost use Rattle.card_conversion.specs.Courses.{ConvertsPieces, Knows};
 ghost use Rattle.card_conversion.specs.Media.{PutsOfFate};
-ghost use Rattle.card_conversion.specs.declared.media_sink.MediaDelivery.{MediaDelivery};
+ghost use Rattle.convert_report.specs.declared.media_delivery.MediaDelivery.{MediaDelivery};
 ghost use Rattle.card_conversion.specs.internal.States.{TakesPiece};
 
 use crate::card_sink::CardSink;
 use crate::course::Course;
-use crate::fate::Fate;
-use crate::fault::ConversionFault;
-use crate::ledger::Summary;
 use crate::left_out::put_media;
 use crate::media_sink::{MediaSink, NoMedia};
 use crate::piece_reader::PieceReader;
 use crate::pieces::take_piece;
-use crate::report::{Place, RowFields, no_fields, report_piece};
-use crate::reporting::Report;
 use base_types::TextMap;
+use convert_report::{
+    ConversionFault, Fate, Place, Report, RowFields, Summary, no_fields, report_piece,
+};
 use std::alloc::Global;
 use std::io::{Read, Write};
 

@@ -1,7 +1,7 @@
 -- What a conversion did, where less is known of the first text.
 use Rattle.std.proofs.Common.{◌≡◌, ◌∷◌, ◌++◌, ℕ, List, Option, Some, None, IfSome}
 use Rattle.import_text.specs.Texts.{text_octets}
-use Rattle.card_conversion.specs.declared.ledger.Summary.{Summary}
+use Rattle.convert_report.specs.declared.ledger.Summary.{Summary}
 use Rattle.cli_convert.specs.CardFolders.{FillsFolder}
 use Rattle.cli_convert.specs.Endings.{Does, Prints}
 use Rattle.cli_convert.specs.FileTexts.{known_text, shown_mark}

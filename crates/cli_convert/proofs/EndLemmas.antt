@@ -11,14 +11,14 @@ use Rattle.vcard_text.specs.Cards.{IsCard, uid_of}
 use Rattle.csv_cards.specs.Reading.{TextHasCards}
 use Rattle.csv_cards.specs.Writing.{csv_text}
 use Rattle.csv_cards.specs.declared.form.Form.TheVariants.{Cards}
-use Rattle.card_conversion.specs.Counts.{nothing_counted}
+use Rattle.convert_report.specs.Counts.{nothing_counted}
 use Rattle.card_conversion.specs.Courses.{AllHaveFates, ConvertsPart, ConvertsParts, HaveFates}
 use Rattle.card_conversion.specs.Courses.{Knows, Part, cards_of, cards_of_all, counted, counts_of}
 use Rattle.card_conversion.specs.Courses.{summary_of_all, uids_of, uids_of_all}
 use Rattle.card_conversion.specs.Deliveries.{WritesInTurn}
 use Rattle.card_conversion.specs.RowTexts.{card_row_text, header_row_text}
 use Rattle.card_conversion.specs.declared.course.Course.{Course}
-use Rattle.card_conversion.specs.declared.ledger.Summary.{Summary}
+use Rattle.convert_report.specs.declared.ledger.Summary.{Summary}
 use Rattle.card_conversion.proofs.RowLemmas.{rows_written}
 use Rattle.cli_convert.specs.Endings.{Converts, Prints}
 use Rattle.cli_convert.specs.FileTexts.{ArePartsOf}

@@ -4,7 +4,7 @@ use Rattle.std.specs.List.{AllByRecursion}
 use Rattle.vcard_lines.specs.declared.line.Line.{Line}
 use Rattle.card_conversion.specs.Courses.{cards_of_all}
 use Rattle.card_conversion.specs.Deliveries.{WritesInTurn}
-use Rattle.card_conversion.specs.declared.ledger.Summary.{Summary}
+use Rattle.convert_report.specs.declared.ledger.Summary.{Summary}
 use Rattle.vcard_text.specs.Cards.{canonical_text, uid_of}
 use Rattle.cli_convert.specs.CardFolders.{IsCardFile}
 use Rattle.cli_convert.specs.Endings.{Converts}

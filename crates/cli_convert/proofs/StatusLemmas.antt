@@ -2,7 +2,7 @@
 use Rattle.std.proofs.Common.{◌≡◌, ◌<◌, ◌&&◌, ℕ, Bool, MatchResult, IfOk, IfSome, Option, Some, None}
 use Rattle.std.proofs.Common.{Result, Ok, Err, arith, subst}
 use Rattle.std.proofs.lemmas.Result.{IfOk-weaker}
-use Rattle.card_conversion.specs.declared.ledger.Summary.{Summary}
+use Rattle.convert_report.specs.declared.ledger.Summary.{Summary}
 use Rattle.cli_convert.specs.Endings.{Ends, status_of}
 
 -- A status below 3 is that of the summary, of which something is known.

@@ -16,7 +16,7 @@ use Rattle.cli_convert.specs.declared.charset_reader.Encoding.{Encoding}
 use Rattle.cli_convert.specs.declared.charset_reader.Encoding.TheVariants.{Found}
 use Rattle.cli_convert.specs.declared.content.Content.{Content}
 use Rattle.cli_convert.specs.declared.content.Content.TheVariants.{Cards, Contacts, Export}
-use Rattle.cli_convert.specs.declared.content.Content.TheVariants.{OtherRows}
+use Rattle.cli_convert.specs.declared.content.Content.TheVariants.{Foreign, OtherRows}
 use Rattle.contact_columns.specs.declared.header.Header.{Header}
 
 -- a text that is read through a mark and the file's first octets
@@ -134,6 +134,7 @@ not_cards Cards = ⊥
 not_cards Export = Unit {0}
 not_cards (Contacts header) = Unit {0}
 not_cards OtherRows = Unit {0}
+not_cards (Foreign words) = Unit {0}
 
 pub export_aside : (content : Content) (left whole : Option (List ℕ)) (part : Part)
     → content ≡ Export → GivesText content left whole → IfSome whole (λ text. IsPartOf text part)

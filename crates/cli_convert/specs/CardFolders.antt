@@ -4,7 +4,7 @@ use Rattle.std.specs.List.{AllByRecursion}
 use Rattle.vcard_lines.specs.declared.line.Line.{Line}
 use Rattle.vcard_text.specs.Cards.{canonical_text, uid_of}
 use Rattle.card_conversion.specs.Courses.{AllHaveFates, Part, cards_of_all, summary_of_all}
-use Rattle.card_conversion.specs.declared.ledger.Summary.{Summary}
+use Rattle.convert_report.specs.declared.ledger.Summary.{Summary}
 use Rattle.cli_convert.specs.FileTexts.{ArePartsOf}
 use Rattle.cli_convert.specs.MadeFiles.{IsMade}
 use Rattle.cli_convert.specs.Names.{card_name, path_in}

@@ -5,7 +5,7 @@ use Rattle.vcard_lines.specs.declared.line.Line.{Line}
 use Rattle.card_conversion.specs.Accounts.{WritesRows}
 use Rattle.card_conversion.specs.Courses.{AllHaveFates, Part, cards_of_all, summary_of_all}
 use Rattle.card_conversion.specs.Deliveries.{WritesInTurn}
-use Rattle.card_conversion.specs.declared.ledger.Summary.{Summary}
+use Rattle.convert_report.specs.declared.ledger.Summary.{Summary}
 use Rattle.cli_convert.specs.CardFolders.{FillsFolder}
 use Rattle.cli_convert.specs.FileTexts.{ArePartsOf}
 use Rattle.cli_convert.specs.declared.options.ConvertOptions.{ConvertOptions}

@@ -4,10 +4,9 @@ ghost use Rattle.std.specs.Io.KnownBytes.{Consumes, IsAtEnd};
 ghost use Rattle.csv_cards.specs.Exports.{is_export};
 ghost use Rattle.cli_convert.specs.FileTexts.{is_card_head};
 ghost use Rattle.cli_convert.specs.declared.content.Content.TheVariants.{Cards, Export};
-ghost use Rattle.vcard_text.specs.Spelling.{without_bom};
 
 use base_types::NoMemory;
-use card_conversion::is_quoted_export;
+use card_conversion::{is_quoted_export, without_bom};
 use contact_csv::{Header, find_header};
 use csv_cards::is_export;
 use import_text::{begins_with_word, fill};
@@ -28,6 +27,8 @@ pub(crate) enum Content<'a> {
     Contacts(Header<'a>),
     /// Rows with another header.
     OtherRows,
+    /// What is said of a file in these words if no card comes in it, after a head without one.
+    Foreign(&'a str),
 }
 
 /// Whether the path is that of a file of CSV.
@@ -36,13 +37,6 @@ fn is_csv_path(path: &str) -> bool {
         Some((_, extension)) => extension.eq_ignore_ascii_case("csv"),
         None => false,
     }
-}
-
-/// The octets without a byte order mark.
-fn without_bom(octets: &[u8]) -> &[u8]
-    ensures { result.now ≡ without_bom octets.now }
-{
-    octets.strip_prefix(b"\xEF\xBB\xBF").unwrap_or(octets)
 }
 
 /// Whether a text that begins with these octets is taken for cards.

@@ -143,27 +143,47 @@ fn check_columns(
     }
 }
 
-/// Fails if the file has no contacts, and isn't converted for what it begins with, or since
+/// What a file without contacts has that begins with text which isn't converted, as these words
+/// say: if it goes on after the head, cards may come. Fails if it doesn't.
+fn foreign_content<'a>(
+    alloc: Global,
+    path: &str,
+    head: &[u8],
+    words: &'a str,
+) -> Result<Content<'a>, ConvertStop> {
+    if head.len() < HEAD_OCTETS {
+        Err(foreign_file(alloc, path, words))
+    } else {
+        Ok(Content::Foreign(words))
+    }
+}
+
+/// What a file without contacts has. Fails if it isn't converted for what it begins with, or since
 /// something is said of its columns.
-fn check_text(
+fn checked_text<'a>(
     alloc: Global,
     wanted: ConvertOptions<'_>,
-    content: Content<'_>,
+    content: Content<'a>,
     head: &[u8],
-) -> Result<(), ConvertStop> {
+) -> Result<Content<'a>, ConvertStop>
+    ensures { IsTrue (is_card_head head.now) → IfOk result (λ checked. checked ≡ content.entry) }
+{
+    if is_card_head(head) {
+        return Ok(content);
+    }
     let path = wanted.file;
-    let is_of_rows = matches!(content, Content::OtherRows);
-    if wanted.columns.is_empty() {
-        if let Some(words) = foreign_text(head) {
-            return Err(foreign_file(alloc, path, words));
-        }
-    } else if !is_of_rows {
+    if matches!(content, Content::OtherRows) {
+        return match foreign_text(head) {
+            Some(words) if wanted.columns.is_empty() => Err(foreign_file(alloc, path, words)),
+            _ => Err(unknown_header(alloc, path, head)),
+        };
+    }
+    if !wanted.columns.is_empty() {
         return Err(wrong_columns(alloc, path, NO_COLUMNS));
     }
-    if is_of_rows {
-        Err(unknown_header(alloc, path, head))
-    } else {
-        Ok(())
+    match foreign_text(head) {
+        Some(words) => foreign_content(alloc, path, head, words),
+        None => Ok(content),
     }
 }
 
@@ -187,7 +207,7 @@ pub(crate) fn read_content<'a, R: Read>(
     match content_of(alloc, path, head.as_slice(), wanted.columns)? {
         Content::Contacts(header) => Ok((head, Content::Contacts(header))),
         content => {
-            check_text(alloc, wanted, content, head.as_slice())?;
+            let content = checked_text(alloc, wanted, content, head.as_slice())?;
             Ok((head, content))
         }
     }

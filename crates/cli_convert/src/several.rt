@@ -10,7 +10,7 @@ ghost use Rattle.cli_convert.specs.Readers.{ends_left};
 ghost use Rattle.cli_convert.specs.declared.content.Content.TheVariants.{Cards};
 
 use crate::content::Content;
-use crate::exit::{ConvertStop, no_second_reading, stop_of};
+use crate::exit::{ConvertStop, foreign_file, no_second_reading, stop_of};
 use crate::file_system::FileSystem;
 use crate::media_files::MediaFiles;
 use crate::opening::{open_file, read_content, text_after, wanted_encoding, with_dates};
@@ -36,7 +36,7 @@ fn start_of(content: Content<'_>) -> usize
 
 /// Whether the file has cards, or what is no card.
 fn is_of_cards(content: Content<'_>) -> bool {
-    matches!(content, Content::Cards)
+    matches!(content, Content::Cards | Content::Foreign(_))
 }
 
 /// What is read above the head of a file: a header, if it has contacts and no header.
@@ -107,6 +107,14 @@ pub(crate) fn check_more<F: FileSystem>(
     Ok(())
 }
 
+/// What is said of the file if no card came in it, if it begins with text that isn't converted.
+fn foreign_words<'a>(content: Content<'a>) -> Option<&'a str> {
+    match content {
+        Content::Foreign(words) => Some(words),
+        _ => None,
+    }
+}
+
 /// Converts the text of one more file. Its name stands before each line of the report, if there are
 /// several files.
 fn convert_content<F: FileSystem, R: Read + Drop, O: CardSink, E: Write>(
@@ -131,9 +139,14 @@ fn convert_content<F: FileSystem, R: Read + Drop, O: CardSink, E: Write>(
         files,
         folder: wanted.photos,
     };
+    let next = course.next_card();
     match convert_to(alloc, course, content, text, sink, &mut media, report) {
-        Ok(()) => Ok(()),
-        Err(fault) => Err(stop_of(alloc, fault, wanted.file)),
+        Ok(()) => {}
+        Err(fault) => return Err(stop_of(alloc, fault, wanted.file)),
+    }
+    match foreign_words(content) {
+        Some(words) if course.next_card() == next => Err(foreign_file(alloc, wanted.file, words)),
+        _ => Ok(()),
     }
 }
 

@@ -56,7 +56,7 @@ pub(crate) fn convert_to<R: Read + Drop, O: CardSink, P: MediaSink, E: Write, T:
             let contacts = read_contacts(alloc, reader, header)?;
             convert_contacts_under(alloc, course, &header.above, contacts, sink, report)
         }
-        Content::Cards | Content::OtherRows => {
+        Content::Cards | Content::OtherRows | Content::Foreign(_) => {
             convert_more_cards(alloc, course, reader, sink, media, report)
         }
     }

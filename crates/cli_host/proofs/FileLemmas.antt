@@ -34,7 +34,7 @@ use Rattle.cli_orders.specs.Stops.{out_of_memory}
 use Rattle.cli_orders.proofs.CommandLemmas.{mirror_stop_leaves}
 use Rattle.cli_host.proofs.ListingLemmas.{listing_stop_leaves}
 use Rattle.cli_host.specs.Resyncs.{StopsResync}
-use Rattle.cli_export.specs.CardFiles.{StopsCards}
+use Rattle.cli_host.specs.CardFiles.{StopsCards}
 use Rattle.cli_host.proofs.TurnLemmas.{turns_leave}
 use Rattle.cli_orders.proofs.StopLemmas.{keeps_leaves, output_kept_by_device, serving_stop_leaves}
 use Rattle.cli_orders.proofs.StopLemmas.{stop_leaves}

@@ -21,7 +21,7 @@ use Rattle.cli_host.specs.OrdersOnHost.{ServesAt, ServesStore, StopsAt}
 use Rattle.cli_host.specs.OrdersOnHost.{StopsInFile}
 use Rattle.cli_host.specs.OrdersOnHost.{StopsOnImport, StopsReadingRows, StopsStore}
 use Rattle.cli_host.specs.OrdersOnHost.{StopsStoreWork, StopsVerifying}
-use Rattle.cli_export.specs.CardFiles.{StopsCards}
+use Rattle.cli_host.specs.CardFiles.{StopsCards}
 use Rattle.cli_host.specs.Resyncs.{StopsResync}
 use Rattle.cli_host.specs.declared.work.StoreWork.{StoreWork}
 use Rattle.cli_host.specs.declared.work.StoreWork.TheVariants.{ExportCards, ListBooks, Resync}

@@ -10,5 +10,6 @@ pub mod EarlyStops
 pub mod OrdersInTurn
 pub mod OrdersOnHost
 pub mod Arguments
+pub mod CardFiles
 pub mod Exits
 pub mod internal

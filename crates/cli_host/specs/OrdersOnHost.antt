@@ -22,7 +22,7 @@ use Rattle.cli_orders.specs.declared.stop.Stop.{Stop}
 use Rattle.cli_orders.specs.declared.stop.Stop.TheVariants.{Open, Device}
 pub use Rattle.cli_host.specs.EarlyStops.{StopsAtDevice, StopsForMemory, StopsOverText}
 pub use Rattle.cli_host.specs.EarlyStops.{StopsUnopened}
-use Rattle.cli_export.specs.CardFiles.{PrintsCards, StopsCards}
+use Rattle.cli_host.specs.CardFiles.{PrintsCards, StopsCards}
 pub use Rattle.cli_host.specs.HostStores.{GetsNoStore, GetsStore, UsesStore}
 use Rattle.cli_host.specs.Hosts.{HostCall, Closes, Creates, Opens, FindsFault, Migrates}
 use Rattle.cli_host.specs.Hosts.{Copies, Restores, ReadsRows, ReadsSite, Binds, Finishes}

@@ -1,7 +1,7 @@
 -- What `resync` prints, and why it stops.
 use Rattle.std.specs.Prelude.{◌≡◌, ◌⊎◌, ℕ, List, Option, Ok, Err}
 use Rattle.std.specs.Io.KnownBytes.{Appends, Keeps}
-use Rattle.admin_store.specs.Resyncs.{Resyncs}
+use Rattle.book_resync.specs.Resyncs.{Resyncs}
 use Rattle.book_model.specs.declared.denied.Denied.{Denied}
 use Rattle.cli_host.specs.EarlyStops.{StopsForMemory, StopsOverText}
 use Rattle.cli_orders.specs.OrderOutputs.{resync_output}

@@ -2,6 +2,7 @@
 #![tactic(auto)]
 
 mod args;
+mod card_export;
 mod copying;
 mod exit;
 mod host;
@@ -16,8 +17,8 @@ mod waiting;
 mod words;
 mod work;
 
-pub use admin_store::AdminStore;
 pub use args::order_of_args;
+pub use book_resync::AdminStore;
 pub use exit::{ProgramExit, run_and_report};
 pub use host::Host;
 pub use listing::{Listing, run_listing};

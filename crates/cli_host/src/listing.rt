@@ -8,7 +8,7 @@ ghost use Rattle.cli_host.specs.internal.ListingSteps.{IsLineDenial, IsLinesDeni
 ghost use Rattle.sync_core.specs.StoreModels.{KeepsBooks};
 ghost use Rattle.cli_orders.specs.Outputs.{Flushes};
 
-use admin_store::AdminStore;
+use book_resync::AdminStore;
 use cli_orders::{Output, Stop, write_out};
 use std::alloc::Global;
 use sync_core::{BookLine, Denied, Tally};

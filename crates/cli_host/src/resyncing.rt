@@ -3,7 +3,7 @@ ghost use Rattle.std.specs.Prelude.{IfErr, OnOk};
 ghost use Rattle.cli_host.specs.Resyncs.{PrintsResync, StopsResync};
 ghost use Rattle.cli_orders.specs.Outputs.{Flushes};
 
-use admin_store::AdminStore;
+use book_resync::AdminStore;
 use cli_orders::{Output, Stop, resync_text, write_out};
 use std::alloc::Global;
 

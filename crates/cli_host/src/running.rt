@@ -10,6 +10,7 @@ ghost use Rattle.cli_host.specs.OrdersOnHost.{StopsOnHost, StopsOnImport, StopsR
 ghost use Rattle.cli_host.specs.OrdersOnHost.{StopsStoreWork, StopsWork};
 ghost use Rattle.cli_orders.specs.Outputs.{Flushes};
 
+use crate::card_export::run_card_export;
 use crate::copying::{run_copy, run_restore};
 use crate::host::Host;
 use crate::listing::run_listing;
@@ -18,12 +19,11 @@ use crate::resyncing::run_resync;
 use crate::serving::{run_file, run_serve};
 use crate::verifying::run_verify;
 use crate::work::{StoreWork, Work, work_of};
-use admin_store::AdminStore;
 use base_types::Text;
 use book_http::Listener;
+use book_resync::AdminStore;
 use book_service::Command;
 use cli_args::Order;
-use cli_export::run_card_export;
 use cli_orders::{
     Output, Stop, created_line, kind_of_file, line_feed_count, migrate_text, run_check,
     run_command, run_mirror, version_text, write_out,

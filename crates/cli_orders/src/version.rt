@@ -7,5 +7,5 @@ ghost use Rattle.cli_orders.specs.Versions.{version_output};
 pub fn version_text() -> &'static str
     ensures { result.now ≡ version_output }
 {
-    "contacts 0.21.0\nschema 2\nkit rattle-kit-13f logic dac8208d650f15bf\n"
+    "contacts 0.22.0\nschema 2\nkit rattle-kit-13f logic dac8208d650f15bf\n"
 }

@@ -63,26 +63,46 @@ fn single_meaning(name: &str) -> Option<Meaning<'_>> {
     meaning_in(SINGLES, name, key, "")
 }
 
-/// A part of a numbered property, as `Value` of `Phone` and `1`.
-fn numbered_meaning<'a>(kind: &str, key: &'a str, part: &str) -> Option<Meaning<'a>> {
-    if kind == "Organization" {
-        return meaning_in(ORGANIZATION_PARTS, part, key, "");
+/// A part of an organization.
+fn organization_meaning<'a>(key: &'a str, part: &str) -> Option<Meaning<'a>> {
+    meaning_in(ORGANIZATION_PARTS, part, key, "")
+}
+
+/// A part of an address.
+fn address_meaning<'a>(key: &'a str, part: &str) -> Option<Meaning<'a>> {
+    meaning_in(ADDRESS_PARTS, part, key, "")
+}
+
+/// The label of a property.
+fn label_meaning<'a>(property: &'static str, key: &'a str) -> Meaning<'a> {
+    Meaning {
+        property,
+        key,
+        part: Part::Label,
+        types: "",
     }
-    let property = name_in(NUMBERED, kind)?;
+}
+
+/// A part of a numbered property that isn't an organization.
+fn property_meaning<'a>(property: &'static str, key: &'a str, part: &str) -> Option<Meaning<'a>> {
     if part == "Label" || part == "Type" {
-        Some(Meaning {
-            property,
-            key,
-            part: Part::Label,
-            types: "",
-        })
+        Some(label_meaning(property, key))
     } else if property == "ADR" {
-        meaning_in(ADDRESS_PARTS, part, key, "")
+        address_meaning(key, part)
     } else if part == "Value" {
         Some(Meaning::value(property, key, ""))
     } else {
         None
     }
+}
+
+/// A part of a numbered property, as `Value` of `Phone` and `1`.
+fn numbered_meaning<'a>(kind: &str, key: &'a str, part: &str) -> Option<Meaning<'a>> {
+    if kind == "Organization" {
+        return organization_meaning(key, part);
+    }
+    let property = name_in(NUMBERED, kind)?;
+    property_meaning(property, key, part)
 }
 
 /// What the column of this name means, if Google's exports in English have it.

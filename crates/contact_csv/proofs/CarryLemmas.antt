@@ -4,7 +4,7 @@ use Rattle.std.specs.List.{list_any}
 use Rattle.std.proofs.lemmas.List.Elements.{Contains-append_left}
 use Rattle.std.proofs.lemmas.List.Folds.{list_any-append}
 use Rattle.vcard_lines.specs.declared.line.Line.{Line}
-use Rattle.vcard_import.specs.declared.change.Change.{Change}
+use Rattle.vcard_changes.specs.declared.change.Change.{Change}
 use Rattle.contact_csv.specs.Carrying.{IsPartHeld, ArePartsHeld, IsLabelHeld, IsCarried, void_part}
 use Rattle.contact_csv.specs.Carrying.{whole_part, starred_part, last_part, next_part, as_types}
 use Rattle.contact_csv.specs.Carrying.{as_name, as_text, left_out, no_value, in_component, whole}

@@ -11,13 +11,13 @@ use Rattle.contact_columns.specs.Cells.{cell_text}
 use Rattle.contact_csv.specs.Contacts.{IsContact}
 use Rattle.contact_csv.specs.RowUids.{IsRowUid}
 use Rattle.std.proofs.lemmas.List.Elements.{Contains-append_right}
-use Rattle.vcard_import.specs.declared.change.Change.{Change}
+use Rattle.vcard_changes.specs.declared.change.Change.{Change}
 use Rattle.vcard_lines.specs.declared.line.Line.{Line}
 use Rattle.vcard_text.specs.Cards.{uid_of}
 use Rattle.vcard_text.specs.Making.{upper_line, upper_lines}
-use Rattle.vcard_property.specs.declared.change_kind.ChangeKind.{ChangeKind}
-use Rattle.vcard_property.specs.declared.change_kind.ChangeKind.TheVariants.{Rewritten, KeptAside}
-use Rattle.vcard_property.specs.declared.change_kind.ChangeKind.TheVariants.{Unreadable}
+use Rattle.vcard_changes.specs.declared.change_kind.ChangeKind.{ChangeKind}
+use Rattle.vcard_changes.specs.declared.change_kind.ChangeKind.TheVariants.{Rewritten, KeptAside}
+use Rattle.vcard_changes.specs.declared.change_kind.ChangeKind.TheVariants.{Unreadable}
 use Rattle.contact_csv.specs.Carrying.{IsCarried, column_at, component_in, change, is_date_column}
 use Rattle.contact_csv.specs.Carrying.{is_date_name, as_date, as_date_text, in_addresses}
 use Rattle.contact_csv.specs.Carrying.{has_text, in_component, in_parts, kept_aside, whole}

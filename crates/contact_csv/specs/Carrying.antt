@@ -7,10 +7,10 @@ use Rattle.std.specs.Str.{str_to_ascii_lowercase}
 use Rattle.vcard_lines.specs.declared.line.Line.{Line}
 use Rattle.vcard_lines.specs.declared.line.Param.{Param}
 use Rattle.vcard_lines.specs.TextValues.{escaped_value, components}
-use Rattle.vcard_import.specs.declared.change.Change.{Change}
-use Rattle.vcard_property.specs.declared.change_kind.ChangeKind.{ChangeKind}
-use Rattle.vcard_property.specs.declared.change_kind.ChangeKind.TheVariants.{Rewritten, KeptAside}
-use Rattle.vcard_property.specs.declared.change_kind.ChangeKind.TheVariants.{Unreadable}
+use Rattle.vcard_changes.specs.declared.change.Change.{Change}
+use Rattle.vcard_changes.specs.declared.change_kind.ChangeKind.{ChangeKind}
+use Rattle.vcard_changes.specs.declared.change_kind.ChangeKind.TheVariants.{Rewritten, KeptAside}
+use Rattle.vcard_changes.specs.declared.change_kind.ChangeKind.TheVariants.{Unreadable}
 use Rattle.contact_columns.specs.Cells.{is_void}
 use Rattle.contact_columns.specs.Components.{component_of}
 use Rattle.contact_columns.specs.declared.columns.Column.{Column}

@@ -11,8 +11,8 @@ use Rattle.vcard_lines.specs.declared.fault.CardFault.{CardFault}
 use Rattle.vcard_lines.specs.declared.line.Line.{Line}
 use Rattle.vcard_text.specs.Cards.{uid_of}
 use Rattle.vcard_text.specs.Making.{IsFirstFaultOfLines}
-use Rattle.vcard_import.specs.declared.change.Change.{Change}
-use Rattle.vcard_import.specs.declared.conversion.Conversion.{Conversion}
+use Rattle.vcard_changes.specs.declared.change.Change.{Change}
+use Rattle.vcard_changes.specs.declared.conversion.Conversion.{Conversion}
 use Rattle.contact_csv.specs.Carrying.{IsCarried, column_at}
 use Rattle.contact_columns.specs.Cells.{cell_text}
 use Rattle.contact_csv.specs.RowFaults.{has_names, has_nul, has_width, is_broken, is_empty_row}

@@ -1,7 +1,7 @@
 -- The UID of a row's card (RFC 9562, section 5.5; RFC 6350, section 6.7.6).
 use Rattle.std.specs.Prelude.{ℕ, ◌≡◌, ◌<◌, ◌+◌, Bool, true, false, not, ◌&&◌, ◌||◌, List, [], ◌∷◌}
 use Rattle.std.specs.Prelude.{◌++◌, codes, bytes_eq, get_or, length, if◌then◌else◌}
-use Rattle.vcard_import.specs.DerivedUid.{derived_uid}
+use Rattle.vcard_changes.specs.DerivedUid.{derived_uid}
 use Rattle.contact_columns.specs.Cells.{is_void}
 use Rattle.contact_columns.specs.declared.columns.Column.{Column}
 use Rattle.contact_csv.specs.Carrying.{column_at}

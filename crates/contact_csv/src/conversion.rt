@@ -14,7 +14,7 @@ use contact_columns::{ContactColumns, cell_text, row_field};
 use contact_values::draft_lines;
 use csv::ByteRecord;
 use std::alloc::Global;
-use vcard_import::Conversion;
+use vcard_changes::Conversion;
 use vcard_text::{CardFault, Items, NoMemory, Text, card_of_lines};
 
 /// The texts of the row's cells.

@@ -3,7 +3,7 @@ ghost use Rattle.std.specs.Prelude.{◌≡◌, ◌≢◌, ◌∷◌, ◌++◌, [
 ghost use Rattle.std.specs.Prelude.{length, map, codes, get_or, IsTrue};
 ghost use Rattle.vcard_lines.specs.TextValues.{escaped_value};
 ghost use Rattle.vcard_text.specs.Making.{upper_line, upper_lines};
-ghost use Rattle.vcard_import.specs.declared.change.Change.{Change};
+ghost use Rattle.vcard_changes.specs.declared.change.Change.{Change};
 ghost use Rattle.contact_csv.specs.Carrying.{IsCarried, IsAsideName, change};
 ghost use Rattle.contact_csv.specs.Carrying.{column_at, extra_column};
 ghost use Rattle.contact_csv.specs.internal.Keeping.{BeginsWithUid, IsCarriedWhole, KeepsAside};
@@ -19,8 +19,7 @@ use contact_columns::{Column, component_of, is_void, row_field};
 use contact_values::{JOINER, RowLines};
 use csv::ByteRecord;
 use std::alloc::Global;
-use vcard_import::{Change, ChangeKind};
-use vcard_property::{plain_line, with_upper_name};
+use vcard_changes::{Change, ChangeKind, plain_line, with_upper_name};
 use vcard_text::{Items, Line, NoMemory, Text, escape};
 
 /// The lines of a card and the changes so far.

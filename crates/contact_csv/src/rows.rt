@@ -13,7 +13,7 @@ use contact_columns::{ContactColumns, Header, LONG_ROW, read_columns, row_field}
 use csv::{ByteRecord, Error, ErrorKind, Reader, ReaderBuilder};
 use std::alloc::Global;
 use std::io::Read;
-use vcard_import::Conversion;
+use vcard_changes::Conversion;
 use vcard_text::CardFault;
 
 /// Reads the rows of a file of contacts. It keeps one row at a time.

@@ -3,12 +3,12 @@ ghost use Rattle.std.specs.Prelude.{◌≡◌, ◌++◌, IfOk, IfSome, OnOk, fal
 ghost use Rattle.contact_csv.specs.Carrying.{extra_column};
 ghost use Rattle.contact_csv.specs.RowUids.{IsOwnUid, IsRowUid, cell_octets, is_id_column};
 ghost use Rattle.contact_csv.specs.RowUids.{is_uid_column, octets_from, row_uid};
-ghost use Rattle.vcard_import.specs.DerivedUid.{derived_uid};
+ghost use Rattle.vcard_changes.specs.DerivedUid.{derived_uid};
 
 use crate::keeping::column_at;
 use contact_columns::{Column, is_void};
 use std::alloc::Global;
-use vcard_import::derived_uid;
+use vcard_changes::derived_uid;
 use vcard_text::{NoMemory, Text, UID_OCTETS_MAX};
 
 /// What separates the name of a column from a text: ASCII's unit separator.

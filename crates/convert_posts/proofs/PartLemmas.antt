@@ -1,7 +1,7 @@
 -- What a part is, by how it was made.
 use Rattle.std.proofs.Common.{◌≡◌, ◌≤◌, ℕ, Bool, List, None, Some, length, take}
 use Rattle.card_conversion.specs.LineEnds.{with_line_feeds}
-use Rattle.card_conversion.specs.declared.ledger.Summary.{Summary}
+use Rattle.convert_report.specs.declared.ledger.Summary.{Summary}
 use Rattle.convert_posts.specs.Parts.{IsOfPieces, IsPart, of_cards, of_export}
 use Rattle.convert_posts.specs.declared.part.CardRow.{CardRow}
 use Rattle.convert_posts.specs.declared.part.Kind.TheVariants.{Cards, Rows}

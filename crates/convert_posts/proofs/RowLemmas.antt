@@ -7,7 +7,7 @@ use Rattle.vcard_lines.specs.declared.line.Line.{Line}
 use Rattle.vcard_text.specs.Cards.{IsCard, uid_of}
 use Rattle.card_conversion.specs.ContactFates as contacts
 use Rattle.card_conversion.specs.Counts as pieces
-use Rattle.card_conversion.specs.Counts.{nothing_counted}
+use Rattle.convert_report.specs.Counts.{nothing_counted}
 use Rattle.card_conversion.specs.Courses.{AllHaveFates, ConvertsPart, ConvertsPieces, ConvertsTexts}
 use Rattle.card_conversion.specs.Courses.{HaveFates, Part, cards_of, cards_of_all, counts_of}
 use Rattle.card_conversion.specs.Courses.{of_pieces, of_rows}

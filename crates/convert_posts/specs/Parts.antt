@@ -6,7 +6,7 @@ use Rattle.card_conversion.specs.Accounts.{AccountsFor}
 use Rattle.card_conversion.specs.ContactFates as contacts
 use Rattle.card_conversion.specs.Fates.{Entry, cards_of}
 use Rattle.card_conversion.specs.LineEnds.{with_line_feeds}
-use Rattle.card_conversion.specs.declared.ledger.Summary.{Summary}
+use Rattle.convert_report.specs.declared.ledger.Summary.{Summary}
 use Rattle.contact_columns.specs.declared.columns.Column.{Column}
 use Rattle.convert_posts.specs.declared.part.CardRow.{CardRow}
 use Rattle.convert_posts.specs.declared.part.Kind.TheVariants.{Cards, Contacts, Rows}

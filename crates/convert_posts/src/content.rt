@@ -6,7 +6,9 @@ use crate::contact_part::header_octets;
 use crate::cut::PIECE_OCTETS_MAX;
 use crate::unconverted::Unconverted;
 use base_types::NoMemory;
-use card_conversion::{foreign_format, foreign_text, has_card, is_quoted_export, is_utf32};
+use card_conversion::{
+    foreign_format, foreign_text, has_card, is_quoted_export, is_utf32, without_bom,
+};
 use contact_columns::{are_numbers, has_row_form, rows_end_with_returns, wish_fault};
 use contact_csv::{Header, find_header};
 use csv_cards::is_export;
@@ -191,7 +193,7 @@ fn header_fault(
 
 /// Whether all octets are white space, perhaps after a byte order mark.
 fn is_blank(octets: &[u8]) -> bool {
-    let text = octets.strip_prefix(b"\xEF\xBB\xBF").unwrap_or(octets);
+    let text = without_bom(octets);
     text.iter().all(|octet| octet.is_ascii_whitespace())
 }
 
@@ -299,7 +301,7 @@ pub(crate) fn content_of<'a>(
     if let Some(words) = format_fault(asked, body) {
         return Ok(Content::None(NotContent::Foreign(words)));
     }
-    let text = body.strip_prefix(b"\xEF\xBB\xBF").unwrap_or(body);
+    let text = without_bom(body);
     let is_of_rows = is_of_rows(front(body, HEAD_OCTETS));
     if !is_of_rows && !begins_with_word(text, b"BEGIN:VCARD") {
         return texts_in(alloc, asked, body);

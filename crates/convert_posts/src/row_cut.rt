@@ -5,7 +5,7 @@ use crate::card_cut::front;
 use crate::cut::{Cut, Front, PIECE_OCTETS_MAX, PIECES_MAX, count_feeds};
 use crate::weight::{card_weight, row_weight, scan_weight};
 use base_types::NoMemory;
-use card_conversion::{ExportEnd, export_row_end};
+use card_conversion::{ExportEnd, export_row_end, without_bom};
 use contact_columns::{RowEnd, row_end};
 use std::alloc::Global;
 
@@ -26,10 +26,14 @@ struct RowLen {
 }
 
 /// The number of octets of the first row of an export, with its end; `None` if it doesn't end.
-fn export_row_len(text: &[u8]) -> Option<usize> {
-    match export_row_end(text) {
-        ExportEnd::At(len) | ExportEnd::Unclosed(len) | ExportEnd::Broken(len) => Some(len),
-        ExportEnd::Open | ExportEnd::OpenBroken => None,
+/// `is_last` says that no octets follow.
+fn export_row_len(text: &[u8], is_last: bool) -> Option<usize> {
+    match export_row_end(text, is_last) {
+        ExportEnd::At(len)
+        | ExportEnd::Undoubled(len)
+        | ExportEnd::Unclosed(len)
+        | ExportEnd::Broken(len) => Some(len),
+        ExportEnd::Open => None,
     }
 }
 
@@ -69,7 +73,7 @@ impl RowKind {
                 })
             }
             RowKind::Export => {
-                let len = export_row_len(text)?;
+                let len = export_row_len(text, is_last)?;
                 Some(RowLen { len, looked: 0 })
             }
         }
@@ -86,7 +90,7 @@ impl RowKind {
 
 /// Whether the row has no cells, perhaps after a byte order mark. It isn't counted.
 fn is_blank(row: &[u8]) -> bool {
-    let row = row.strip_prefix(b"\xEF\xBB\xBF").unwrap_or(row);
+    let row = without_bom(row);
     row.iter().all(|octet| *octet == b'\r' || *octet == b'\n')
 }
 

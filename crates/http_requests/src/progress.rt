@@ -4,14 +4,15 @@ ghost use Rattle.std.specs.Prelude.{IfOk, OnErr, IsTrue};
 ghost use Rattle.std.specs.Vec.{vec_capacity};
 ghost use Rattle.http_requests.specs.HeadEnds.{head_state_after, EndsAtLastOctet};
 ghost use Rattle.http_requests.specs.HeldRequests.{IsHeldRequestLength, held_length};
-ghost use Rattle.http_requests.specs.SessionFeeding.{HandlesSomePrefix, FeedsPieceInPart};
+ghost use Rattle.http_requests.specs.SessionFeeding.{FeedsPieceInPart};
 ghost use Rattle.http_requests.specs.SessionFeeding.{AdmitsHead, AsksAtOnce, FeedsPiece};
 ghost use Rattle.http_requests.specs.ParsedHeads.{IsBoundFault};
 ghost use Rattle.http_requests.specs.Requests.{longest_head};
 ghost use Rattle.http_requests.specs.internal.Progress.{MatchesStage, IsPartialHead, IsClosed};
 ghost use Rattle.http_requests.specs.internal.Progress.{HoldsBody, IsCompleteRequest, IsOpen};
 ghost use Rattle.http_requests.specs.internal.Progress.{AwaitsBody, IsPartialBody};
-ghost use Rattle.http_requests.specs.internal.Progress.{HoldsNoneIfClosed, StepsSession};
+ghost use Rattle.http_requests.specs.internal.Progress.{ConsumesOrFails, HoldsNoneIfClosed};
+ghost use Rattle.http_requests.specs.internal.Progress.{StepsOrFails};
 ghost use Rattle.http_requests.specs.internal.Progress.{open_octets};
 ghost use Rattle.http_requests.specs.internal.HeadScans.{Scans};
 ghost use Rattle.http_requests.specs.declared.head_state.HeadState.TheVariants.{Blank, Ended};
@@ -169,11 +170,8 @@ impl Progress {
     ) -> Result<bool, NoMemory>
         requires whole { IsCompleteRequest H.does handler.old self.old.held.items head.now start }
         requires closed { IsClosed self.old.stage }
-        ensures ok { IfOk result (StepsSession H.does H.fault_reply self.old.held.items handler.old
-            out.old.items out.new.items handler.new self.new) }
-        ensures err { OnErr result (HandlesSomePrefix H.does H.fault_reply self.old.held.items
-            handler.old handler.new) }
-        ensures err_closed { OnErr result (IsClosed self.new.stage) }
+        ensures step { StepsOrFails H.does H.fault_reply self.old.held.items handler.old
+            out.old.items out.new.items handler.new self.new result }
         ensures over { IfOk result (λ _. AwaitsBody self.new.stage → ⊥) }
         ensures room { IfOk result (λ _. vec_capacity self.new.held ≤ longest_head) }
     {
@@ -198,11 +196,8 @@ impl Progress {
         requires ends { EndsAtLastOctet self.old.held.items }
         requires short { length self.old.held.items ≤ longest_head }
         requires closed { IsClosed self.old.stage }
-        ensures ok { IfOk result (StepsSession H.does H.fault_reply self.old.held.items handler.old
-            out.old.items out.new.items handler.new self.new) }
-        ensures err { OnErr result (HandlesSomePrefix H.does H.fault_reply self.old.held.items
-            handler.old handler.new) }
-        ensures err_closed { OnErr result (IsClosed self.new.stage) }
+        ensures step { StepsOrFails H.does H.fault_reply self.old.held.items handler.old
+            out.old.items out.new.items handler.new self.new result }
         ensures asked { IfOk result (λ _. AwaitsBody self.new.stage
             → AdmitsHead H.does handler.new self.new.held.items) }
     {
@@ -244,12 +239,8 @@ impl Progress {
         requires closed { IsClosed self.old.stage }
         requires some { 0 < length piece.now }
         ensures used { IfOk result (λ outcome. (0 < outcome.0) × (outcome.0 ≤ length piece.now)) }
-        ensures ok { IfOk result (λ outcome. StepsSession H.does H.fault_reply
-            (self.old.held.items ++ take outcome.0 piece.now) handler.old out.old.items
-            out.new.items handler.new self.new outcome.1) }
-        ensures err { OnErr result (HandlesSomePrefix H.does H.fault_reply
-            (self.old.held.items ++ piece.now) handler.old handler.new) }
-        ensures err_closed { OnErr result (IsClosed self.new.stage) }
+        ensures step { ConsumesOrFails H.does H.fault_reply self.old.held.items piece.now
+            handler.old out.old.items out.new.items handler.new self.new result }
         ensures asked { IfOk result (λ _. AwaitsBody self.new.stage
             → AdmitsHead H.does handler.new self.new.held.items) }
     {
@@ -281,11 +272,8 @@ impl Progress {
         requires holds { HoldsBody self.old.held.items start end }
         requires whole { length self.old.held.items ≡ end }
         requires closed { IsClosed self.old.stage }
-        ensures ok { IfOk result (StepsSession H.does H.fault_reply self.old.held.items handler.old
-            out.old.items out.new.items handler.new self.new) }
-        ensures err { OnErr result (HandlesSomePrefix H.does H.fault_reply self.old.held.items
-            handler.old handler.new) }
-        ensures err_closed { OnErr result (IsClosed self.new.stage) }
+        ensures step { StepsOrFails H.does H.fault_reply self.old.held.items handler.old
+            out.old.items out.new.items handler.new self.new result }
         ensures over { IfOk result (λ _. AwaitsBody self.new.stage → ⊥) }
     {
         match read_head(alloc, &*handler, &self.held[..start])? {
@@ -314,12 +302,8 @@ impl Progress {
         requires closed { IsClosed self.old.stage }
         requires some { 0 < length piece.now }
         ensures used { IfOk result (λ outcome. (0 < outcome.0) × (outcome.0 ≤ length piece.now)) }
-        ensures ok { IfOk result (λ outcome. StepsSession H.does H.fault_reply
-            (self.old.held.items ++ take outcome.0 piece.now) handler.old out.old.items
-            out.new.items handler.new self.new outcome.1) }
-        ensures err { OnErr result (HandlesSomePrefix H.does H.fault_reply
-            (self.old.held.items ++ piece.now) handler.old handler.new) }
-        ensures err_closed { OnErr result (IsClosed self.new.stage) }
+        ensures step { ConsumesOrFails H.does H.fault_reply self.old.held.items piece.now
+            handler.old out.old.items out.new.items handler.new self.new result }
         ensures more { IfOk result (λ outcome. AwaitsBody self.new.stage →
             (handler.new ≡ handler.old)
             × (self.new.held.items ≡ self.old.held.items ++ take outcome.0 piece.now)) }
@@ -347,12 +331,8 @@ impl Progress {
         requires is_open { IsOpen self.old.stage }
         requires some { 0 < length piece.now }
         ensures used { IfOk result (λ outcome. (0 < outcome.0) × (outcome.0 ≤ length piece.now)) }
-        ensures ok { IfOk result (λ outcome. StepsSession H.does H.fault_reply
-            (self.old.held.items ++ take outcome.0 piece.now) handler.old out.old.items
-            out.new.items handler.new self.new outcome.1) }
-        ensures err { OnErr result (HandlesSomePrefix H.does H.fault_reply
-            (self.old.held.items ++ piece.now) handler.old handler.new) }
-        ensures err_closed { OnErr result (IsClosed self.new.stage) }
+        ensures step { ConsumesOrFails H.does H.fault_reply self.old.held.items piece.now
+            handler.old out.old.items out.new.items handler.new self.new result }
         ensures asked { IfOk result (λ outcome. AwaitsBody self.new.stage →
             AdmitsHead H.does handler.new self.new.held.items
             ⊎ ((handler.new ≡ handler.old)

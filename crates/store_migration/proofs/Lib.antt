@@ -5,3 +5,5 @@ pub mod WriteLemmas
 pub mod PlanLemmas
 pub mod MigrateLemmas
 pub mod RefusalLemmas
+pub mod FirstFailures
+pub mod RestateFailures

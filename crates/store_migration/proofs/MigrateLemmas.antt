@@ -1,19 +1,25 @@
 -- The whole migration: the plan, and then its one transaction.
-use Rattle.std.proofs.Common.{◌⊎◌, inl, inr, List, IsPermutation, sym, subst}
+use Rattle.std.proofs.Common.{◌⊎◌, inl, inr, List, map, IsPermutation, sym, subst, ◌∙◌}
 use Rattle.std.specs.Prelude.{⊤}
-use Rattle.std.proofs.lemmas.List.Sorted.{IsPermutation-map, IsPermutation-trans}
+use Rattle.std.proofs.lemmas.List.{map-id}
+use Rattle.std.proofs.lemmas.List.Sorted.{IsPermutation-map, IsPermutation-refl}
+use Rattle.std.proofs.lemmas.List.Sorted.{IsPermutation-sym, IsPermutation-trans}
 use Rattle.sqlite.specs.Effect.{Database}
 use Rattle.sqlite.specs.Order.{Row}
 use Rattle.sqlite.specs.State.{State, HasCleanDisk, IsUnchanged, Survives}
 use Rattle.sqlite.specs.Tree.{Trees}
 use Rattle.sqlite.proofs.StateLemmas.{survives_then}
+use Rattle.sqlite_trees.proofs.ListLemmas.{map-map}
 use Rattle.book_model.specs.Bounds.{Bounds}
 use Rattle.store_tables.specs.Keeps.{KeepRow, keep_row}
 use Rattle.store_tables.specs.Tables.{book_schema}
-use Rattle.store_rows.specs.TableRows.{rows_in}
+use Rattle.store_check.proofs.PermutedLemmas.{sound_moved}
+use Rattle.store_rows.specs.SoundTables.{HoldsWellFormed}
+use Rattle.store_rows.specs.TableRows.{load_keep, rows_in}
 use Rattle.store_migration.specs.Migration.{CommitsMigration, IsMigrated, AddsKeeps}
 use Rattle.store_migration.specs.internal.MigrationPlans.{IsMigrationPlan}
-use Rattle.store_migration.specs.internal.MigrationWrites.{IsFirstWithId, TreesAddKeeps}
+use Rattle.store_migration.specs.internal.MigrationWrites.{AcceptKeeps, IsFirstWithId}
+use Rattle.store_migration.specs.internal.MigrationWrites.{TreesAddKeeps}
 use Rattle.store_migration.specs.InitialKeeps.{initial_keeps}
 
 -- the keeps in the order of the plan are the computed ones
@@ -29,6 +35,26 @@ migrated old new keep_rows same h = record {
   imports = h.imports;
   keeps_are = IsPermutation-trans _ _ _ (IsPermutation-map keep_row _ _ same) h.keeps_are;
 }
+
+-- the keeps in the order of the plan are those of different books that are there
+pub accepts : (limits : Bounds) (db new : Database) (keep_rows : List KeepRow)
+    → IsPermutation (initial_keeps (rows_in db.trees)) keep_rows → IsMigrated db new
+    → (held : HoldsWellFormed limits new) → AcceptKeeps held.rows.books keep_rows
+accepts limits db new keep_rows same made held =
+    let loaded = λ (ks : List KeepRow). map-map load_keep keep_row ks ∙ map-id ks in
+    let stored = IsPermutation-map load_keep _ _ (IsPermutation-trans _ _ _ held.holds.keeps
+    (IsPermutation-sym _ _ made.keeps_are)) in
+    let first = subst (λ l. IsPermutation l (map load_keep (map keep_row
+    (initial_keeps (rows_in db.trees))))) (loaded held.rows.keeps) stored in
+    let keeps = IsPermutation-trans _ _ _ (subst (IsPermutation held.rows.keeps)
+    (loaded (initial_keeps (rows_in db.trees))) first) same in
+    let there = sound_moved held.rows (record held.rows { keeps = keep_rows }) (record {
+      books = IsPermutation-refl _;
+      members = IsPermutation-refl _;
+      imports = IsPermutation-refl _;
+      keeps = keeps;
+    }) held.well_formed.sound in
+    record { apart = there.keeps; listed = there.listed_keeps }
 
 -- a crash in one or the other, where the first commits nothing
 pub survives_both : (a b c : State) (P : Trees → Type 0) → Survives a b (λ _. ⊥)
@@ -58,7 +84,7 @@ module _ (limits : Bounds) (a b c : State) (keeps : List Row) (kept : HasCleanDi
   first_with clean =
       let p = plan_migration clean in
       subst (IsFirstWithId p.numbered.id) (sym (kept clean).0.now_is)
-      (record { schema = p.first.schema; one = p.numbered.one })
+      (record { schema = p.first.schema; one = p.numbered.one; fits = p.numbered.fits })
 
   pub is_migrated : (clean : HasCleanDisk b) (new : Database)
       → AddsKeeps (plan_migration clean).keep_rows b.now new → IsMigrated a.now new

@@ -1,17 +1,22 @@
 -- The rows of the first schema against the migrated tables.
-use Rattle.std.proofs.Common.{◌≡◌, ℤ, pos, max, List, [], ◌∷◌, map, length, Ok, Err}
-use Rattle.std.proofs.Common.{Result, IfOk, IfErr, IsPermutation, sym, ap, subst, ◌∙◌}
-use Rattle.std.specs.Prelude.{Vec}
+use Rattle.std.proofs.Common.{◌≡◌, inl, inr, ℤ, pos, max, List, [], ◌∷◌, map, length, Ok, Err, IsTrue}
+use Rattle.std.proofs.Common.{Result, IfOk, IfErr, IsPermutation, refl, sym, ap, subst, ◌∙◌}
+use Rattle.std.specs.Int.{w64}
+use Rattle.std.specs.Prelude.{FitsSigned, Vec}
 use Rattle.std.specs.declared.alloc.Global.{Global}
 use Rattle.std.proofs.lemmas.List.{length-map}
 use Rattle.std.proofs.lemmas.List.Sorted.{length_permutation, IsPermutation-map, IsPermutation-sym}
 use Rattle.std.proofs.lemmas.List.Sorted.{IsPermutation-trans}
-use Rattle.sqlite.specs.declared.types.Value.TheVariants.{Int}
+use Rattle.sqlite.specs.declared.types.Value.{Value}
+use Rattle.sqlite.specs.declared.types.Value.TheVariants.{Null, Int, Real, Text, Blob}
 use Rattle.sqlite.specs.Effect.{Database}
 use Rattle.sqlite.specs.Order.{Row, column}
+use Rattle.sqlite.specs.State.{State, HasCleanDisk, Survives}
+use Rattle.sqlite.specs.Tree.{Trees}
 use Rattle.sqlite.proofs.Callers.{one_permutation}
 use Rattle.sqlite_rules.specs.Edit.{id_in}
 use Rattle.sqlite_trees.proofs.ListLemmas.{map-map, IsPermutation-filter}
+use Rattle.sqlite_trees.specs.View.{is_int}
 use Rattle.book_model.specs.Bounds.{Bounds}
 use Rattle.store_tables.specs.Books.{BookRow, book_listed}
 use Rattle.store_tables.specs.Imports.{import_cells}
@@ -22,13 +27,16 @@ use Rattle.store_check.specs.OpenResults.{IsRowCheckResult}
 use Rattle.store_check.specs.RowChecks.{AreWellStored, HasNumber, decode_book}
 use Rattle.store_check.specs.ListedRows.{AreListedRows, WellStoredAreHeld}
 use Rattle.store_schema.specs.FirstSchema.{IsFirstSchema, first_number}
+use Rattle.store_schema.specs.OpenFaults.{ComesFromOutside}
 use Rattle.store_schema.specs.declared.open_fault.OpenFault.{OpenFault}
 use Rattle.store_schema.specs.declared.open_fault.OpenFault.TheVariants.{Store, NotOurs}
 use Rattle.store_schema.specs.declared.open_fault.OpenFault.TheVariants.{OtherSchema, Damaged}
 use Rattle.store_schema.specs.declared.open_fault.OpenFault.TheVariants.{NotEmpty, Memory}
 use Rattle.store_tables.specs.Meta.{meta_listed, schema_row}
+use Rattle.store_tables.proofs.FailureLemmas.{outside_later}
 use Rattle.store_migration.specs.internal.FirstRows.{AreListedFirstRows, id_cell, meta_cells}
-use Rattle.store_migration.specs.Migration.{IsMigrationRefusal, IsMigrated}
+use Rattle.store_migration.specs.Migration.{HaveRowIds, IsMigrationRefusal, IsMigrated}
+use Rattle.store_migration.specs.Migration.{MigratesWellFormed}
 use Rattle.store_migration.specs.internal.MigrationPlans.{HasMetaId, IsMigrationPlan}
 use Rattle.store_migration.specs.internal.MigrationPlans.{IsKeepsCheckResult}
 use Rattle.store_migration.specs.InitialKeeps.{initial_keep_from, initial_keep, cells_of_keep}
@@ -140,9 +148,60 @@ module _ (db : Database) (books members imports : List Row) (listed :
     keeps_refused (Ok keeps) returned = tt
     keeps_refused (Err fault) returned = due_of fault returned
 
--- ---- faults of the database
+    -- tables that can be migrated are refused only for lack of memory
+    pub keeps_outside : MigratesWellFormed limits db → (r : Result (Vec Row Global) OpenFault)
+        → IsKeepsCheckResult limits books members imports r → IfErr r (λ fault. fault ≡ Memory)
+    keeps_outside can (Ok keeps) returned = tt
+    keeps_outside can (Err Store) returned = absurd returned
+    keeps_outside can (Err NotOurs) returned = absurd returned
+    keeps_outside can (Err (OtherSchema has)) returned = absurd returned
+    keeps_outside can (Err Damaged) returned =
+        absurd ((due_of Damaged returned).1 can.0 can.1 can.2)
+    keeps_outside can (Err NotEmpty) returned = absurd returned
+    keeps_outside can (Err Memory) returned = refl
+
+-- ---- faults
+
+-- the fault of a later read
+pub later_fault : (a b c : State) (P Q : Trees → Type 0) (fault : OpenFault) → Survives a b P
+    → HasCleanDisk b → Survives b c Q → ComesFromOutside b c fault → ComesFromOutside a c fault
+later_fault a b c P Q fault before clean after (inl memory) = inl memory
+later_fault a b c P Q fault before clean after (inr (is, cause)) =
+    inr (is, outside_later a b c P Q before clean after cause)
+
+pub later_faults : {T : Type 0} (a b c : State) (P Q : Trees → Type 0) (r : Result T OpenFault)
+    → Survives a b P → HasCleanDisk b → Survives b c Q → IfErr r (ComesFromOutside b c)
+    → IfErr r (ComesFromOutside a c)
+later_faults a b c P Q (Ok x) before clean after h = tt
+later_faults a b c P Q (Err fault) before clean after h =
+    later_fault a b c P Q fault before clean after h
 
 -- ---- the row of the table `meta`
+
+int_of : (v : Value) → IsTrue (is_int v) → v ≡ Int (id_in v)
+int_of Null h = absurd (let e = h in cc)
+int_of (Int n) h = refl
+int_of (Real x) h = absurd (let e = h in cc)
+int_of (Text t) h = absurd (let e = h in cc)
+int_of (Blob b) h = absurd (let e = h in cc)
+
+-- it is one, with a number as its id
+pub meta_row : (db : Database) (rows : List Row) → IsFirstSchema db → HaveRowIds (db.trees 0)
+    → IsPermutation (map id_cell (db.trees 0)) rows
+    → (row : Row) × (rows ≡ row ∷ []) × HasNumber 0 row
+meta_row db rows first ids same = go (db.trees 0) first.meta ids same
+  where
+    go : (stored : List Row) → map meta_listed stored ≡ schema_row first_number ∷ []
+        → HaveRowIds stored → IsPermutation (map id_cell stored) rows
+        → (row : Row) × (rows ≡ row ∷ []) × HasNumber 0 row
+    go [] e ids same = absurd cc
+    go (r ∷ []) e ids same = (
+      id_cell r,
+      one_permutation (id_cell r) rows same,
+      int_of (column r 0)
+          ids.0,
+    )
+    go (r ∷ q ∷ qs) e ids same = absurd cc
 
 -- the one row, with its id
 one_row : (number : ℤ) (id : ℤ) (rows : List Row) → map meta_listed rows ≡ schema_row number ∷ []
@@ -156,26 +215,25 @@ one_row number id (r ∷ []) says ids =
     λ i. (at i ∷ rest i) ∷ []
 one_row number id (r ∷ q ∷ qs) says ids = absurd cc
 
-pub has_id : (db : Database) (rows : List Row) (row : Row) → IsFirstSchema db
-    → IsPermutation (map id_cell (db.trees 0)) rows → rows ≡ row ∷ [] → HasNumber 0 row
-    → HasMetaId db
-has_id db rows row first same is number =
+pub has_id : (db : Database) (rows : List Row) (row : Row) (id : ℤ) → IsFirstSchema db
+    → IsPermutation (map id_cell (db.trees 0)) rows → rows ≡ row ∷ [] → column row 0 ≡ Int id
+    → FitsSigned w64 id → HasMetaId db
+has_id db rows row id first same is number fits =
     let alone : map id_cell (db.trees 0) ≡ row ∷ [] =
     one_permutation row (map id_cell (db.trees 0))
     (IsPermutation-sym _ _ (subst (IsPermutation (map id_cell (db.trees 0))) is same)) in
-    let id = id_in (column row 0) in
     record {
       id = id;
       one = one_row first_number id (db.trees 0) first.meta
           (ids (db.trees 0) row alone number);
+      fits = fits;
     }
   where
-    ids : (rows : List Row) (row : Row) → map id_cell rows ≡ row ∷ [] → HasNumber 0 row
-        → map id_cell rows ≡ (Int (id_in (column row 0)) ∷ []) ∷ []
+    ids : (rows : List Row) (row : Row) → map id_cell rows ≡ row ∷ [] → column row 0 ≡ Int id
+        → map id_cell rows ≡ (Int id ∷ []) ∷ []
     ids [] row e number = absurd cc
     ids (r ∷ []) row e number =
         let first : id_cell r ≡ row = cc in
-        let at : column r 0 ≡ Int (id_in (column row 0)) = ap (λ cells. column cells 0) first
-        ∙ number in
+        let at : column r 0 ≡ Int id = ap (λ cells. column cells 0) first ∙ number in
         λ i. (at i ∷ []) ∷ []
     ids (r ∷ q ∷ qs) row e number = absurd cc

@@ -61,7 +61,7 @@ single [] cells e = absurd cc
 single (r ∷ []) cells e = (r, refl, cc)
 single (r ∷ q ∷ qs) cells e = absurd cc
 
-cast_meta : (id number : ℤ) → cast_row meta (Int id ∷ schema_row number) ≡ Int id ∷ schema_row
+pub cast_meta : (id number : ℤ) → cast_row meta (Int id ∷ schema_row number) ≡ Int id ∷ schema_row
     number
 cast_meta id number = rw (cast_int id, cast_int number)
 
@@ -92,14 +92,14 @@ module _ (limit : Option ℕ) (id before number : ℤ) (db : Trees) (is : map me
   abbrev it : (r : Row) × (db 0 ≡ r ∷ []) × (meta_cells r ≡ Int id ∷ schema_row before)
   it = single (db 0) (Int id ∷ schema_row before) is
 
-  only_it : map f (filter p (db 0)) ≡ target ∷ []
+  pub only_it : map f (filter p (db 0)) ≡ target ∷ []
   only_it = ap (λ rows. map f (filter p rows)) it.1 ∙ ap (λ cells. f cells ∷ []) it.2
 
   found : has_rowid id it.0 ≡ true
   found = ap (λ cells. is_eq (value_cmp (column cells 0) (Int id))) it.2
       ∙ ap is_eq (value_cmp-Int id id) ∙ int_itself id
 
-  gone : without_rowid id (db 0) ≡ []
+  pub gone : without_rowid id (db 0) ≡ []
   gone = ap (without_rowid id) it.1 ∙ ap (λ b. cond (not b) (it.0 ∷ []) []) found
 
   pub restates : (w : Written) → Updates task (record { lets = []; body = update_query }) params db

@@ -8,12 +8,14 @@ use Rattle.sqlite.specs.State.{State, KeepsCommit, KeepsCounts, Shows}
 use Rattle.sqlite.specs.Steps.{FailsToCommit}
 use Rattle.sqlite.specs.Tree.{Trees}
 use Rattle.sqlite_trees.proofs.ListLemmas.{all_weaker}
+use Rattle.store_tables.specs.Acceptance.{AcceptsKeep}
+use Rattle.store_tables.specs.Books.{BookRow}
 use Rattle.store_tables.specs.Keeps.{AddsKeep, KeepRow}
 use Rattle.store_tables.specs.SchemaCreation.{HoldsInTx}
 use Rattle.store_tables.specs.StatementEffects.{KeepsOtherTables, WritesOnly}
 use Rattle.store_tables.proofs.KeyedRows.{turned}
 use Rattle.store_tables.proofs.TransactionLemmas.{rollback_restores}
-use Rattle.store_migration.specs.internal.MigrationWrites.{CommitsKeeps, WroteKeeps}
+use Rattle.store_migration.specs.internal.MigrationWrites.{AcceptKeeps, CommitsKeeps, WroteKeeps}
 use Rattle.store_migration.specs.InitialKeeps.{cells_of_keep}
 
 -- ---- the keeps
@@ -67,6 +69,15 @@ one_kept a b c k ks book keep book_is keep_is before added wrote =
         before.apart,
       );
     }
+
+-- the table accepts the first keep after the others
+pub accepts_first : (bs : List BookRow) (k : KeepRow) (ks : List KeepRow) → AcceptKeeps bs (k ∷ ks)
+    → AcceptsKeep bs ks k.book
+accepts_first bs k ks h = record {
+  listed = h.listed.0;
+  unused = all_weaker (λ (x : KeepRow). int_eq k.book x.book ≡ false) _
+      (λ x apart. turned k.book x.book apart) ks h.apart.0;
+}
 
 -- ---- the transaction
 

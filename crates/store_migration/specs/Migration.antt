@@ -1,25 +1,29 @@
 -- The contract of the migration from the first schema to the second.
-use Rattle.std.specs.Prelude.{◌≡◌, ⊤, ℕ, List, length, Option, Err}
+use Rattle.std.specs.Prelude.{◌≡◌, ⊤, ℕ, List, length, Option, Result, Err, IfErr, IsTrue}
+use Rattle.std.specs.List.{AllByRecursion}
 use Rattle.sqlite.specs.Effect.{Database}
 use Rattle.sqlite.specs.declared.error.Error.{Error}
 use Rattle.sqlite.specs.declared.file.Leftover.{Leftover}
 use Rattle.sqlite.specs.Files.{image_of}
+use Rattle.sqlite.specs.Order.{Row}
 use Rattle.sqlite.specs.Recovery.{Image}
 use Rattle.sqlite.specs.Start.{FindsIn}
-use Rattle.sqlite.specs.State.{State, Survives}
-use Rattle.sqlite.specs.Tree.{Trees}
+use Rattle.sqlite.specs.State.{State, HasCleanDisk, Survives}
+use Rattle.sqlite.specs.Tree.{Trees, rowid}
 use Rattle.sqlite_disk.specs.declared.Disk.{Ghosts}
 use Rattle.sqlite_disk.specs.declared.Files.{Files}
+use Rattle.sqlite_trees.specs.View.{is_int}
 use Rattle.book_model.specs.Bounds.{Bounds}
 use Rattle.store_tables.specs.Keeps.{KeepRow, HoldKeeps}
 use Rattle.store_tables.specs.Meta.{schema_number}
-use Rattle.store_tables.specs.Tables.{ObeyTables, book_schema}
+use Rattle.store_tables.specs.Tables.{ObeyTables, book_schema, meta_tree}
 use Rattle.store_rows.specs.SoundTables.{HoldsWellFormed}
 use Rattle.store_rows.specs.TableRows.{rows_in}
 use Rattle.store_check.specs.OpenResults.{max_limits}
 use Rattle.store_migration.specs.InitialKeeps.{initial_keeps}
 use Rattle.store_schema.specs.FileFaults.{IsFileFault, IsFileRefusal, IsLeftOf}
 use Rattle.store_schema.specs.FirstSchema.{IsFirstSchema, ClassifiesFirstSchema}
+use Rattle.store_schema.specs.OpenFaults.{ComesFromOutside}
 use Rattle.store_schema.specs.StoredSchema.{HasSchemaNumber}
 use Rattle.store_schema.specs.declared.open_fault.OpenFault.{OpenFault}
 use Rattle.store_schema.specs.declared.open_fault.OpenFault.TheVariants.{Store, NotOurs}
@@ -83,6 +87,25 @@ IsMigrationRefusal limits db Memory = ⊤
 -- a migration of the tables would hold well-formed books
 abbrev pub MigratesWellFormed : Bounds → Database → Type 0
 MigratesWellFormed limits db = (new : Database) × IsMigrated db new × HoldsWellFormed limits new
+
+-- ---- why tables that can be migrated are not
+
+-- each row has an id that is a number, as each row in a file has
+abbrev pub HaveRowIds : List Row → Type 0
+HaveRowIds = AllByRecursion (λ r. IsTrue (is_int (rowid r)))
+
+-- the tables are of the first schema, and a migration of them would hold well-formed books
+pub record CanMigrate (limits : Bounds) (db : Database) : Type 0 where
+  pub first : IsFirstSchema db
+  pub ids : HaveRowIds (db.trees meta_tree)
+  pub migrates : MigratesWellFormed limits db
+
+-- If the tables can be migrated, an error comes only for lack of memory, or is `Store` with a cause
+-- outside the tables.
+abbrev pub MigrationFailsFromOutside :
+    {T : Type 0} → Bounds → State → State → Result T OpenFault → Type 0
+MigrationFailsFromOutside limits old new result = HasCleanDisk new → CanMigrate limits old.now →
+    IfErr result (ComesFromOutside old new)
 
 -- ---- why files are not migrated
 

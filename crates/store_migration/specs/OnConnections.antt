@@ -1,4 +1,5 @@
 -- Definitions over connections, for contracts, as in `store_tables`.
+use Rattle.std.specs.Prelude.{Result}
 use Rattle.sqlite.specs.Held.{Held, state}
 use Rattle.sqlite.specs.Tree.{Trees}
 use Rattle.book_model.specs.Bounds.{Bounds}
@@ -12,6 +13,11 @@ module _ {S : Type 0} (store : Ghosts S) (conn : Held S) where
 
   abbrev pub CommitsMigration : Bounds → Trees → Type 0
   CommitsMigration limits = migration.CommitsMigration limits (state store conn).now
+
+abbrev pub MigrationFailsFromOutside :
+    {S T : Type 0} → Ghosts S → Held S → Held S → Bounds → Result T OpenFault → Type 0
+MigrationFailsFromOutside store old new limits =
+    migration.MigrationFailsFromOutside limits (state store old) (state store new)
 
 abbrev pub IsMigrated : {S : Type 0} → Ghosts S → Held S → Held S → Type 0
 IsMigrated store old new = migration.IsMigrated (state store old).now (state store new).now

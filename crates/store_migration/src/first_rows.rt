@@ -5,6 +5,7 @@ ghost use Rattle.store_tables.specs.Books.{book_listed};
 ghost use Rattle.store_tables.specs.Imports.{import_cells};
 ghost use Rattle.store_tables.specs.Members.{member_cells};
 ghost use Rattle.store_migration.specs.internal.OnConnections.{
+  FailsFromOutsideFirstSchema,
   GivenFirstSchema,
   OnlyReadsFirstSchema,
   UnchangedOnOkFirstSchema,
@@ -19,6 +20,7 @@ pub(crate) fn list_meta_ids<S: Alter>(conn: &mut Connection<S>) -> Result<Vec<Ro
         (ListsTable S.Store conn.old 0 id_cell result) }
     ensures unchanged { UnchangedOnOkFirstSchema S.Store conn.old conn.new result }
     ensures reads_only { OnlyReadsFirstSchema S.Store conn.old conn.new }
+    ensures fails_from_outside { FailsFromOutsideFirstSchema S.Store conn.old conn.new result }
 {
     conn.query_all("SELECT rowid FROM meta", params![])
 }
@@ -29,6 +31,7 @@ pub(crate) fn list_books<S: Alter>(conn: &mut Connection<S>) -> Result<Vec<Row>,
         (ListsTable S.Store conn.old 2 book_listed result) }
     ensures unchanged { UnchangedOnOkFirstSchema S.Store conn.old conn.new result }
     ensures reads_only { OnlyReadsFirstSchema S.Store conn.old conn.new }
+    ensures fails_from_outside { FailsFromOutsideFirstSchema S.Store conn.old conn.new result }
 {
     conn.query_all(
         "SELECT id, name, number, horizon, created, edited, imported, import_edited, moved_in, \
@@ -44,6 +47,7 @@ pub(crate) fn list_members<S: Alter>(conn: &mut Connection<S>) -> Result<Vec<Row
         (ListsTable S.Store conn.old 4 member_cells result) }
     ensures unchanged { UnchangedOnOkFirstSchema S.Store conn.old conn.new result }
     ensures reads_only { OnlyReadsFirstSchema S.Store conn.old conn.new }
+    ensures fails_from_outside { FailsFromOutsideFirstSchema S.Store conn.old conn.new result }
 {
     conn.query_all(
         "SELECT rowid, book, uid, changed, card FROM member",
@@ -58,6 +62,7 @@ pub(crate) fn list_imports<S: Alter>(conn: &mut Connection<S>) -> Result<Vec<Row
         (ListsTable S.Store conn.old 7 import_cells result) }
     ensures unchanged { UnchangedOnOkFirstSchema S.Store conn.old conn.new result }
     ensures reads_only { OnlyReadsFirstSchema S.Store conn.old conn.new }
+    ensures fails_from_outside { FailsFromOutsideFirstSchema S.Store conn.old conn.new result }
 {
     conn.query_all(
         "SELECT rowid, book, ikey, added, edited, same, number FROM import_key",

@@ -5,6 +5,7 @@ ghost use Rattle.store_migration.specs.OnConnections.{
   CommitsMigration,
   IsMigrated,
   IsMigrationRefusal,
+  MigrationFailsFromOutside,
 };
 ghost use Rattle.store_schema.specs.OnConnections.{IsFirstSchema};
 ghost use Rattle.store_tables.specs.OnConnections.{
@@ -53,6 +54,9 @@ pub fn migrate_connection<S: Alter>(
         → IfOk result (λ count. count ≡ length (table_rows S.Store conn.old 2)) }
     ensures refusal { HasCleanDisk S.Store conn.new
         → IfErr result (IsMigrationRefusal S.Store conn.old max_limits) }
+
+    // Tables that can be migrated are refused only for lack of memory or for an outside cause.
+    ensures from_outside { MigrationFailsFromOutside S.Store conn.old conn.new max_limits result }
     ensures unchanged_on_error { HasCleanDisk S.Store conn.new → IsConnectionOpen S.Store conn.new
         → OnErr result (ShowsTheSame S.Store conn.old conn.new) }
     ensures settled { conn.new.in_transaction ≡ false }

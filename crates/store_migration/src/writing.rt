@@ -1,10 +1,13 @@
 //! Writes the tables of the second schema over those of the first, in one transaction.
 ghost use Rattle.store_migration.specs.internal.FirstRows.{HasOneSchemaNumber};
+ghost use Rattle.store_migration.specs.internal.MigrationWrites.{AcceptKeeps};
+ghost use Rattle.store_tables.specs.Books.{BookRow};
 ghost use Rattle.store_tables.specs.Keeps.{KeepRow};
 ghost use Rattle.store_tables.specs.Tables.{book_schema};
 ghost use Rattle.store_schema.specs.FirstSchema.{first_number};
 ghost use Rattle.store_schema.specs.StoredSchema.{HasSchemaNumber};
-ghost use Rattle.std.specs.Prelude.{◌≡◌, ℤ, List, OnOk, [], false, map};
+ghost use Rattle.std.specs.Int.{w64};
+ghost use Rattle.std.specs.Prelude.{◌≡◌, ℤ, FitsSigned, List, OnOk, [], false, map};
 ghost use Rattle.store_migration.specs.InitialKeeps.{cells_of_keep};
 ghost use Rattle.store_migration.specs.internal.OnConnections.{
   AddsKeeps,
@@ -15,14 +18,18 @@ ghost use Rattle.store_migration.specs.internal.OnConnections.{
 };
 ghost use Rattle.store_tables.specs.OnConnections.{
   CountsFaults,
+  HasBooks,
   HasCleanDisk,
+  HasOutsideCauseOfError,
   HoldsInTx,
   HoldsNow,
   InsideTx,
   KeepsCommit,
   KeepsCommitInTx,
+  ObeyTables,
   Survives,
   SurvivesAsBefore,
+  WriteFailsFromOutside,
   WritesOnly,
   table_rows,
 };
@@ -47,6 +54,9 @@ fn update_schema_number<S: Alter>(tx: &mut Transaction<'_, S>, number: i64) -> R
         → OnOk result (WritesOnly S.Store tx.old.conn.now tx.new.conn.now 0)) }
     ensures keeps_commit { KeepsCommitInTx S.Store tx.old.conn.now tx.new.conn.now }
     ensures survives { SurvivesAsBefore S.Store tx.old.conn.now tx.new.conn.now }
+    ensures fails_from_outside { (id : ℤ) → FitsSigned w64 id
+        → HoldsNow S.Store tx.old.conn.now (HasOneSchemaNumber id first_number)
+        → WriteFailsFromOutside S.Store tx.old.conn.now tx.new.conn.now result }
 {
     tx.execute("UPDATE meta SET val = ?1", params![number])
 }
@@ -64,6 +74,14 @@ fn insert_keeps<S: Alter>(tx: &mut Transaction<'_, S>, keeps: &[Row]) -> Result<
         → table_rows S.Store tx.old.conn.now 9 ≡ [] → keeps.now ≡ map cells_of_keep keep_rows
         → KeepsCommit S.Store tx.old.conn.now tx.new.conn.now) }
     ensures survives { SurvivesAsBefore S.Store tx.old.conn.now tx.new.conn.now }
+    ensures obeys { (keep_rows : List KeepRow)
+        → InsideTx S.Store tx.old.conn.now tx.new.conn.now (tx.old.conn.now.schema ≡ book_schema
+        → table_rows S.Store tx.old.conn.now 9 ≡ [] → keeps.now ≡ map cells_of_keep keep_rows
+        → ObeyTables S.Store tx.old.conn.now → OnOk result (ObeyTables S.Store tx.new.conn.now)) }
+    ensures fails_from_outside { (keep_rows : List KeepRow) (bs : List BookRow)
+        → table_rows S.Store tx.old.conn.now 9 ≡ [] → keeps.now ≡ map cells_of_keep keep_rows
+        → HasBooks S.Store tx.old.conn.now bs → AcceptKeeps bs keep_rows
+        → WriteFailsFromOutside S.Store tx.old.conn.now tx.new.conn.now result }
 {
     let Some((keep, others)) = keeps.split_first() else {
         return Ok(());
@@ -86,6 +104,11 @@ fn write_keeps<S: Alter>(tx: &mut Transaction<'_, S>, keeps: &[Row]) -> Result<(
         → keeps.now ≡ map cells_of_keep keep_rows
         → KeepsCommit S.Store tx.old.conn.now tx.new.conn.now) }
     ensures survives { SurvivesAsBefore S.Store tx.old.conn.now tx.new.conn.now }
+    ensures fails_from_outside { (id : ℤ) (keep_rows : List KeepRow) (bs : List BookRow)
+        → InsideTx S.Store tx.old.conn.now tx.new.conn.now (IsFirstWithId S.Store tx.old.conn.now id
+        → keeps.now ≡ map cells_of_keep keep_rows → HasBooks S.Store tx.old.conn.now bs
+        → AcceptKeeps bs keep_rows
+        → HasOutsideCauseOfError S.Store tx.old.conn.now tx.new.conn.now result) }
 {
     create_keeps(tx)?;
     insert_keeps(tx, keeps)?;
@@ -104,6 +127,10 @@ pub(crate) fn commit_keeps<S: Alter>(conn: &mut Connection<S>, keeps: &[Row]) ->
     ensures crash { (id : ℤ) (keep_rows : List KeepRow) → IsFirstWithId S.Store conn.old id
         → keeps.now ≡ map cells_of_keep keep_rows
         → Survives S.Store conn.old conn.new (TreesAddKeeps S.Store conn.old keep_rows) }
+    ensures fails_from_outside { (id : ℤ) (keep_rows : List KeepRow) (bs : List BookRow)
+        → HasCleanDisk S.Store conn.new → IsFirstWithId S.Store conn.old id
+        → keeps.now ≡ map cells_of_keep keep_rows → HasBooks S.Store conn.old bs
+        → AcceptKeeps bs keep_rows → HasOutsideCauseOfError S.Store conn.old conn.new result }
 {
     assert_no_pending_writes(conn);
     let mut tx = conn.transaction();

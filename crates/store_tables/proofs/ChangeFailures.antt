@@ -33,7 +33,8 @@ use Rattle.store_tables.specs.Failures.{HasOutsideCause}
 use Rattle.store_tables.specs.Members.{AreMembers, HoldMembers, MemberRow, has_uid, member_row}
 use Rattle.store_tables.specs.Tables.{book_schema, member}
 use Rattle.store_tables.proofs.ChangeLemmas.{edit_by, f, no_rows, rows_for, some_or_none}
-use Rattle.store_tables.proofs.EditLemmas.{IsAdmitted, edit_never_stops, never_stops, stops}
+use Rattle.store_tables.proofs.EditLemmas.{IsAdmitted, admits_no_rows, edit_never_stops}
+use Rattle.store_tables.proofs.EditLemmas.{never_stops, stops}
 use Rattle.store_tables.proofs.Picks.{picked}
 use Rattle.store_tables.proofs.PutFailures.{later_admitted, refers_with}
 use Rattle.store_tables.proofs.PutLemmas.{cast_same, same_value, went_on}
@@ -80,18 +81,7 @@ module _ (limit : Option ℕ) (book : ℤ) (uid : List ℕ) (changed : ℤ) (car
   nothing_referred = refl
 
   nothing_admitted : IsAdmitted db nothing
-  nothing_admitted = record {
-    keyed = refl;
-    numbered = refl;
-    typed = refl;
-    present = refl;
-    checked = refl;
-    fresh = refl;
-    unique = refl;
-    referred = nothing_referred;
-    storable = λ row h. absurd h;
-    listed = inr (inr (inl refl));
-  }
+  nothing_admitted = admits_no_rows db [] nothing_referred
 
   asks : (card : Option (List ℕ)) → accepts_program book_schema [] change_query
       (Int book ∷ Text uid ∷ Int changed ∷ or_null Text card ∷ []) ≡ true

@@ -15,6 +15,7 @@ use Rattle.sqlite.specs.State.{State, ExecutesInside, Writes, mode_of}
 use Rattle.sqlite.specs.Table.{Table}
 use Rattle.sqlite.proofs.Callers.{IsPlain, command_of, statement_of, runs_as}
 use Rattle.sqlite_catalog.specs.Change.{next_tree}
+use Rattle.sqlite_catalog.specs.Listing.{IsSound}
 use Rattle.sqlite_tied.specs.Compute.{everything}
 use Rattle.std.specs.Prelude.{MatchBool, codes}
 use Rattle.store_tables.specs.SchemaCreation.{IsTableCreated, empty_schema, with_meta, with_books}
@@ -53,6 +54,8 @@ module _ (sql : List ℕ) (before after : Schema) (table : Table) (tree : ℕ) (
         schema = ap (λ (d : Database). d.schema) now ∙ schema;
         empty = ap (λ (d : Database). d.trees tree) now
             ∙ subst (λ t. inner.0.trees t ≡ []) next it.empty;
+        obeys = subst (λ s. IsSound s new.now.trees) (ap (λ (d : Database). d.schema) now ∙ schema)
+            w.sound;
         others = subst (λ trees. AllByRecursion (λ t. trees t.tree ≡ old.now.trees t.tree)
             before.tables) (ap (λ (d : Database). d.trees) (sym now)) it.others;
       }
@@ -61,20 +64,20 @@ abbrev pub meta_create : List ℕ
 meta_create =
     codes "CREATE TABLE meta (name TEXT NOT NULL PRIMARY KEY, val INTEGER NOT NULL) STRICT"
 
-meta_defined : table_defined_by meta_create ≡ Ok meta
+pub meta_defined : table_defined_by meta_create ≡ Ok meta
 unfolding understood everything
 meta_defined = refl
 
-meta_is : (command_of (understood empty_schema meta_create) ≡ CreateTable)
+pub meta_is : (command_of (understood empty_schema meta_create) ≡ CreateTable)
     × IsPlain (understood empty_schema meta_create)
 unfolding understood everything
 meta_is = (refl, (refl, refl))
 
-meta_whole : statement_of meta_create (understood empty_schema meta_create) ≡ meta_create
+pub meta_whole : statement_of meta_create (understood empty_schema meta_create) ≡ meta_create
 unfolding understood everything
 meta_whole = refl
 
-meta_made : created empty_schema meta ≡ with_meta
+pub meta_made : created empty_schema meta ≡ with_meta
 unfolding everything
 meta_made = refl
 
@@ -89,20 +92,20 @@ books_create =
     codes
     "CREATE TABLE book (id INTEGER PRIMARY KEY, name TEXT NOT NULL UNIQUE, number INTEGER NOT NULL, horizon INTEGER NOT NULL, created INTEGER NOT NULL, edited INTEGER NOT NULL, imported INTEGER NOT NULL, import_edited INTEGER NOT NULL, moved_in INTEGER NOT NULL, deleted INTEGER NOT NULL, moved_out INTEGER NOT NULL) STRICT"
 
-books_defined : table_defined_by books_create ≡ Ok (record book { tree = 0 })
+pub books_defined : table_defined_by books_create ≡ Ok (record book { tree = 0 })
 unfolding understood everything
 books_defined = refl
 
-books_is : (command_of (understood with_meta books_create) ≡ CreateTable)
+pub books_is : (command_of (understood with_meta books_create) ≡ CreateTable)
     × IsPlain (understood with_meta books_create)
 unfolding understood everything
 books_is = (refl, (refl, refl))
 
-books_whole : statement_of books_create (understood with_meta books_create) ≡ books_create
+pub books_whole : statement_of books_create (understood with_meta books_create) ≡ books_create
 unfolding understood everything
 books_whole = refl
 
-books_made : created with_meta (record book { tree = 0 }) ≡ with_books
+pub books_made : created with_meta (record book { tree = 0 }) ≡ with_books
 unfolding everything
 books_made = refl
 
@@ -117,20 +120,20 @@ members_create =
     codes
     "CREATE TABLE member (book INTEGER NOT NULL REFERENCES book(id), uid TEXT NOT NULL, changed INTEGER NOT NULL, card TEXT, PRIMARY KEY (book, uid), UNIQUE (book, changed)) STRICT"
 
-members_defined : table_defined_by members_create ≡ Ok (record member { tree = 0 })
+pub members_defined : table_defined_by members_create ≡ Ok (record member { tree = 0 })
 unfolding understood everything
 members_defined = refl
 
-members_is : (command_of (understood with_books members_create) ≡ CreateTable)
+pub members_is : (command_of (understood with_books members_create) ≡ CreateTable)
     × IsPlain (understood with_books members_create)
 unfolding understood everything
 members_is = (refl, (refl, refl))
 
-members_whole : statement_of members_create (understood with_books members_create) ≡ members_create
+pub members_whole : statement_of members_create (understood with_books members_create) ≡ members_create
 unfolding understood everything
 members_whole = refl
 
-members_made : created with_books (record member { tree = 0 }) ≡ with_members
+pub members_made : created with_books (record member { tree = 0 }) ≡ with_members
 unfolding everything
 members_made = refl
 
@@ -145,21 +148,21 @@ imports_create =
     codes
     "CREATE TABLE import_key (book INTEGER NOT NULL REFERENCES book(id), ikey TEXT NOT NULL, added INTEGER NOT NULL, edited INTEGER NOT NULL, same INTEGER NOT NULL, number INTEGER NOT NULL, PRIMARY KEY (book, ikey)) STRICT"
 
-imports_defined : table_defined_by imports_create ≡ Ok (record import_key { tree = 0 })
+pub imports_defined : table_defined_by imports_create ≡ Ok (record import_key { tree = 0 })
 unfolding understood everything
 imports_defined = refl
 
-imports_is : (command_of (understood with_members imports_create) ≡ CreateTable)
+pub imports_is : (command_of (understood with_members imports_create) ≡ CreateTable)
     × IsPlain (understood with_members imports_create)
 unfolding understood everything
 imports_is = (refl, (refl, refl))
 
-imports_whole : statement_of imports_create (understood with_members imports_create)
+pub imports_whole : statement_of imports_create (understood with_members imports_create)
     ≡ imports_create
 unfolding understood everything
 imports_whole = refl
 
-imports_made : created with_members (record import_key { tree = 0 }) ≡ first_schema
+pub imports_made : created with_members (record import_key { tree = 0 }) ≡ first_schema
 unfolding everything
 imports_made = refl
 
@@ -174,20 +177,20 @@ keeps_create =
     codes
     "CREATE TABLE keeping (book INTEGER PRIMARY KEY REFERENCES book(id), keep INTEGER NOT NULL) STRICT"
 
-keeps_defined : table_defined_by keeps_create ≡ Ok (record keeping { tree = 0 })
+pub keeps_defined : table_defined_by keeps_create ≡ Ok (record keeping { tree = 0 })
 unfolding understood everything
 keeps_defined = refl
 
-keeps_is : (command_of (understood first_schema keeps_create) ≡ CreateTable)
+pub keeps_is : (command_of (understood first_schema keeps_create) ≡ CreateTable)
     × IsPlain (understood first_schema keeps_create)
 unfolding understood everything
 keeps_is = (refl, (refl, refl))
 
-keeps_whole : statement_of keeps_create (understood first_schema keeps_create) ≡ keeps_create
+pub keeps_whole : statement_of keeps_create (understood first_schema keeps_create) ≡ keeps_create
 unfolding understood everything
 keeps_whole = refl
 
-keeps_made : created first_schema (record keeping { tree = 0 }) ≡ book_schema
+pub keeps_made : created first_schema (record keeping { tree = 0 }) ≡ book_schema
 unfolding everything
 keeps_made = refl
 

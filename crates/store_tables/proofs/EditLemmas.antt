@@ -1,6 +1,6 @@
 -- An edit of a declared table that no rule refuses.
-use Rattle.std.proofs.Common.{◌≡◌, ◌≢◌, ◌⊎◌, inl, inr, ℕ, zero, suc, ◌==◌, Bool, true, false, List}
-use Rattle.std.proofs.Common.{[], ◌∷◌, ◌++◌, length, Option, Some, None, Ok, Err, Result, refl, sym}
+use Rattle.std.proofs.Common.{ℤ, ◌≡◌, ◌≢◌, ◌⊎◌, inl, inr, ℕ, zero, suc, ◌==◌, true, List}
+use Rattle.std.proofs.Common.{[], ◌∷◌, length, Option, Ok, Err, Result, refl, sym}
 use Rattle.std.proofs.Common.{ap, subst, ◌∙◌, length-append, true≢false, arith}
 use Rattle.std.specs.List.{list_all}
 use Rattle.std.proofs.lemmas.Bool.{cases_eq}
@@ -29,7 +29,7 @@ use Rattle.sqlite_schema.specs.declared.schema.Table.{Table}
 use Rattle.sqlite_schema.specs.Rules.{passes, Keeps, Obeys}
 use Rattle.sqlite_sql.specs.Ops.{fits_i64}
 use Rattle.sqlite_trees.specs.Tree.{rowid, with_tree}
-use Rattle.store_tables.specs.Tables.{book_schema}
+use Rattle.store_tables.specs.Tables.{book_schema, member}
 
 -- ---- the parts of a statement
 
@@ -58,6 +58,23 @@ pub record IsAdmitted (db : Trees) (edit : Edit) : Type 0 where
   pub referred : is_referred book_schema Enforced edit ≡ true
   pub storable : (row : Row) → Has edit.news row → ¬ IsOversized book_schema edit.table row
   pub listed : Has book_schema.tables edit.table
+
+-- an edit of members that writes no row
+pub admits_no_rows : (db : Trees) (gone : List ℤ)
+    → is_referred book_schema Enforced (record { table = member; gone = gone; news = [] }) ≡ true
+    → IsAdmitted db (record { table = member; gone = gone; news = [] })
+admits_no_rows db gone referred = record {
+  keyed = refl;
+  numbered = refl;
+  typed = refl;
+  present = refl;
+  checked = refl;
+  fresh = refl;
+  unique = refl;
+  referred = referred;
+  storable = λ row h. absurd h;
+  listed = inr (inr (inl refl));
+}
 
 pub tables_apart : Rattle.sqlite_trees.specs.Tree.IsAscending (λ (a b : Table). a.tree ≡ b.tree
     → ⊥) book_schema.tables

@@ -27,7 +27,8 @@ use Rattle.sqlite_schema.specs.Rules.{Obeys, Refers}
 use Rattle.sqlite_tied.specs.Compute.{everything}
 use Rattle.store_tables.specs.Failures.{HasOutsideCause}
 use Rattle.store_tables.specs.Tables.{book_schema, member}
-use Rattle.store_tables.proofs.EditLemmas.{IsAdmitted, edit_never_stops, never_stops, stops}
+use Rattle.store_tables.proofs.EditLemmas.{IsAdmitted, admits_no_rows, edit_never_stops}
+use Rattle.store_tables.proofs.EditLemmas.{never_stops, stops}
 use Rattle.store_tables.proofs.PutLemmas.{went_on, same_value}
 use Rattle.store_tables.proofs.Queries.{forget_text, forget_query}
 use Rattle.store_tables.proofs.ReferenceLemmas.{refers_after, same_books}
@@ -51,18 +52,7 @@ module _ (limit : Option ℕ) (book upto : ℤ) (db : Trees) (obeys : Obeys book
   referred rows = or_true (not (nat_lt 0 (length (ids_of rows))))
 
   admitted : (rows : List Row) → IsAdmitted db (edit rows)
-  admitted rows = record {
-    keyed = refl;
-    numbered = refl;
-    typed = refl;
-    present = refl;
-    checked = refl;
-    fresh = refl;
-    unique = refl;
-    referred = referred rows;
-    storable = λ row h _. h;
-    listed = inr (inr (inl refl));
-  }
+  admitted rows = admits_no_rows db (ids_of rows) (referred rows)
 
   deletes : (stop : Option Error) → Deletes (task limit member params) (record {
     lets = [];

@@ -47,3 +47,6 @@ pub mod WriteLemmas
 pub mod MemberWrites
 pub mod MemberSteps
 pub mod RowWrites
+pub mod CreationFailures
+pub mod TransactionCauses
+pub mod MetaFailures

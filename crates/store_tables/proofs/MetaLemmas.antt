@@ -25,7 +25,7 @@ use Rattle.store_tables.proofs.PutLemmas.{cast_int, cast_null, went_on, same_val
 use Rattle.store_tables.proofs.Queries.{add_schema_text, add_schema_terms, add_schema_command}
 use Rattle.store_tables.proofs.Texts.{add_schema_is}
 
-cast_schema : (number : ℤ) → cast_row meta (Null ∷ schema_row number) ≡ Null ∷ schema_row number
+pub cast_schema : (number : ℤ) → cast_row meta (Null ∷ schema_row number) ≡ Null ∷ schema_row number
 cast_schema number = rw (cast_null, cast_int number)
 
 module _ (limit : Option ℕ) (number : ℤ) (db : Trees) where

@@ -59,8 +59,6 @@ use Rattle.sqlite_trees.specs.View.{IsStorable}
 use Rattle.sqlite_trees.proofs.ListLemmas.{IsPermutation-filter}
 use Rattle.sqlite_typed.proofs.TestLemmas.{at_ints, at_texts, last_term, then_term}
 use Rattle.sqlite_typing.specs.Types.{accepts_program, accepts_terms}
-use Rattle.sqlite_value.specs.Order.{number}
-use Rattle.std.specs.Float.{NotNan}
 use Rattle.sqlite_value.specs.Keys.{first_key, plain}
 use Rattle.store_tables.specs.Acceptance.{has_number}
 use Rattle.store_tables.specs.Books.{BookRow, HoldBooks, has_id}

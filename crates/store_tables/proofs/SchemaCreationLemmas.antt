@@ -1,13 +1,12 @@
 -- The effect of the statements that create the tables, one after another.
 use Rattle.std.proofs.Common.{IsTrue, ◌∷◌, map, IsPermutation, subst, ◌∙◌, arith}
-use Rattle.sqlite.specs.Effect.{Database}
 use Rattle.sqlite.specs.State.{State, HasCleanDisk, Survives}
 use Rattle.sqlite.specs.Tree.{Trees}
 use Rattle.sqlite.proofs.Callers.{one_permutation}
 use Rattle.sqlite.proofs.InsideLemmas.{keeps_then}
 use Rattle.sqlite.proofs.StateLemmas.{survives_then}
 use Rattle.store_tables.specs.SchemaCreation.{HasFirstTables, IsTableCreated, StaysUncommitted}
-use Rattle.store_tables.specs.SchemaCreation.{empty_schema, with_meta, with_books, with_members}
+use Rattle.store_tables.specs.SchemaCreation.{with_members}
 use Rattle.store_tables.specs.SchemaCreation.{first_schema}
 use Rattle.store_tables.specs.Meta.{AddsSchema, IsEmptyStore, meta_listed, schema_number}
 use Rattle.store_tables.specs.Meta.{schema_row}

@@ -50,7 +50,7 @@ is_storable row some few numbers short = record {
   short = short;
 }
 
-no_reals : (places : List ℕ) → index_reals 0 places ≡ 0
+pub no_reals : (places : List ℕ) → index_reals 0 places ≡ 0
 no_reals [] = refl
 no_reals (p ∷ ps) = rw (bit_at-zero p, no_reals ps)
 

@@ -1,6 +1,6 @@
 -- The clauses of a statement that writes rows, from its execution and what it does to its table.
-use Rattle.std.specs.Prelude.{OnOk, IsTrue}
-use Rattle.std.proofs.Common.{◌≡◌, ℕ, List, [], Result}
+use Rattle.std.specs.Prelude.{IfErr, OnOk, IsTrue}
+use Rattle.std.proofs.Common.{◌≡◌, ◌≢◌, ℕ, List, [], Result}
 use Rattle.std.proofs.lemmas.Result.{on_ok_weaker}
 use Rattle.sqlite.specs.Command.{Command}
 use Rattle.sqlite.specs.Held.{state}
@@ -9,9 +9,12 @@ use Rattle.sqlite.specs.Order.{Row}
 use Rattle.sqlite.specs.Schema.{Schema}
 use Rattle.sqlite.specs.State.{ExecutesInside, HasCleanDisk, State, Survives}
 use Rattle.sqlite.specs.declared.error.Error.{Error}
+use Rattle.sqlite.specs.declared.error.Error.TheVariants.{SqliteFailure}
+use Rattle.sqlite.specs.declared.error.ErrorCode.TheVariants.{OutOfMemory}
 use Rattle.sqlite.specs.declared.transaction.Transaction.{Transaction}
 use Rattle.sqlite.proofs.Callers.{IsPlain, command_of}
 use Rattle.sqlite_trees.specs.declared.store.Store.{Ghosts}
+use Rattle.store_tables.specs.Failures.{HasOutsideCause}
 use Rattle.store_tables.specs.OnConnections as on
 use Rattle.store_tables.specs.SchemaCreation.{IsTableCreated}
 use Rattle.store_tables.specs.StatementEffects.{KeepsOtherTables, WritesOnly}
@@ -20,12 +23,12 @@ use Rattle.store_tables.specs.Writes.{CreatesTable, WritesRow}
 use Rattle.store_tables.proofs.ObeyLemmas.{executed_obeys}
 use Rattle.store_tables.proofs.ReturningLemmas.{executed_inside, keeps_executed, stays_executed}
 use Rattle.store_tables.proofs.ReturningLemmas.{undone_executed, written_by}
-use Rattle.store_tables.proofs.WriteFailures.{IsRowWrite}
+use Rattle.store_tables.proofs.WriteFailures.{IsChange}
 
--- only this table was written, by a statement that is a write of rows
+-- only this table was written, by a statement that writes rows
 pub only_wrote : (sql : List ℕ) (params : Row) (command : Command)
     → (command_of (understood book_schema sql) ≡ command) × IsPlain (understood book_schema sql)
-    → IsRowWrite command → (tree : ℕ) (old new : State) (r : Result ℕ Error)
+    → IsChange command → (tree : ℕ) (old new : State) (r : Result ℕ Error)
     → old.now.schema ≡ book_schema → ExecutesInside 0 sql params old new r
     → OnOk r ((new.now.schema ≡ book_schema) × KeepsOtherTables tree old.now.trees new.now.trees)
     → OnOk r (WritesOnly tree old new)
@@ -66,8 +69,10 @@ pub creates_table : {S : Type 0} (store : Ghosts S) (old new : Transaction S)
     → Survives (state store old.conn.now) (state store new.conn.now) (λ _. ⊥)
     → ((a b : State) (r : Result ℕ Error) → a.now.schema ≡ before → ExecutesInside 0 sql [] a b r
     → OnOk r (IsTableCreated before after tree a.now b.now))
+    → ((a b : State) (r : Result ℕ Error) → a.now.schema ≡ before → ExecutesInside 0 sql [] a b r
+    → IfErr r (λ e. e ≢ SqliteFailure OutOfMemory → HasOutsideCause a b))
     → CreatesTable store old new before after tree r
-creates_table store old new same sql before after tree r runs survives creates =
+creates_table store old new same sql before after tree r runs survives creates fails =
     let a = state store old.conn.now in
     let b = state store new.conn.now in
     record {
@@ -77,4 +82,5 @@ creates_table store old new same sql before after tree r runs survives creates =
       keeps_commit = λ clean inside. keeps_executed sql [] a b r (runs clean inside);
       survives = survives;
       rolled_back = λ clean inside. undone_executed sql [] a b r (runs clean inside);
+      fails_from_outside = λ clean inside has. fails a b r has (runs clean inside);
     }

@@ -218,6 +218,12 @@ module _ {S : Type 0} (store : Ghosts S) (old new : Held S) where
   abbrev pub CountsFaults : Type 0
   CountsFaults = Survives (λ _. ⊤)
 
+  -- Inside a transaction over exactly the tables `before`, the call fails only for lack of memory or
+  -- for an outside cause.
+  abbrev pub FailsFromOutsideOver : {T : Type 0} → Schema → Result T Error → Type 0
+  FailsFromOutsideOver before result =
+      InsideTx (old.schema ≡ before → HasOutsideCauseOfError result)
+
   -- Inside a transaction over the tables `before`, a success creates the table in the tree with
   -- this number. The tables are then `after`, and the rows of the others are unchanged.
   abbrev pub IsTableCreatedInTx : {T E : Type 0} → Schema → Schema → ℕ → Result T E → Type 0

@@ -1,6 +1,5 @@
 -- What a statement that reads the declared tables does, on success and on error.
-use Rattle.std.specs.Prelude.{List, Result}
-use Rattle.sqlite.specs.Order.{Row}
+use Rattle.std.specs.Prelude.{Result}
 use Rattle.sqlite.specs.State.{State, IsUnchanged}
 use Rattle.sqlite.specs.declared.error.Error.{Error}
 use Rattle.store_tables.specs.Failures.{FailsFromOutside, MissesOrFailsFromOutside}

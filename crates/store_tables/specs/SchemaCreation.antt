@@ -5,6 +5,7 @@ use Rattle.sqlite.specs.Effect.{Database}
 use Rattle.sqlite.specs.Schema.{Schema}
 use Rattle.sqlite.specs.State.{State, HasCleanDisk, KeepsCommit, Survives}
 use Rattle.sqlite.specs.Table.{Table}
+use Rattle.sqlite_catalog.specs.Listing.{IsSound}
 use Rattle.sqlite_schema.specs.declared.schema.Index.{Index}
 use Rattle.store_tables.specs.Tables.{meta, book, member, import_key, key_indexes}
 
@@ -30,6 +31,8 @@ first_schema = schema_of (meta ∷ book ∷ member ∷ import_key ∷ []) key_in
 -- a table was created and is empty; the rows of the others are unchanged
 pub record IsTableCreated (before after : Schema) (tree : ℕ) (old new : Database) : Type 0 where
   pub schema : new.schema ≡ after
+  -- the list of objects declares the tables, and the rows obey their constraints
+  pub obeys : IsSound after new.trees
   pub empty : new.trees tree ≡ []
   pub others : AllByRecursion (λ t. new.trees t.tree ≡ old.trees t.tree) before.tables
 

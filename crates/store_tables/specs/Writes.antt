@@ -13,20 +13,18 @@ use Rattle.store_tables.specs.Imports.{import_table}
 use Rattle.store_tables.specs.Keeps.{keep_table}
 use Rattle.store_tables.specs.Members.{MemberRow, has_uid, is_removed_up_to, member_table}
 use Rattle.store_tables.specs.Members.{without_removed}
-use Rattle.store_tables.specs.OnConnections.{Ghosts, GivenAcceptedMember, GivenTx, HasBooks}
-use Rattle.store_tables.specs.OnConnections.{HasMembers, IsTableCreatedInTx, KeepsCommit}
-use Rattle.store_tables.specs.OnConnections.{KeepsCommitInTx}
-use Rattle.store_tables.specs.OnConnections.{NoCommit, PutsRow, StaysInTxOnOk, SurvivesAsBefore}
-use Rattle.store_tables.specs.OnConnections.{UndoneOnErr, WriteFailsFromOutside, WritesOnly}
-use Rattle.store_tables.specs.OnConnections.{table_rows}
+use Rattle.store_tables.specs.OnConnections.{FailsFromOutsideOver, Ghosts, GivenAcceptedMember}
+use Rattle.store_tables.specs.OnConnections.{GivenTx, HasBooks, HasMembers, IsTableCreatedInTx}
+use Rattle.store_tables.specs.OnConnections.{KeepsCommit, KeepsCommitInTx, NoCommit, PutsRow}
+use Rattle.store_tables.specs.OnConnections.{StaysInTxOnOk, SurvivesAsBefore, UndoneOnErr}
+use Rattle.store_tables.specs.OnConnections.{WriteFailsFromOutside, WritesOnly, table_rows}
 use Rattle.store_tables.specs.StatementEffects.{StoredTable}
 use Rattle.store_tables.specs.Tables.{book_tree, import_tree, member_tree}
 
 -- ---- rows
 
 -- A write of rows of one declared table by one statement. `Given` assumes the items that the table
--- holds before, of which no two share the id or a key. `Accepted` assumes that the table accepts
--- the
+-- holds before, of which no two share the id or a key. `Accepted` assumes that the table accepts the
 -- write.
 pub record WritesRow {S X T : Type 0} (store : Ghosts S) (old new : Transaction S) (tree : ℕ)
     (result : Result T Error) (Given : (List X → Type 0) → Type 0) (Changes : List X → Type 0)
@@ -68,8 +66,8 @@ pub record PutsIntoMembers {S T : Type 0} (store : Ghosts S) (old new : Transact
   -- After a success the member has the number and the card, in its own row or in a new one. The
   -- others stay, and no two members share an id, or a UID in one book.
   pub puts : OnOk result (PutsRow store new.conn.now book uid changed card ms)
-  -- if the engine had ids for one more new row than a number, it has ids for that number of rows
-  -- after a success
+  -- it takes at most one id: if the engine had ids for count + 1 new rows before, it has ids for
+  -- count of them after a success
   pub takes_one_id : (count : ℕ) → HasFreeIds (count + 1) (table_rows store old.conn.now
       member_tree)
       → OnOk result (HasFreeIds count (table_rows store new.conn.now member_tree))
@@ -177,3 +175,6 @@ pub record CreatesTable {S T : Type 0} (store : Ghosts S) (old new : Transaction
   pub survives : SurvivesAsBefore store old.conn.now new.conn.now
   -- an error changed nothing, or rolled the whole transaction back
   pub rolled_back : UndoneOnErr store old.conn.now new.conn.now result
+  -- over exactly the tables `before`, an error but for lack of memory has an outside cause
+  pub fails_from_outside :
+      FailsFromOutsideOver store old.conn.now new.conn.now before result

@@ -17,6 +17,8 @@ ghost use Rattle.store_tables.specs.Tables.{
   meta_tree,
 };
 ghost use Rattle.store_tables.specs.OnConnections.{
+  FailsFromOutsideOver,
+  HasOutsideCauseOfError,
   HoldsInTx,
   HoldsNow,
   InsideTx,
@@ -99,6 +101,8 @@ fn create_first_tables<S: Alter>(tx: &mut Transaction<'_, S>) -> Result<usize, E
         → OnOk result (HoldsInTx S.Store tx.new.conn.now HasFirstTables)) }
     ensures stays_in_tx { StaysInTxOnOk S.Store tx.old.conn.now tx.new.conn.now result }
     ensures no_commit { StaysUncommitted S.Store tx.old.conn.now tx.new.conn.now }
+    ensures fails_from_outside { FailsFromOutsideOver S.Store
+        tx.old.conn.now tx.new.conn.now empty_schema result }
 {
     create_meta(tx)?;
     create_books(tx)?;
@@ -111,6 +115,9 @@ fn create_remaining_tables<S: Alter>(tx: &mut Transaction<'_, S>) -> Result<usiz
         (HoldsNow S.Store tx.old.conn.now HasFirstTables
         → OnOk result (HoldsInTx S.Store tx.new.conn.now (IsEmptyStore schema_number))) }
     ensures no_commit { StaysUncommitted S.Store tx.old.conn.now tx.new.conn.now }
+    ensures fails_from_outside { InsideTx S.Store tx.old.conn.now tx.new.conn.now
+        (HoldsNow S.Store tx.old.conn.now HasFirstTables
+        → HasOutsideCauseOfError S.Store tx.old.conn.now tx.new.conn.now result) }
 {
     create_imports(tx)?;
     create_keeps(tx)?;
@@ -130,6 +137,10 @@ pub fn create_tables<S: Alter>(tx: &mut Transaction<'_, S>) -> Result<(), Error>
         (tx.old.conn.now.schema ≡ empty_schema
         → OnOk result (HoldsInTx S.Store tx.new.conn.now (IsEmptyStore schema_number))) }
     ensures no_commit { StaysUncommitted S.Store tx.old.conn.now tx.new.conn.now }
+
+    // In a database without tables, an error but for lack of memory has an outside cause.
+    ensures fails_from_outside { FailsFromOutsideOver S.Store
+        tx.old.conn.now tx.new.conn.now empty_schema result }
 {
     create_first_tables(tx)?;
     create_remaining_tables(tx)?;

@@ -32,7 +32,7 @@
 //!
 //! A write by one statement or two has `WritesRowInSteps`: without `rolled_back`, and with
 //! `keeps_commit` and `survives`, the two parts of `no_commit`. The creation of a table has
-//! `CreatesTable`.
+//! `CreatesTable`, whose `fails_from_outside` holds while exactly the tables before it are declared.
 #![tactic(auto)]
 
 pub mod books;

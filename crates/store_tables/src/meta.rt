@@ -8,6 +8,8 @@
 //!   tables are declared; over the declared ones nothing was committed. `keeps_commit` says the
 //!   latter of any tables.
 //! - `rolled_back`: an error changed nothing, or rolled the whole transaction back.
+//! - `fails_from_outside`: an error but for lack of memory has an outside cause, if the rows obey the
+//!   declared tables and the table has no row.
 ghost use Rattle.store_tables.specs.Tables.{book_schema, meta_tree};
 ghost use Rattle.store_tables.specs.OnConnections.{
   AddsSchema,
@@ -15,9 +17,11 @@ ghost use Rattle.store_tables.specs.OnConnections.{
   KeepsCommitInTx,
   NoCommit,
   UndoneOnErr,
+  WriteFailsFromOutside,
   WritesOnly,
+  table_rows,
 };
-ghost use Rattle.std.specs.Prelude.{◌≡◌, OnOk};
+ghost use Rattle.std.specs.Prelude.{[], ◌≡◌, OnOk};
 
 use sqlite::{Alter, Error, Transaction, params};
 
@@ -40,6 +44,8 @@ pub fn insert_schema<S: Alter>(tx: &mut Transaction<'_, S>, number: i64) -> Resu
     ensures no_commit { NoCommit S.Store tx.old.conn.now tx.new.conn.now }
     ensures keeps_commit { KeepsCommitInTx S.Store tx.old.conn.now tx.new.conn.now }
     ensures rolled_back { UndoneOnErr S.Store tx.old.conn.now tx.new.conn.now result }
+    ensures fails_from_outside { table_rows S.Store tx.old.conn.now meta_tree ≡ []
+        → WriteFailsFromOutside S.Store tx.old.conn.now tx.new.conn.now result }
 {
     tx.execute(
         "INSERT INTO meta (name, val) VALUES ('schema', ?1)",

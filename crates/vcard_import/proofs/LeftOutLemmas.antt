@@ -6,12 +6,12 @@ use Rattle.std.specs.List.{list_any}
 use Rattle.std.proofs.lemmas.Bool.{false≢true}
 use Rattle.std.proofs.lemmas.List.Sums.{sum_by-cons}
 use Rattle.vcard_lines.specs.declared.line.Line.{Line}
-use Rattle.vcard_property.specs.declared.change_kind.ChangeKind.{ChangeKind}
-use Rattle.vcard_property.specs.declared.change_kind.ChangeKind.TheVariants.{Rewritten, Renamed}
-use Rattle.vcard_property.specs.declared.change_kind.ChangeKind.TheVariants.{KeptAside, Unreadable}
-use Rattle.vcard_property.specs.declared.change_kind.ChangeKind.TheVariants.{Added, Joined, LeftOut}
-use Rattle.vcard_property.specs.declared.change_kind.ChangeKind.TheVariants.{Labelled, Shortened}
-use Rattle.vcard_property.specs.declared.change_kind.ChangeKind.TheVariants.{Cleaned}
+use Rattle.vcard_changes.specs.declared.change_kind.ChangeKind.{ChangeKind}
+use Rattle.vcard_changes.specs.declared.change_kind.ChangeKind.TheVariants.{Rewritten, Renamed}
+use Rattle.vcard_changes.specs.declared.change_kind.ChangeKind.TheVariants.{KeptAside, Unreadable}
+use Rattle.vcard_changes.specs.declared.change_kind.ChangeKind.TheVariants.{Added, Joined, LeftOut}
+use Rattle.vcard_changes.specs.declared.change_kind.ChangeKind.TheVariants.{Labelled, Shortened}
+use Rattle.vcard_changes.specs.declared.change_kind.ChangeKind.TheVariants.{Cleaned}
 use Rattle.vcard_import.specs.Conversions.{addition}
 use Rattle.vcard_import.specs.Labels.{HaveAddresses, fits, is_joined, says_joined}
 use Rattle.import_text.specs.declared.raw_line.RawLine.{RawLine}
@@ -19,7 +19,7 @@ use Rattle.vcard_import.specs.LeftOut.{has_left_out, is_left_out, is_left_out_at
 use Rattle.vcard_import.specs.LeftOut.{says_left_out}
 use Rattle.vcard_import.specs.internal.Steps.{has_joined}
 use Rattle.vcard_import.specs.declared.card_lines.CardLines.{CardLines}
-use Rattle.vcard_import.specs.declared.change.Change.{Change}
+use Rattle.vcard_changes.specs.declared.change.Change.{Change}
 
 or_false : (s t : Bool) → (s || t) ≡ false → (s ≡ false) × (t ≡ false)
 or_false true t e = absurd (true≢false e)

@@ -29,10 +29,10 @@ use Rattle.vcard_text.specs.MakingSteps.{check_lines_after}
 use Rattle.vcard_text.specs.Scanning.{fault_if, ok_unless, body_line_fault, card_rules_fault}
 use Rattle.vcard_lines.specs.declared.fault.CardFault.TheVariants.{BadUid, Twice, NoName, NoUid}
 use Rattle.vcard_lines.specs.declared.fault.CardFault.TheVariants.{MemberOutsideGroup}
-use Rattle.vcard_property.specs.Lines.{plain_line}
+use Rattle.vcard_changes.specs.Lines.{plain_line}
 use Rattle.vcard_values.proofs.ControlLemmas.{of-append}
-use Rattle.vcard_property.proofs.ProperLemmas.{plain_is_proper}
-use Rattle.vcard_import.specs.DerivedUid.{derived_uid, derived_uuid}
+use Rattle.vcard_changes.proofs.ProperLemmas.{plain_is_proper}
+use Rattle.vcard_changes.specs.DerivedUid.{derived_uid, derived_uuid}
 use Rattle.vcard_import.specs.Conversions.{missing_line, missing_lines}
 use Rattle.vcard_import.specs.internal.Steps.{AreFaultless, ArePassed, found_uid, has_stray_members}
 use Rattle.vcard_import.proofs.RuleLemmas.{line_is_free}

@@ -8,8 +8,8 @@ use Rattle.vcard_lines.specs.declared.fault.CardFault.TheVariants.{Memory}
 use Rattle.vcard_lines.specs.declared.line.Line.{Line}
 use Rattle.vcard_text.specs.Spelling.{Spells}
 use Rattle.vcard_import.specs.Conversions.{IsConverted, IsTooLong, LeavesOutIfLong}
-use Rattle.vcard_import.specs.declared.conversion.Conversion.{Conversion}
-use Rattle.vcard_import.specs.declared.fault.ImportFault.{ImportFault}
+use Rattle.vcard_changes.specs.declared.conversion.Conversion.{Conversion}
+use Rattle.vcard_changes.specs.declared.fault.ImportFault.{ImportFault}
 
 abbrev tells_ok : Result (List Line) CardFault → Bool
 tells_ok (Ok lines) = true

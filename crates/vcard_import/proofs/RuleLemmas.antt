@@ -13,7 +13,7 @@ use Rattle.vcard_lines.proofs.LegalPartLemmas.{legal_to_test}
 use Rattle.vcard_text.specs.Cards.{IsProperLine, has_line_named, line_is_named, is_uid}
 use Rattle.vcard_text.specs.MakingSteps.{card_line_fault}
 use Rattle.vcard_text.specs.Scanning.{fault_if, body_line_fault}
-use Rattle.vcard_property.specs.Lines.{IsUidLine}
+use Rattle.vcard_changes.specs.Lines.{IsUidLine}
 use Rattle.vcard_import.specs.internal.Steps.{breaks_rule, IsSeen}
 use Rattle.vcard_import.specs.declared.rules.Reading.{Reading}
 use Rattle.vcard_import.specs.declared.rules.Seen.{Seen}

@@ -12,7 +12,7 @@ use Rattle.vcard_text.specs.Cards.{IsProperLine, has_line_named, line_is_named}
 use Rattle.vcard_text.specs.MakingSteps.{card_line_fault, check_lines_after}
 use Rattle.vcard_text.specs.Scanning.{ok_unless}
 use Rattle.vcard_lines.specs.ParseSteps.{◌>>=◌}
-use Rattle.vcard_property.specs.Lines.{IsUidLine}
+use Rattle.vcard_changes.specs.Lines.{IsUidLine}
 use Rattle.vcard_values.specs.declared.version.Version.{Version}
 use Rattle.vcard_import.specs.Delimiters.{is_delimiter}
 use Rattle.vcard_import.specs.declared.card_lines.CardLines.{CardLines}
@@ -22,7 +22,7 @@ use Rattle.vcard_import.specs.internal.Steps.{ArePassed, Extends, Makes, breaks_
 use Rattle.vcard_import.specs.internal.Steps.{has_joined}
 use Rattle.vcard_import.specs.Labels.{is_joined}
 use Rattle.vcard_import.specs.LeftOut.{has_left_out, is_left_out, may_go}
-use Rattle.vcard_import.specs.declared.change.Change.{Change}
+use Rattle.vcard_changes.specs.declared.change.Change.{Change}
 use Rattle.vcard_import.proofs.BecomeLemmas.{gone, left_out}
 use Rattle.vcard_import.proofs.LeftOutLemmas.{none_more}
 use Rattle.vcard_import.proofs.RuleLemmas.{body_is_free, is_no_uid, is_no_member, line_is_free}

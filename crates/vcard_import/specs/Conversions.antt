@@ -11,22 +11,22 @@ use Rattle.vcard_text.specs.Cards.{has_line_named, line_is_named, uid_of}
 use Rattle.vcard_text.specs.Making.{upper_lines, AreTooLongCardLines}
 use Rattle.vcard_text.specs.Spelling.{without_bom}
 use Rattle.vcard_property.specs.Labels.{GotLabel}
-use Rattle.vcard_property.specs.Lines.{extension_line, plain_line}
+use Rattle.vcard_changes.specs.Lines.{extension_line, plain_line}
 use Rattle.vcard_property.specs.NewLines.{Becomes, KeepsText}
 use Rattle.vcard_property.specs.SameLines.{AreLine, has_encoding}
-use Rattle.vcard_property.specs.declared.change_kind.ChangeKind.TheVariants.{Added}
+use Rattle.vcard_changes.specs.declared.change_kind.ChangeKind.TheVariants.{Added}
 use Rattle.vcard_values.specs.declared.version.Version.{Version}
 use Rattle.vcard_import.specs.Delimiters.{is_delimiter}
-use Rattle.vcard_import.specs.DerivedUid.{derived_uid}
+use Rattle.vcard_changes.specs.DerivedUid.{derived_uid}
 use Rattle.vcard_import.specs.Ends.{without_end}
 use Rattle.vcard_import.specs.FirstUid.{first_uid}
 use Rattle.vcard_import.specs.Labels.{HaveAddresses, fits}
 use Rattle.vcard_import.specs.LeftOut.{has_left_out, is_left_out_at, may_go}
 use Rattle.vcard_import.specs.Folds.{folding_of}
 use Rattle.vcard_import.specs.Versions.{version_of}
-use Rattle.vcard_import.specs.declared.change.Change.{Change}
-use Rattle.vcard_import.specs.declared.fault.ImportFault.{ImportFault}
-use Rattle.vcard_import.specs.declared.fault.ImportFault.TheVariants.{Memory, TooLong, Charset}
+use Rattle.vcard_changes.specs.declared.change.Change.{Change}
+use Rattle.vcard_changes.specs.declared.fault.ImportFault.{ImportFault}
+use Rattle.vcard_changes.specs.declared.fault.ImportFault.TheVariants.{Memory, TooLong, Charset}
 
 -- one of the lines says how its value is encoded
 abbrev pub has_encodings : List Line → Bool

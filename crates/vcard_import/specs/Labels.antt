@@ -4,13 +4,13 @@ use Rattle.std.specs.Prelude.{Bool, true, false, ◌&&◌, ◌||◌, ◌≤◌, 
 use Rattle.vcard_lines.specs.declared.line.Line.{Line}
 use Rattle.vcard_property.specs.Kinds.{fits_kind}
 use Rattle.vcard_property.specs.Labels.{is_labelled}
-use Rattle.vcard_property.specs.declared.change_kind.ChangeKind.{ChangeKind}
-use Rattle.vcard_property.specs.declared.change_kind.ChangeKind.TheVariants.{Rewritten, Renamed}
-use Rattle.vcard_property.specs.declared.change_kind.ChangeKind.TheVariants.{KeptAside, Unreadable}
-use Rattle.vcard_property.specs.declared.change_kind.ChangeKind.TheVariants.{Added, Joined, LeftOut}
-use Rattle.vcard_property.specs.declared.change_kind.ChangeKind.TheVariants.{Labelled, Shortened}
-use Rattle.vcard_property.specs.declared.change_kind.ChangeKind.TheVariants.{Cleaned}
-use Rattle.vcard_import.specs.declared.change.Change.{Change}
+use Rattle.vcard_changes.specs.declared.change_kind.ChangeKind.{ChangeKind}
+use Rattle.vcard_changes.specs.declared.change_kind.ChangeKind.TheVariants.{Rewritten, Renamed}
+use Rattle.vcard_changes.specs.declared.change_kind.ChangeKind.TheVariants.{KeptAside, Unreadable}
+use Rattle.vcard_changes.specs.declared.change_kind.ChangeKind.TheVariants.{Added, Joined, LeftOut}
+use Rattle.vcard_changes.specs.declared.change_kind.ChangeKind.TheVariants.{Labelled, Shortened}
+use Rattle.vcard_changes.specs.declared.change_kind.ChangeKind.TheVariants.{Cleaned}
+use Rattle.vcard_changes.specs.declared.change.Change.{Change}
 
 abbrev pub says_joined : ChangeKind → Bool
 says_joined Rewritten = false

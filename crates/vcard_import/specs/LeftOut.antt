@@ -5,14 +5,14 @@ use Rattle.std.specs.Prelude.{Bool, true, false, ◌||◌, ◌&&◌, ◌==◌, L
 use Rattle.std.specs.List.{list_any}
 use Rattle.import_text.specs.RawLines.{is_encoded_as}
 use Rattle.import_text.specs.declared.raw_line.RawLine.{RawLine}
-use Rattle.vcard_property.specs.declared.change_kind.ChangeKind.{ChangeKind}
-use Rattle.vcard_property.specs.declared.change_kind.ChangeKind.TheVariants.{Rewritten, Renamed}
-use Rattle.vcard_property.specs.declared.change_kind.ChangeKind.TheVariants.{KeptAside, Unreadable}
-use Rattle.vcard_property.specs.declared.change_kind.ChangeKind.TheVariants.{Added, Joined, LeftOut}
-use Rattle.vcard_property.specs.declared.change_kind.ChangeKind.TheVariants.{Labelled, Shortened}
-use Rattle.vcard_property.specs.declared.change_kind.ChangeKind.TheVariants.{Cleaned}
+use Rattle.vcard_changes.specs.declared.change_kind.ChangeKind.{ChangeKind}
+use Rattle.vcard_changes.specs.declared.change_kind.ChangeKind.TheVariants.{Rewritten, Renamed}
+use Rattle.vcard_changes.specs.declared.change_kind.ChangeKind.TheVariants.{KeptAside, Unreadable}
+use Rattle.vcard_changes.specs.declared.change_kind.ChangeKind.TheVariants.{Added, Joined, LeftOut}
+use Rattle.vcard_changes.specs.declared.change_kind.ChangeKind.TheVariants.{Labelled, Shortened}
+use Rattle.vcard_changes.specs.declared.change_kind.ChangeKind.TheVariants.{Cleaned}
 use Rattle.vcard_values.specs.Forms.{is_property}
-use Rattle.vcard_import.specs.declared.change.Change.{Change}
+use Rattle.vcard_changes.specs.declared.change.Change.{Change}
 
 -- the head of the logical line has the name of a property with pictures or sounds
 abbrev pub is_media : RawLine → Bool

@@ -1,6 +1,5 @@
 pub mod Conversions
 pub mod Delimiters
-pub mod DerivedUid
 pub mod Ends
 pub mod FirstUid
 pub mod Folds

@@ -3,7 +3,7 @@ ghost use Rattle.std.specs.Prelude.{◌≡◌, ◌∷◌, ◌++◌, [], true, fa
 ghost use Rattle.std.specs.Prelude.{◌<◌, codes, length, None};
 ghost use Rattle.vcard_lines.specs.declared.line.Line.{Line};
 ghost use Rattle.vcard_text.specs.Cards.{IsProperLine, has_line_named};
-ghost use Rattle.vcard_property.specs.Lines.{IsUidLine};
+ghost use Rattle.vcard_changes.specs.Lines.{IsUidLine};
 ghost use Rattle.vcard_property.specs.NewLines.{KeepsText};
 ghost use Rattle.vcard_property.specs.SameLines.{is_same_in};
 ghost use Rattle.vcard_values.specs.declared.version.Version.{Version};
@@ -14,7 +14,6 @@ ghost use Rattle.vcard_import.specs.LeftOut.{has_left_out, may_go, says_left_out
 ghost use Rattle.vcard_import.specs.internal.Steps.{Makes, Extends, breaks_rule, found_uid};
 ghost use Rattle.vcard_import.specs.internal.Steps.{IsSpelledAt, has_joined, has_stray_members};
 
-use crate::change::Change;
 use crate::delimiters::{begins_card, is_delimiter};
 use crate::first_uid::{UidLine, first_uid};
 use crate::joined::have_addresses;
@@ -24,9 +23,8 @@ use crate::parsed_name::{is_empty_name, name_for_empty};
 use crate::rules::{Reading, Seen, breaks_rule, has_stray_members};
 use import_text::{RawLine, is_word_line, read_text};
 use std::alloc::Global;
-use vcard_property::{
-    ChangeKind, Version, are_line, convert_line, extension_line, text_line, with_label,
-};
+use vcard_changes::{Change, ChangeKind, extension_line};
+use vcard_property::{Version, are_line, convert_line, text_line, with_label};
 use vcard_text::{Items, Line, NoMemory};
 
 /// The lines and the changes so far.

@@ -3,15 +3,15 @@ ghost use Rattle.std.specs.Prelude.{◌≡◌, ◌≢◌, true, codes, IfErr, If
 ghost use Rattle.std.specs.List.{list_any};
 ghost use Rattle.import_text.specs.RawLines.{is_encoded_as};
 ghost use Rattle.vcard_import.specs.Conversions.{HasCharset, card_raw_lines, has_charset};
-ghost use Rattle.vcard_import.specs.declared.fault.ImportFault.TheVariants.{Memory};
+ghost use Rattle.vcard_changes.specs.declared.fault.ImportFault.TheVariants.{Memory};
 
 use crate::conversion::without_bom;
 use crate::ends::without_end;
-use crate::fault::ImportFault;
 use crate::folds::folding_of;
 use crate::version::version_of;
 use import_text::{RawLine, read_raw_lines};
 use std::alloc::Global;
+use vcard_changes::ImportFault;
 use vcard_property::{Version, unknown_charset};
 use vcard_text::{NoMemory, Text};
 

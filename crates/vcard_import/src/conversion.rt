@@ -1,6 +1,6 @@
 //! Converts one card.
 ghost use Rattle.std.specs.Prelude.{◌≡◌, ◌≢◌, ◌⊎◌, [], List, IfOk, IfErr, IsOkAnd, Err, false};
-ghost use Rattle.vcard_import.specs.declared.fault.ImportFault.TheVariants.{Memory};
+ghost use Rattle.vcard_changes.specs.declared.fault.ImportFault.TheVariants.{Memory};
 ghost use Rattle.vcard_lines.specs.declared.line.Line.{Line};
 ghost use Rattle.vcard_text.specs.Spelling.{Spells, without_bom};
 ghost use Rattle.vcard_import.specs.Conversions.{HasCharset, IsConverted, IsRefused, has_encodings};
@@ -9,27 +9,17 @@ ghost use Rattle.vcard_import.specs.LeftOut.{has_left_out};
 ghost use Rattle.vcard_import.specs.internal.Steps.{AreFaultless};
 
 use crate::card_lines::{CardLines, lines_of_card};
-use crate::change::Change;
 use crate::charsets::card_raw_lines;
-use crate::fault::ImportFault;
 use crate::faultless::card_in;
 use crate::missing_lines::{add_lines, missing_lines};
 use crate::version::version_of;
 use std::alloc::Global;
+use vcard_changes::{Change, Conversion, ImportFault};
 use vcard_property::has_encoding;
-use vcard_text::{Card, CardFault, Items, Line, read_card};
-
-/// A card of vCard 4.0, and what was changed to make it of the card that was read.
-#[derive(Drop)]
-pub struct Conversion {
-    /// The card.
-    pub card: Card,
-    /// The changes, in the order of the lines; lines that were added come last.
-    pub changes: Items<Change>,
-}
+use vcard_text::{CardFault, Items, Line, read_card};
 
 /// The octets without their byte order mark, if they have one.
-pub(crate) fn without_bom(octets: &[u8]) -> &[u8]
+pub fn without_bom(octets: &[u8]) -> &[u8]
     ensures { result.now ≡ without_bom octets.now }
 {
     octets.strip_prefix(b"\xEF\xBB\xBF").unwrap_or(octets)

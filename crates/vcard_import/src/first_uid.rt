@@ -1,6 +1,6 @@
 //! Finds the UID of a card among its logical lines.
 ghost use Rattle.std.specs.Prelude.{◌≡◌, ◌<◌, ◌&&◌, ◌||◌, IfOk, IfSome, length, option_map, true};
-ghost use Rattle.vcard_property.specs.Lines.{IsUidLine};
+ghost use Rattle.vcard_changes.specs.Lines.{IsUidLine};
 ghost use Rattle.vcard_property.specs.SameLines.{is_same_in};
 ghost use Rattle.vcard_import.specs.Delimiters.{begins_card};
 ghost use Rattle.vcard_import.specs.FirstUid.{first_uid};

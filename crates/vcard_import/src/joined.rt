@@ -2,8 +2,7 @@
 ghost use Rattle.std.specs.Prelude.{◌≡◌, IsTrue, count_by};
 ghost use Rattle.vcard_import.specs.Labels.{HaveAddresses, is_joined, is_labelling};
 
-use crate::change::Change;
-use vcard_property::ChangeKind;
+use vcard_changes::{Change, ChangeKind};
 
 /// Whether the change says that a label is joined to its address.
 fn is_joined(change: &Change) -> bool

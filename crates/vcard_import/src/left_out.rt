@@ -4,11 +4,10 @@ ghost use Rattle.std.specs.List.{list_any};
 ghost use Rattle.vcard_import.specs.Conversions.{left_out_lines};
 ghost use Rattle.vcard_import.specs.LeftOut.{is_left_out, is_left_out_at, is_media, says_left_out};
 
-use crate::change::Change;
 use crate::charsets::all_raw_lines;
 use import_text::{RawLine, begins_with_word, is_encoded_as};
 use std::alloc::Global;
-use vcard_property::ChangeKind;
+use vcard_changes::{Change, ChangeKind};
 use vcard_text::{Line, NoMemory};
 
 /// Whether the head of the logical line has the name of a property with pictures or sounds.

@@ -3,12 +3,10 @@
 #![tactic(auto)]
 
 mod card_lines;
-mod change;
 mod charsets;
 mod conversion;
 mod delimiters;
 mod ends;
-mod fault;
 mod faultless;
 mod first_uid;
 mod folds;
@@ -19,12 +17,7 @@ mod left_out;
 mod missing_lines;
 mod parsed_name;
 mod rules;
-mod uid;
 mod version;
 
-pub use change::Change;
-pub use conversion::{Conversion, convert_card};
-pub use fault::ImportFault;
+pub use conversion::{convert_card, without_bom};
 pub use left_out::{is_left_out, left_out_lines};
-pub use uid::derived_uid;
-pub use vcard_property::ChangeKind;

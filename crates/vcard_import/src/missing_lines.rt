@@ -3,14 +3,12 @@ ghost use Rattle.std.specs.Prelude.{◌≡◌, ◌++◌, ℕ, List, map, IfOk, O
 ghost use Rattle.std.specs.Str.{IsUtf8};
 ghost use Rattle.vcard_lines.specs.Grammar.{AllInClass, is_permitted};
 ghost use Rattle.vcard_import.specs.Conversions.{missing_line, missing_lines, addition};
-ghost use Rattle.vcard_import.specs.DerivedUid.{derived_uid};
+ghost use Rattle.vcard_changes.specs.DerivedUid.{derived_uid};
 
-use crate::change::Change;
 use crate::parsed_name::name_value;
 use crate::rules::has_line_named;
-use crate::uid::derived_uid;
 use std::alloc::Global;
-use vcard_property::{ChangeKind, plain_line};
+use vcard_changes::{Change, ChangeKind, derived_uid, plain_line};
 use vcard_text::{Items, Line, NoMemory};
 
 /// The formatted name of lines without FN. Empty if they have one.

@@ -1,4 +1,3 @@
-pub mod ProperLemmas
 pub mod SameLemmas
 pub mod MadeLemmas
 pub mod NameLemmas

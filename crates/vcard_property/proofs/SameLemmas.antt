@@ -9,7 +9,7 @@ use Rattle.vcard_lines.proofs.LineLemmas.{line_found}
 use Rattle.vcard_text.specs.Cards.{IsProperLine}
 use Rattle.vcard_values.specs.declared.version.Version.{Version}
 use Rattle.vcard_property.specs.SameLines.{AreLine, is_same_in, line_if, same_line}
-use Rattle.vcard_property.proofs.ProperLemmas.{spelled_is_proper}
+use Rattle.vcard_text.proofs.ProperLemmas.{spelled_is_proper}
 
 pub are_proper : (octets : List ℕ) (line : Line) → AreLine octets line → IsProperLine line
 are_proper octets line a = spelled_is_proper octets line a.utf8 (line_found octets line a.spelled)

@@ -1,9 +1,7 @@
 pub mod Kinds
 pub mod Labels
-pub mod Lines
 pub mod Contents
 pub mod Names
 pub mod NewLines
 pub mod NewTypes
 pub mod SameLines
-pub mod internal

@@ -9,23 +9,20 @@ ghost use Rattle.vcard_property.specs.Kinds.{fits_kind};
 ghost use Rattle.vcard_property.specs.SameLines.{AreLine, is_same_in};
 ghost use Rattle.vcard_values.specs.Values.{HasValueOf, IsUriOf, is_known};
 ghost use Rattle.vcard_property.specs.Contents.{is_emptied};
-ghost use Rattle.vcard_property.specs.Names.{HasNameOf, has_clear_name};
-ghost use Rattle.vcard_property.specs.NewLines.{Becomes};
-ghost use Rattle.vcard_property.specs.NewTypes.{HasTypesOf, has_clear_new_types};
+ghost use Rattle.vcard_property.specs.NewLines.{Becomes, HasHeadOf};
 ghost use Rattle.vcard_values.specs.ValueTexts.{value_text};
 
-use crate::change_kind::ChangeKind;
 use crate::content::is_emptied;
 use crate::decoding::decode;
 use crate::kept_line::text_line;
 use crate::new_names::renamed_line;
-use crate::proper_line::is_proper_line;
 use crate::property::{Encoding, Property, read_property};
 use crate::property_line::{Draft, binary_draft, draft_of, draft_with, is_date_name, text_draft};
 use crate::same_line::read_same_line;
 use crate::typed_params::typed_line;
 use import_text::read_text;
 use std::alloc::Global;
+use vcard_changes::{ChangeKind, is_proper_line};
 use vcard_text::{Line, NoMemory};
 use vcard_values::{
     ValueForm, Version, has_fraction, has_known_value, known_date, media_of, value_form,
@@ -86,12 +83,7 @@ fn finished_line(
     octets: &[u8],
     loss: Loss,
 ) -> Result<Option<(Line, ChangeKind)>, NoMemory>
-    ensures proper { IfOk result (λ made. IfSome made (λ line.
-        IsProperLine line.0 × (fits_kind line.1 line.0.name ≡ true))) }
-    ensures named { has_clear_name octets.now ≡ true
-        → IfOk result (λ made. IfSome made (λ line. HasNameOf octets.now line.0)) }
-    ensures typed { has_clear_new_types octets.now ≡ true
-        → IfOk result (λ made. IfSome made (λ line. HasTypesOf octets.now line.0)) }
+    ensures head { IfOk result (λ made. IfSome made (HasHeadOf octets.now)) }
     ensures value { IfOk result (λ made. IfSome made (λ new.
         new.0.value ≡ draft.line.value)) }
 {
@@ -119,12 +111,7 @@ fn line_with_value(
     value: &str,
     form: ValueForm,
 ) -> Result<Option<(Line, ChangeKind)>, NoMemory>
-    ensures proper { IfOk result (λ made. IfSome made (λ line.
-        IsProperLine line.0 × (fits_kind line.1 line.0.name ≡ true))) }
-    ensures named { has_clear_name octets.now ≡ true
-        → IfOk result (λ made. IfSome made (λ line. HasNameOf octets.now line.0)) }
-    ensures typed { has_clear_new_types octets.now ≡ true
-        → IfOk result (λ made. IfSome made (λ line. HasTypesOf octets.now line.0)) }
+    ensures head { IfOk result (λ made. IfSome made (HasHeadOf octets.now)) }
     ensures value { IfOk result (λ made. IfSome made (λ line.
         line.0.value ≡ rewritten_value form value.now)) }
     ensures spells { IfOk result (λ made. IfSome made (λ line.
@@ -148,12 +135,7 @@ fn media_line(
     octets: &[u8],
     media: &[u8],
 ) -> Result<Option<(Line, ChangeKind)>, NoMemory>
-    ensures proper { IfOk result (λ made. IfSome made (λ line.
-        IsProperLine line.0 × (fits_kind line.1 line.0.name ≡ true))) }
-    ensures named { has_clear_name octets.now ≡ true
-        → IfOk result (λ made. IfSome made (λ line. HasNameOf octets.now line.0)) }
-    ensures typed { has_clear_new_types octets.now ≡ true
-        → IfOk result (λ made. IfSome made (λ line. HasTypesOf octets.now line.0)) }
+    ensures head { IfOk result (λ made. IfSome made (HasHeadOf octets.now)) }
     ensures value { IfOk result (λ made. IfSome made (λ line.
         IsUriOf media.now line.0.value)) }
 {
@@ -169,12 +151,7 @@ fn date_line(
     octets: &[u8],
     date: String,
 ) -> Result<Option<(Line, ChangeKind)>, NoMemory>
-    ensures proper { IfOk result (λ made. IfSome made (λ line.
-        IsProperLine line.0 × (fits_kind line.1 line.0.name ≡ true))) }
-    ensures named { has_clear_name octets.now ≡ true
-        → IfOk result (λ made. IfSome made (λ line. HasNameOf octets.now line.0)) }
-    ensures typed { has_clear_new_types octets.now ≡ true
-        → IfOk result (λ made. IfSome made (λ line. HasTypesOf octets.now line.0)) }
+    ensures head { IfOk result (λ made. IfSome made (HasHeadOf octets.now)) }
     ensures value { IfOk result (λ made. IfSome made (λ line.
         line.0.value ≡ string_bytes date)) }
 {
@@ -190,12 +167,7 @@ fn rewritten_line(
     octets: &[u8],
     version: Version,
 ) -> Result<Option<(Line, ChangeKind)>, NoMemory>
-    ensures proper { IfOk result (λ made. IfSome made (λ line.
-        IsProperLine line.0 × (fits_kind line.1 line.0.name ≡ true))) }
-    ensures named { has_clear_name octets.now ≡ true
-        → IfOk result (λ made. IfSome made (λ line. HasNameOf octets.now line.0)) }
-    ensures typed { has_clear_new_types octets.now ≡ true
-        → IfOk result (λ made. IfSome made (λ line. HasTypesOf octets.now line.0)) }
+    ensures head { IfOk result (λ made. IfSome made (HasHeadOf octets.now)) }
     ensures content { IfOk result (λ made. IfSome made (λ line.
         is_emptied octets.now line.0 ≡ false)) }
 {
@@ -230,12 +202,7 @@ fn known_line(
     octets: &[u8],
     version: Version,
 ) -> Result<Option<(Line, ChangeKind)>, NoMemory>
-    ensures proper { IfOk result (λ made. IfSome made (λ line.
-        IsProperLine line.0 × (fits_kind line.1 line.0.name ≡ true))) }
-    ensures named { has_clear_name octets.now ≡ true
-        → IfOk result (λ made. IfSome made (λ line. HasNameOf octets.now line.0)) }
-    ensures typed { has_clear_new_types octets.now ≡ true
-        → IfOk result (λ made. IfSome made (λ line. HasTypesOf octets.now line.0)) }
+    ensures head { IfOk result (λ made. IfSome made (HasHeadOf octets.now)) }
     ensures value { text.now ≡ text_of octets.now → IfOk result (λ made. IfSome made (λ line.
         line.0.value ≡ rewritten_value (value_form version octets.now) (value_text octets.now))) }
     ensures spells { text.now ≡ text_of octets.now → IfOk result (λ made. IfSome made (λ line.
@@ -255,12 +222,7 @@ fn property_line(
     octets: &[u8],
     version: Version,
 ) -> Result<Option<(Line, ChangeKind)>, NoMemory>
-    ensures proper { IfOk result (λ made. IfSome made (λ line.
-        IsProperLine line.0 × (fits_kind line.1 line.0.name ≡ true))) }
-    ensures named { has_clear_name octets.now ≡ true
-        → IfOk result (λ made. IfSome made (λ line. HasNameOf octets.now line.0)) }
-    ensures typed { has_clear_new_types octets.now ≡ true
-        → IfOk result (λ made. IfSome made (λ line. HasTypesOf octets.now line.0)) }
+    ensures head { IfOk result (λ made. IfSome made (HasHeadOf octets.now)) }
     ensures value { text.now ≡ text_of octets.now → is_known octets.now ≡ true
         → IfOk result (λ made. IfSome made (λ line. HasValueOf version octets.now line.0.value)) }
     ensures content { text.now ≡ text_of octets.now → is_known octets.now ≡ false

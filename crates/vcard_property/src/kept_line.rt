@@ -6,8 +6,8 @@ ghost use Rattle.vcard_lines.specs.TextValues.{unescaped_text};
 ghost use Rattle.vcard_text.specs.Cards.{IsProperLine};
 ghost use Rattle.vcard_values.specs.KeptTexts.{has_control, kept_text};
 
-use crate::proper_line::plain_line;
 use std::alloc::Global;
+use vcard_changes::plain_line;
 use vcard_text::{Line, NoMemory};
 use vcard_values::text_value;
 

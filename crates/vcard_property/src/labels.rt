@@ -5,12 +5,12 @@ ghost use Rattle.vcard_text.specs.Cards.{IsProperLine};
 ghost use Rattle.vcard_property.specs.Labels.{GotLabel, has_label, is_label, is_labelled};
 
 use crate::decoding::decode;
-use crate::proper_line::is_proper_line;
 use crate::property::{Property, read_property};
 use crate::property_line::{is_text_param, label_param, label_text};
 use crate::same_line::is_named;
 use import_text::{is_encoded_as, read_text};
 use std::alloc::Global;
+use vcard_changes::is_proper_line;
 use vcard_text::{Items, Line, NoMemory, Param, Part, Text};
 use vcard_values::Version;
 

@@ -2,7 +2,6 @@
 //! its parameters, its encoding and its value.
 #![tactic(auto)]
 
-mod change_kind;
 mod content;
 mod conversion;
 mod decoding;
@@ -14,18 +13,15 @@ mod names;
 mod new_names;
 mod omitted_year;
 mod params;
-mod proper_line;
 mod property;
 mod property_line;
 mod same_line;
 mod typed_params;
 mod written_names;
 
-pub use change_kind::ChangeKind;
 pub use conversion::convert_line;
 pub use decoding::unknown_charset;
 pub use kept_line::text_line;
 pub use labels::{AddressLine, AddressTypes, OtherParts, read_address, with_label};
-pub use proper_line::{extension_line, is_proper_line, plain_line, with_upper_name};
 pub use same_line::{are_line, has_encoding, read_uid_line};
 pub use vcard_values::{Version, media_octets, text_value};

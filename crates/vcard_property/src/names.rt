@@ -1,6 +1,4 @@
 //! Makes names of groups, properties and parameters legal (RFC 6350, section 3.3).
-ghost use Rattle.std.specs.Prelude.{◌≡◌, ◌++◌, IfOk, codes};
-
 use std::alloc::Global;
 use vcard_text::{NoMemory, Text};
 
@@ -42,13 +40,4 @@ pub(crate) fn upper_name(alloc: Global, name: &str) -> Result<Option<Text>, NoMe
     let mut name = name.into_string();
     name.make_ascii_uppercase();
     Ok(Some(Text::new(name)))
-}
-
-/// The name with X- before it.
-pub(crate) fn extension_name(alloc: Global, name: &str) -> Result<Text, NoMemory>
-    ensures { IfOk result (λ aside. aside ≡ codes "X-" ++ name.now) }
-{
-    let mut aside = String::from_str(alloc, "X-")?;
-    aside.push_str(name)?;
-    Ok(Text::new(aside))
 }

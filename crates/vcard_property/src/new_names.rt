@@ -3,10 +3,10 @@ ghost use Rattle.std.specs.Prelude.{◌≡◌, IfOk, bytes_eq, true};
 ghost use Rattle.vcard_property.specs.Names.{HasNameOf, has_clear_name, is_exchange, is_obsolete};
 ghost use Rattle.vcard_property.specs.Names.{new_name};
 
-use crate::names::extension_name;
 use crate::written_names::{group_of, has_clear_name, upper_name_of};
 use import_text::begins_with_word;
 use std::alloc::Global;
+use vcard_changes::extension_name;
 use vcard_text::{Line, NoMemory, Text};
 use vcard_values::says_uri;
 

@@ -5,7 +5,7 @@ use crate::property::Property;
 use std::alloc::Global;
 use std::mem;
 use vcard_text::{Items, NoMemory, Param, Text};
-use vcard_values::{basic_date, has_basic_date};
+use vcard_values::{basic_date, has_basic_date, is_date};
 
 /// Whether the parameter gives the year that is none.
 fn is_omitted_year(param: &Param) -> bool {
@@ -22,16 +22,21 @@ fn omitted_year(params: &[Param]) -> Option<&str> {
     Some(value.text.as_str())
 }
 
-/// The date without its year (RFC 6350, section 4.3.1), if it has that year.
+/// The date without its year (RFC 6350, section 4.3.1), if it has that year, and is one without it.
 fn date_without_year(alloc: Global, value: &str, year: &str) -> Result<Option<Text>, NoMemory> {
     let date = basic_date(alloc, value)?;
     if year.len() != 4 || !has_basic_date(date.as_str()) {
         return Ok(None);
     }
-    match date.as_str().strip_prefix(year) {
-        Some(day) => Ok(Some(Text::new(format!(in alloc; "--{day}")?))),
-        None => Ok(None),
-    }
+    let Some(day) = date.as_str().strip_prefix(year) else {
+        return Ok(None);
+    };
+    let date = format!(in alloc; "--{day}")?;
+    Ok(if is_date(date.as_str()) {
+        Some(Text::new(date))
+    } else {
+        None
+    })
 }
 
 /// The parameters without the one that gives the year.

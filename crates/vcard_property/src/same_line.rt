@@ -3,7 +3,7 @@ ghost use Rattle.std.specs.Prelude.{◌≡◌, ◌↔◌, IfOk, IfSome, IsTrue, 
 ghost use Rattle.vcard_property.specs.SameLines.{has_encoding, is_encoding};
 ghost use Rattle.vcard_text.specs.Cards.{IsProperLine, line_is_named, is_uid};
 ghost use Rattle.vcard_text.specs.Spelling.{has_no_params};
-ghost use Rattle.vcard_property.specs.Lines.{IsUidLine};
+ghost use Rattle.vcard_changes.specs.Lines.{IsUidLine};
 ghost use Rattle.vcard_property.specs.SameLines.{AreLine, is_plain_text};
 ghost use Rattle.vcard_property.specs.SameLines.{is_same_in_all, is_same_in, same_line, uid_line};
 

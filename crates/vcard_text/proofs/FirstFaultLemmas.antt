@@ -175,11 +175,11 @@ goes_on start text texts line fault s none found = ⊎_elim
     }))
     found
 
-same_err : {A : Type 0} (e fault : CardFault) → ◌≡◌ {A = Result A CardFault} (Err e) (Err fault)
+pub same_err : {A : Type 0} (e fault : CardFault) → ◌≡◌ {A = Result A CardFault} (Err e) (Err fault)
     → e ≡ fault
 same_err e fault h = cc
 
-unless_err : {A : Type 0} (o : Option CardFault) (x : A) (fault : CardFault)
+pub unless_err : {A : Type 0} (o : Option CardFault) (x : A) (fault : CardFault)
     → ok_unless o x ≡ Err fault → o ≡ Some fault
 unless_err None x fault e = absurd (cc)
 unless_err (Some f) x fault e = ap (λ g. Some g) (same_err f fault e)

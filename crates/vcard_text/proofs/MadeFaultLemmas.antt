@@ -36,6 +36,7 @@ use Rattle.vcard_lines.specs.LegalParts.{has_legal_parts}
 use Rattle.vcard_lines.proofs.LegalPartLemmas.{legal_from_test, legal_to_test}
 use Rattle.vcard_text.proofs.MakingLemmas.{card_is_made, lines_made, made_is_card}
 use Rattle.vcard_text.proofs.FirstFaultLemmas.{false_unless, some_fault, bounds_fail, longer}
+use Rattle.vcard_text.proofs.FirstFaultLemmas.{unless_err, same_err}
 
 -- ---- one line
 
@@ -193,15 +194,6 @@ goes_on start line lines fault none found = ⊎_elim
           (append_assoc start (line ∷ []) lines) w.least;
     }))
     found
-
-same_err : {A : Type 0} (e fault : CardFault) → ◌≡◌ {A = Result A CardFault} (Err e) (Err fault)
-    → e ≡ fault
-same_err e fault h = cc
-
-unless_err : {A : Type 0} (o : Option CardFault) (x : A) (fault : CardFault)
-    → ok_unless o x ≡ Err fault → o ≡ Some fault
-unless_err None x fault e = absurd (cc)
-unless_err (Some f) x fault e = ap (λ g. Some g) (same_err f fault e)
 
 finds : (lines start : List Line) (fault : CardFault) → check_lines_after start lines ≡ Err fault
     → IsFoundFrom start lines fault

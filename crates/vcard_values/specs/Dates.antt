@@ -1,6 +1,7 @@
 -- Dates and timestamps of older versions, and what vCard 4.0 writes for them: the basic form of ISO
 -- 8601, without the hyphens and colons between their parts (RFC 6350, section 4.3; RFC 2426,
--- section 3.1.5, which allows both forms).
+-- section 3.1.5, which allows both forms). The day is one of the calendar. Of a time only where
+-- digits and marks stand counts: it needn't be one of a day.
 use Rattle.std.specs.Prelude.{ℕ, Bool, ◌||◌, ◌&&◌, not, nat_eq, List, ◌∷◌, ◌++◌, map, codes}
 use Rattle.std.specs.Prelude.{Option, Some, None, if◌then◌else◌}
 use Rattle.std.specs.Cmp.Lexicographic.{pointwise}
@@ -8,6 +9,7 @@ use Rattle.std.specs.List.{starts_with}
 use Rattle.base_types.specs.Octets.{colon, hyphen, is_digit}
 use Rattle.import_text.specs.RawLines.{is_encoded_as}
 use Rattle.vcard_values.specs.Cuts.{after, before, has_octet}
+use Rattle.vcard_values.specs.Days.{real_day}
 use Rattle.vcard_values.specs.Forms.{has_clear_form, is_property, names_text, names_uri, says}
 
 -- ---- shapes
@@ -33,8 +35,8 @@ without_first mark octets = before mark octets ++ after mark octets
 abbrev pub is_basic_day : List ℕ → Bool
 is_basic_day shape = is_shape shape (codes "00000000") || is_shape shape (codes "--0000")
 
--- The day of this shape in the basic form, if it is one: without the two hyphens of a date, as
--- 1996-04-15, or the one of a day of any year, as --04-15.
+-- The digits of this shape as a day in the basic form, if they are written as one: without the two
+-- hyphens of a date, as 1996-04-15, or the one of a day of any year, as --04-15.
 abbrev pub day_with : List ℕ → List ℕ → Option (List ℕ)
 day_with shape day =
     if is_basic_day shape then Some day
@@ -44,8 +46,9 @@ day_with shape day =
     then Some (codes "--" ++ without_first hyphen (after hyphen (after hyphen day)))
     else None))
 
+-- the day in the basic form, if it is a real one
 abbrev pub day_of : List ℕ → Option (List ℕ)
-day_of day = day_with (shape_of day) day
+day_of day = real_day (day_with (shape_of day) day)
 
 -- ---- times of day
 

@@ -1,5 +1,6 @@
 pub mod Cuts
 pub mod Dates
+pub mod Days
 pub mod Escapes
 pub mod Forms
 pub mod KeptTexts

@@ -18,14 +18,18 @@ closing_parenthesis = 41
 abbrev pub caret : ℕ
 caret = 94
 
+-- what the parameter begins with
+abbrev pub label_front : List ℕ
+label_front = codes "X-CUSTOM(CHARSET=UTF-8,ENCODING=QUOTED-PRINTABLE,"
+
 -- the parameter is such a label
 abbrev pub is_own_label : List ℕ → Bool
-is_own_label part =
-    begins_with_word (codes "X-CUSTOM(CHARSET=UTF-8,ENCODING=QUOTED-PRINTABLE,") part
+is_own_label part = begins_with_word label_front part
 
--- the octets of the label, which come after those 49
+-- the octets of the label
 abbrev pub own_label : List ℕ → List ℕ
-own_label part = quoted_printable (before closing_parenthesis (drop 49 part))
+own_label part =
+    quoted_printable (before closing_parenthesis (drop (length label_front) part))
 
 -- The octet is no control character, no double quote and no caret. So it stands for itself in
 -- double quotes (RFC 6350, section 3.3; RFC 6868).

@@ -12,6 +12,7 @@ ghost use Rattle.vcard_values.specs.Dates.{time_with, upper_t, without_first};
 ghost use Rattle.vcard_values.specs.Values.{known_date, may_have_date};
 
 use crate::cuts::has_octet;
+use crate::days::real_day;
 use crate::forms::{has_clear_form, is_property, says_text, says_uri};
 use crate::value_texts::value_text;
 use crate::values::has_known_text;
@@ -119,7 +120,7 @@ fn yearless_day(alloc: Global, day: &str) -> Result<String, NoMemory>
     Ok(new)
 }
 
-/// The day in the basic form, if it is one of this shape.
+/// The digits as a day in the basic form, if they are of a shape in which days are written.
 fn day_with(alloc: Global, shape: &[u8], day: &str) -> Result<Option<String>, NoMemory>
     ensures { IfOk result (λ found.
         option_map string_bytes found ≡ day_with shape.now day.now) }
@@ -137,12 +138,13 @@ fn day_with(alloc: Global, shape: &[u8], day: &str) -> Result<Option<String>, No
     Ok(None)
 }
 
-/// The day in the basic form, if it is one.
+/// The day in the basic form, if it is a real one.
 fn day_of(alloc: Global, day: &str) -> Result<Option<String>, NoMemory>
     ensures { IfOk result (λ found. option_map string_bytes found ≡ day_of day.now) }
 {
     let shape = shape_of(alloc, day.as_bytes())?;
-    day_with(alloc, shape.as_slice(), day)
+    let day = day_with(alloc, shape.as_slice(), day)?;
+    Ok(real_day(day))
 }
 
 /// The time without three of its colons.
@@ -228,7 +230,8 @@ fn is_date_property(line: &[u8]) -> bool
     is_property(line, b"BDAY") || is_property(line, b"ANNIVERSARY") || is_property(line, b"REV")
 }
 
-/// Whether only the name says what the value is, and no year is called none.
+/// Whether only the name says what the value is, and no parameter says that the year stands for
+/// none.
 fn is_plainly_dated(line: &[u8]) -> bool
     ensures { result ≡ is_plainly_dated line.now }
 {

@@ -6,6 +6,7 @@ mod binary;
 mod components;
 mod cuts;
 mod dates;
+mod days;
 mod escapes;
 mod forms;
 mod geo;

@@ -11,11 +11,14 @@ use import_text::{begins_with_word, read_quoted_printable};
 use std::alloc::Global;
 use vcard_lines::ParamValue;
 
+/// What a parameter begins with that is a label of one's own.
+const LABEL_FRONT: &[u8] = b"X-CUSTOM(CHARSET=UTF-8,ENCODING=QUOTED-PRINTABLE,";
+
 /// Whether the parameter is a label of one's own.
 pub(crate) fn is_own_label(part: &[u8]) -> bool
     ensures { result ≡ is_own_label part.now }
 {
-    begins_with_word(part, b"X-CUSTOM(CHARSET=UTF-8,ENCODING=QUOTED-PRINTABLE,")
+    begins_with_word(part, LABEL_FRONT)
 }
 
 /// The octets from the one at the place on.
@@ -29,7 +32,7 @@ fn octets_from(octets: &[u8], place: usize) -> &[u8]
 fn own_label(alloc: Global, part: &[u8]) -> Result<Vec<u8>, NoMemory>
     ensures { IfOk result (λ label. label.items ≡ own_label part.now) }
 {
-    read_quoted_printable(alloc, before(octets_from(part, 49), b')'))
+    read_quoted_printable(alloc, before(octets_from(part, LABEL_FRONT.len()), b')'))
 }
 
 /// Whether the octet stands for itself in double quotes.
@@ -81,7 +84,7 @@ fn label_type(alloc: Global, label: &[u8]) -> Result<Option<ParamValue>, NoMemor
     Ok(Some(ParamValue { quoted: true, text }))
 }
 
-/// The value of TYPE that a parameter is which is a label of one's own. `None` if it is none, or if
+/// The value of TYPE for a parameter that is a label of one's own. `None` if it is none, or if
 /// its text doesn't stand for itself in double quotes. The only `Err` is out of memory.
 pub fn own_label_type(alloc: Global, part: &[u8]) -> Result<Option<ParamValue>, NoMemory>
     ensures { IfOk result (λ found. found ≡ own_label_type part.now) }

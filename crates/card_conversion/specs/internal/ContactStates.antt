@@ -9,9 +9,9 @@ use Rattle.base_types.specs.TextMaps.{text_cmp}
 use Rattle.contact_csv.specs.declared.row_fault.RowFault.{RowFault}
 use Rattle.vcard_lines.specs.declared.line.Line.{Line}
 use Rattle.vcard_text.specs.Cards.{IsCard, uid_of}
-use Rattle.vcard_import.specs.declared.conversion.Conversion.{Conversion}
+use Rattle.vcard_changes.specs.declared.conversion.Conversion.{Conversion}
 use Rattle.card_conversion.specs.Deliveries.{HasUids, WritesInTurn}
-use Rattle.card_conversion.specs.declared.ledger.Summary.{Summary}
+use Rattle.convert_report.specs.declared.ledger.Summary.{Summary}
 use Rattle.contact_csv.specs.Contacts.{BecomesContact, IsReady, columns_of, rows_of}
 use Rattle.contact_columns.specs.declared.columns.Column.{Column}
 use Rattle.contact_csv.specs.declared.rows.ContactReader.{ContactReader}

@@ -7,14 +7,14 @@ use Rattle.base_types.specs.TextMaps.{text_cmp}
 use Rattle.vcard_lines.specs.declared.line.Line.{Line}
 use Rattle.vcard_text.specs.Cards.{uid_of}
 use Rattle.card_conversion.specs.Moved.{own_uid}
-use Rattle.vcard_import.specs.declared.conversion.Conversion.{Conversion}
+use Rattle.vcard_changes.specs.declared.conversion.Conversion.{Conversion}
 use Rattle.card_conversion.specs.declared.card_sink.Delivery.{Delivery}
 use Rattle.card_conversion.specs.declared.card_sink.Delivery.TheVariants as sink
-use Rattle.card_conversion.specs.declared.fate.Fate.{Fate}
+use Rattle.convert_report.specs.declared.fate.Fate.{Fate}
 use Rattle.card_conversion.specs.Fates.{Entry, HaveFates, IsFate, cards_of, cards_of_fate}
 use Rattle.card_conversion.specs.Fates.{octets_of, pieces_of, uids_of, uids_of_fate}
 use Rattle.card_conversion.specs.Counts.{summary_after}
-use Rattle.card_conversion.specs.declared.ledger.Summary.{Summary}
+use Rattle.convert_report.specs.declared.ledger.Summary.{Summary}
 use Rattle.card_conversion.specs.Deliveries.{HasUids, WritesInTurn}
 use Rattle.card_conversion.specs.internal.PieceReaders.{AreCutFrom, HasEnded, left_of}
 use Rattle.card_conversion.specs.declared.piece_reader.PieceReader.{PieceReader}

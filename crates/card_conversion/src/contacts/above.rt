@@ -2,10 +2,8 @@
 ghost use Rattle.std.specs.Prelude.{◌≡◌};
 ghost use Rattle.card_conversion.specs.AboveLines.{with_line_above, with_lines_above};
 
-use crate::fault::ConversionFault;
-use crate::ledger::Summary;
-use crate::reporting::{Report, Weight};
 use contact_csv::AboveLine;
+use convert_report::{ConversionFault, Report, Summary, Weight};
 use std::alloc::Global;
 use std::io::Write;
 

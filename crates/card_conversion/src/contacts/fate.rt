@@ -2,7 +2,7 @@
 
 use base_types::Text;
 use contact_csv::RowFault;
-use vcard_import::Conversion;
+use vcard_changes::Conversion;
 
 /// What becomes of a row.
 #[derive(Drop)]

@@ -3,16 +3,12 @@
 
 use crate::contacts::broken_lines::BrokenLines;
 use crate::contacts::fate::RowFate;
-use crate::fault::ConversionFault;
-use crate::form_changes::FormKind;
-use crate::guesses::guess_words;
-use crate::parts::{Parts, lost_words};
-use crate::reporting::{Report, Weight};
 use base_types::NoMemory;
 use contact_csv::{Column, RowFault};
+use convert_report::{ConversionFault, FormKind, Parts, Report, Weight, guess_words, lost_words};
 use std::alloc::Global;
 use std::io::Write;
-use vcard_import::{Change, ChangeKind, Conversion};
+use vcard_changes::{Change, ChangeKind, Conversion};
 use vcard_text::Line;
 
 /// Where a row is: its number without the header, its first line in the file, and the line after

@@ -6,12 +6,13 @@ ghost use Rattle.card_conversion.specs.internal.ContactStates.{ReadsRow, TakesRo
 
 use crate::contacts::fate::RowFate;
 use crate::moved::own_uid;
-use crate::{CardSink, ConversionFault, Outcome, deliver};
+use crate::{CardSink, Outcome, deliver};
 use base_types::{NoMemory, TextMap};
 use contact_csv::{ContactFault, ContactReader, RowFault};
+use convert_report::ConversionFault;
 use std::alloc::Global;
 use std::io::Read;
-use vcard_import::Conversion;
+use vcard_changes::Conversion;
 
 /// Reads the contact of the next row, or its fault; `None` after the last row.
 pub(crate) fn next_row<R: Read + Drop>(

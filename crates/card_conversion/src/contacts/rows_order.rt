@@ -3,10 +3,11 @@ ghost use Rattle.std.specs.Prelude.{IfOk};
 ghost use Rattle.contact_csv.specs.Contacts.{IsReady};
 ghost use Rattle.card_conversion.specs.ContactAccounts.{ContactsToRows};
 
+use crate::RowsSink;
 use crate::contacts::run::convert_contacts;
 use crate::laws::written_rows_are_read;
-use crate::{ConversionFault, RowsSink, Summary};
 use contact_csv::ContactReader;
+use convert_report::{ConversionFault, Summary};
 use std::alloc::Global;
 use std::io::{Read, Write};
 

@@ -4,15 +4,14 @@ ghost use Rattle.contact_csv.specs.Contacts.{IsReady};
 ghost use Rattle.card_conversion.specs.ContactAccounts.{ConvertsContacts};
 ghost use Rattle.card_conversion.specs.Courses.{ConvertsRows, Knows};
 
+use crate::CardSink;
 use crate::contacts::broken_lines::BrokenLines;
 use crate::contacts::report::{RowPlace, report_broken, report_guesses, report_row};
 use crate::contacts::rows::{next_row, take_row};
 use crate::contacts::tally::count_row;
 use crate::course::Course;
-use crate::guesses::guessed_cells;
-use crate::reporting::Report;
-use crate::{CardSink, ConversionFault, Summary};
 use contact_csv::ContactReader;
+use convert_report::{ConversionFault, Report, Summary, guessed_cells};
 use std::alloc::Global;
 use std::io::{Read, Write};
 

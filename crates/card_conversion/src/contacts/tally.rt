@@ -2,10 +2,9 @@
 ghost use Rattle.std.specs.Prelude.{◌≡◌};
 ghost use Rattle.card_conversion.specs.ContactFates.{counted};
 
-use crate::Summary;
 use crate::contacts::fate::RowFate;
-use crate::ledger::is_changed;
 use contact_csv::RowFault;
+use convert_report::{Summary, is_changed};
 
 /// Counts a row. One without a value, or with the cells of an earlier one, is no loss.
 pub(crate) fn count_row(summary: &mut Summary, fate: &RowFate)

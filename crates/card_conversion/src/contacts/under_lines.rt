@@ -4,12 +4,12 @@ ghost use Rattle.contact_csv.specs.Contacts.{IsReady};
 ghost use Rattle.card_conversion.specs.AboveLines.{ConvertsUnder};
 ghost use Rattle.card_conversion.specs.Courses.{Knows};
 
+use crate::CardSink;
 use crate::contacts::above::{count_above, report_above};
 use crate::contacts::run::convert_more_contacts;
 use crate::course::Course;
-use crate::reporting::Report;
-use crate::{CardSink, ConversionFault};
 use contact_csv::{AboveLine, ContactReader};
+use convert_report::{ConversionFault, Report};
 use std::alloc::Global;
 use std::io::{Read, Write};
 

@@ -3,9 +3,9 @@ use Rattle.std.specs.Prelude.{ℕ, ◌≡◌, ◌<◌, ◌⊎◌, true, List, []
 use Rattle.vcard_lines.specs.declared.line.Line.{Line}
 use Rattle.vcard_lines.specs.TextValues.{escaped_value}
 use Rattle.vcard_text.specs.Making.{upper_line, upper_lines}
-use Rattle.vcard_property.specs.Lines.{plain_line}
-use Rattle.vcard_import.specs.declared.change.Change.{Change}
-use Rattle.vcard_property.specs.declared.change_kind.ChangeKind.TheVariants.{KeptAside}
+use Rattle.vcard_changes.specs.Lines.{plain_line}
+use Rattle.vcard_changes.specs.declared.change.Change.{Change}
+use Rattle.vcard_changes.specs.declared.change_kind.ChangeKind.TheVariants.{KeptAside}
 use Rattle.contact_csv.specs.Carrying.{ArePartsHeld, IsCarried, IsAsideName, IsComponentPart}
 use Rattle.contact_csv.specs.Carrying.{IsPartHeld, change, column_at, is_component_held, is_held}
 use Rattle.contact_columns.specs.declared.columns.Column.{Column}

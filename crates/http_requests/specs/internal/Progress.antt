@@ -1,10 +1,11 @@
 -- What a session holds of the request at the front, and what one step does with more octets.
 use Rattle.std.specs.Prelude.{◌≡◌, ◌≢◌, ◌<◌, ◌≤◌, ◌+◌, ℕ, Bool, true, false, List, [], ◌++◌, length}
-use Rattle.std.specs.Prelude.{Option, Some, None, ⊤}
+use Rattle.std.specs.Prelude.{Option, Some, None, ⊤, Result, Ok, Err, take}
+use Rattle.base_types.specs.declared.memory.NoMemory.{NoMemory}
 use Rattle.httparse.specs.Grammar.{RequestHead, print_request}
 use Rattle.http_requests.specs.Fields.{body_length, fault_of_head, longest_body}
 use Rattle.http_requests.specs.ParsedHeads.{head_of}
-use Rattle.http_requests.specs.SessionFeeding.{ClosesSession}
+use Rattle.http_requests.specs.SessionFeeding.{ClosesSession, HandlesSomePrefix}
 use Rattle.http_requests.specs.HandlerRuns.{HandlerRelation, FaultReplies, HandlesPrefix}
 use Rattle.http_requests.specs.HandlerRuns.{screened}
 use Rattle.http_requests.specs.HeadEnds.{EndsAtLastOctet, head_state_after}
@@ -111,3 +112,20 @@ module _ {State : Type 0} (does : HandlerRelation State) (fault_reply : FaultRep
       StaysOpen octets old before out new progress
   StepsSession octets old before out new progress false =
       BecomesClosed octets old before out new progress
+
+  -- The step was made over all of these octets, and says whether the session stays open. Or memory
+  -- ran out: some of the requests were handled, and the session is closed.
+  abbrev pub StepsOrFails :
+      List ℕ → State → List ℕ → List ℕ → State → Progress → Result Bool NoMemory → Type 0
+  StepsOrFails octets old before out new progress (Ok stays_open) =
+      StepsSession octets old before out new progress stays_open
+  StepsOrFails octets old before out new progress (Err lack) =
+      HandlesSomePrefix does fault_reply octets old new × IsClosed progress.stage
+
+  -- the same over the octets that were held and so many of the piece, or, if memory ran out, all
+  abbrev pub ConsumesOrFails : List ℕ → List ℕ → State → List ℕ → List ℕ → State → Progress
+      → Result (ℕ × Bool) NoMemory → Type 0
+  ConsumesOrFails held piece old before out new progress (Ok outcome) =
+      StepsSession (held ++ take outcome.0 piece) old before out new progress outcome.1
+  ConsumesOrFails held piece old before out new progress (Err lack) =
+      HandlesSomePrefix does fault_reply (held ++ piece) old new × IsClosed progress.stage

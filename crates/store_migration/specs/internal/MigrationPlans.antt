@@ -1,5 +1,6 @@
 -- The plan of a migration, before anything is written.
-use Rattle.std.specs.Prelude.{◌≡◌, ℤ, List, map, length, Vec, Result, Ok, Err}
+use Rattle.std.specs.Prelude.{◌≡◌, ℤ, FitsSigned, List, map, length, Vec, Result, Ok, Err}
+use Rattle.std.specs.Int.{w64}
 use Rattle.std.specs.declared.alloc.Global.{Global}
 use Rattle.std.specs.List.Sorted.{IsPermutation}
 use Rattle.sqlite.specs.Effect.{Database}
@@ -26,10 +27,11 @@ IsKeepsCheckResult limits books members imports (Ok keeps) =
 IsKeepsCheckResult limits books members imports (Err fault) =
     IsRowCheckResult limits books members imports (initial_keep_rows books members) (Err fault)
 
--- the row with the number of the first schema has an id
+-- the row with the number of the first schema has an id, which SQLite can hold
 pub record HasMetaId (db : Database) : Type 0 where
   pub id : ℤ
   pub one : HasOneSchemaNumber id first_number db
+  pub fits : FitsSigned w64 id
 
 -- The tables are of the first schema, these are the rows of the computed keeps, one for each book,
 -- and the migrated tables hold well-formed books.

@@ -1,9 +1,13 @@
 -- The tables after writing the second schema.
-use Rattle.std.specs.Prelude.{◌≡◌, ℤ, List, IsTrue, Result, Ok, Err}
+use Rattle.std.specs.Prelude.{◌≡◌, ℤ, FitsSigned, List, IsTrue, Result, Ok, Err}
+use Rattle.std.specs.Int.{w64}
+use Rattle.std.specs.List.{AllByRecursion}
 use Rattle.sqlite.specs.declared.error.Error.{Error}
 use Rattle.sqlite.specs.Effect.{Database}
 use Rattle.sqlite.specs.State.{State}
 use Rattle.sqlite.specs.Tree.{Trees}
+use Rattle.store_tables.specs.Acceptance.{HasBook}
+use Rattle.store_tables.specs.Books.{BookRow}
 use Rattle.store_tables.specs.Keeps.{AreKeeps, HoldKeeps, KeepRow}
 use Rattle.store_tables.specs.SchemaCreation.{first_schema}
 use Rattle.store_tables.specs.StatementEffects.{KeepsOtherTables}
@@ -16,6 +20,12 @@ use Rattle.store_migration.specs.Migration.{AddsKeeps}
 pub record IsFirstWithId (id : ℤ) (db : Database) : Type 0 where
   pub schema : db.schema ≡ first_schema
   pub one : HasOneSchemaNumber id first_number db
+  pub fits : FitsSigned w64 id
+
+-- each keep is of another one of the books
+pub record AcceptKeeps (bs : List BookRow) (keep_rows : List KeepRow) : Type 0 where
+  pub apart : AreKeeps keep_rows
+  pub listed : AllByRecursion (λ k. HasBook bs k.book) keep_rows
 
 -- no other table than that of the keeps changed, and the transaction is still open
 pub record ChangesKeeps (old new : State) : Type 0 where

@@ -7,6 +7,7 @@ use Rattle.sqlite.specs.Order.{Row}
 use Rattle.sqlite.specs.State.{IsUnchanged}
 use Rattle.sqlite.specs.Tree.{Trees}
 use Rattle.book_model.specs.Bounds.{Bounds}
+use Rattle.store_tables.specs.Failures as failures
 use Rattle.store_tables.specs.OnConnections.{Ghosts}
 use Rattle.store_tables.specs.Keeps.{KeepRow}
 use Rattle.store_migration.specs.Migration as migration
@@ -44,6 +45,11 @@ module _ {S : Type 0} (store : Ghosts S) (old new : Held S) where
   abbrev pub UnchangedOnOkFirstSchema : {T E : Type 0} → Result T E → Type 0
   UnchangedOnOkFirstSchema result =
       GivenFirstSchema (OnOk result (IsUnchanged (state store old) (state store new)))
+
+  -- a read of tables of the first schema fails only for lack of memory or for an outside cause
+  abbrev pub FailsFromOutsideFirstSchema : {T : Type 0} → Result T Error → Type 0
+  FailsFromOutsideFirstSchema result = GivenFirstSchema
+      (failures.HasOutsideCauseOfError (state store old) (state store new) result)
 
   abbrev pub WroteKeeps : List KeepRow → Type 0
   WroteKeeps keep_rows = writes.WroteKeeps keep_rows (state store old) (state store new)

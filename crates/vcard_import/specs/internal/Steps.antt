@@ -13,7 +13,7 @@ use Rattle.vcard_values.specs.declared.version.Version.{Version}
 use Rattle.vcard_import.specs.Conversions.{BecomeCard}
 use Rattle.vcard_import.specs.Labels.{is_joined}
 use Rattle.vcard_import.specs.LeftOut.{has_left_out}
-use Rattle.vcard_import.specs.declared.change.Change.{Change}
+use Rattle.vcard_changes.specs.declared.change.Change.{Change}
 use Rattle.vcard_import.specs.declared.card_lines.CardLines.{CardLines}
 use Rattle.vcard_import.specs.declared.rules.Reading.{Reading}
 use Rattle.vcard_import.specs.declared.rules.Seen.{Seen}

@@ -1,6 +1,6 @@
 use Rattle.std.proofs.Common.{◌≡◌, subst, string_bytes, rules}
 use Rattle.std.specs.Prelude.{IfOk}
-use Rattle.vcard_import.specs.DerivedUid.{derived_uid}
+use Rattle.vcard_changes.specs.DerivedUid.{derived_uid}
 use Rattle.contact_csv.specs.RowUids.{cell_octets}
 use Rattle.contact_csv.proofs.uid.cell_uid.Goals as goal
 

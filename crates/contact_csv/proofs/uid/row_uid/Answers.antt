@@ -1,6 +1,6 @@
 use Rattle.std.proofs.Common.{◌≡◌, ◌∙◌, subst, string_bytes}
 use Rattle.std.specs.Prelude.{IfOk}
-use Rattle.vcard_import.specs.DerivedUid.{derived_uid}
+use Rattle.vcard_changes.specs.DerivedUid.{derived_uid}
 use Rattle.contact_csv.proofs.uid.row_uid.Goals as goal
 
 pub returns : goal.returns

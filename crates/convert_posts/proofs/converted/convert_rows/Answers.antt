@@ -1,5 +1,5 @@
 use Rattle.std.proofs.Common.{[], subst, sym}
-use Rattle.card_conversion.specs.declared.ledger.Summary.{Summary}
+use Rattle.convert_report.specs.declared.ledger.Summary.{Summary}
 use Rattle.convert_posts.specs.Parts.{IsOfContacts}
 use Rattle.convert_posts.specs.declared.row_list.RowList.{RowList}
 use Rattle.contact_csv.specs.Contacts.{columns_of}

@@ -1,6 +1,7 @@
 use Rattle.std.proofs.Common.{refl}
 use Rattle.sqlite.specs.Held.{state}
 use Rattle.store_tables.proofs.Queries.{all_members_text, all_members_terms}
+use Rattle.store_migration.proofs.FirstFailures.{members_fail}
 use Rattle.store_migration.proofs.FirstLemmas.{members_is, first_unchanged, lists_first}
 use Rattle.store_migration.proofs.FirstLemmas.{reads_first}
 use Rattle.store_migration.proofs.first_rows.list_members.Goals as goal
@@ -21,3 +22,8 @@ returns-clause-reads_only g c = reads_first all_members_text 4 all_members_terms
     (state g.S.Store c.args.conn.now) (state g.S.Store c.query_all.new.self) c.query_all.result
     c.query_all.ensures.ok c.query_all.ensures.err c.query_all.ensures.mode
     c.query_all.ensures.survives
+
+pub returns-clause-fails_from_outside : goal.returns-clause-fails_from_outside
+returns-clause-fails_from_outside g c clean has =
+    members_fail (state g.S.Store c.args.conn.now) (state g.S.Store c.query_all.new.self)
+    c.query_all.result has (c.query_all.ensures.err clean)

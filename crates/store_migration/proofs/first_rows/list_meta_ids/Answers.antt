@@ -1,5 +1,6 @@
 use Rattle.std.proofs.Common.{refl}
 use Rattle.sqlite.specs.Held.{state}
+use Rattle.store_migration.proofs.FirstFailures.{ids_fail}
 use Rattle.store_migration.proofs.FirstLemmas.{ids_text, ids_terms, ids_is, first_unchanged}
 use Rattle.store_migration.proofs.FirstLemmas.{lists_first, reads_first}
 use Rattle.store_migration.proofs.first_rows.list_meta_ids.Goals as goal
@@ -20,3 +21,8 @@ returns-clause-reads_only g c = reads_first ids_text 0 ids_terms _ ids_is
     (state g.S.Store c.args.conn.now) (state g.S.Store c.query_all.new.self) c.query_all.result
     c.query_all.ensures.ok c.query_all.ensures.err c.query_all.ensures.mode
     c.query_all.ensures.survives
+
+pub returns-clause-fails_from_outside : goal.returns-clause-fails_from_outside
+returns-clause-fails_from_outside g c clean has =
+    ids_fail (state g.S.Store c.args.conn.now) (state g.S.Store c.query_all.new.self)
+    c.query_all.result has (c.query_all.ensures.err clean)

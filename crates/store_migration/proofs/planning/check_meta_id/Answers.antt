@@ -1,10 +1,17 @@
-use Rattle.std.proofs.Common.{sym, ◌∙◌}
+use Rattle.std.proofs.Common.{IsSome, sym, subst, ◌∙◌, true≢false}
 use Rattle.sqlite.specs.Held.{state}
-use Rattle.store_migration.proofs.PlanLemmas.{has_id}
+use Rattle.store_migration.proofs.PlanLemmas.{has_id, meta_row}
 use Rattle.store_migration.proofs.planning.check_meta_id.Goals as goal
 
-pub returns-then-has_one_id-clause-has_id : goal.returns-then-has_one_id-clause-has_id
-returns-then-has_one_id-clause-has_id g c clean has first =
-    let it = c.has_one_id.ensures c.if-has_one_id.true in
-    has_id (state g.S.Store c.args.conn.now).now c.in-Ok.rows.items it.0 first
-    (c.in-Ok.ensures.lists clean has) (sym c.as_slice.ensures.value ∙ it.1) it.2
+pub returns-in-Some-clause-has_id : goal.returns-in-Some-clause-has_id
+returns-in-Some-clause-has_id g c clean has first =
+    let it = c.in-Some.ensures.found in
+    has_id (state g.S.Store c.args.conn.now).now c.in-Ok.rows.items it.1 c.in-Some._id first
+    (c.in-Ok.ensures.lists clean has) (sym c.as_slice.ensures.value ∙ it.2) it.3 it.0
+
+pub returns-in-Ok-clause-from_outside : goal.returns-in-Ok-clause-from_outside
+returns-in-Ok-clause-from_outside g c clean has first ids =
+    let it = meta_row (state g.S.Store c.args.conn.now).now c.in-Ok.rows.items first ids
+    (c.in-Ok.ensures.lists clean has) in
+    absurd (true≢false (sym (subst (λ o. IsSome o) c.in-None.is
+    (c.only_id.ensures.missed it.0 (c.as_slice.ensures.value ∙ it.1) it.2))))

@@ -4,6 +4,7 @@ use Rattle.sqlite.specs.Held.{state}
 use Rattle.store_schema.specs.FirstSchema.{first_number}
 use Rattle.store_tables.proofs.ObeyLemmas.{executed_obeys}
 use Rattle.store_tables.proofs.ReturningLemmas.{keeps_executed, executed_inside, written_by}
+use Rattle.store_migration.proofs.RestateFailures.{restate_fails}
 use Rattle.store_migration.proofs.RestateLemmas.{update_command, update_is, update_text}
 use Rattle.store_migration.proofs.RestateLemmas.{updates_inside}
 use Rattle.store_migration.proofs.writing.update_schema_number.Goals as goal
@@ -34,3 +35,11 @@ returns-clause-keeps_commit g c clean inside =
     keeps_executed _ _ (state g.S.Store c.args.tx.now.conn.now)
     (state g.S.Store c.execute.new.self.conn.now) c.execute.result (c.execute.ensures.runs clean
     inside)
+
+pub returns-clause-fails_from_outside : goal.returns-clause-fails_from_outside
+returns-clause-fails_from_outside g c id fits one clean inside has obeys =
+    restate_fails (state g.S.Store c.args.tx.now.conn.now)
+    (state g.S.Store c.execute.new.self.conn.now) id first_number c.args.number c.execute.result has
+    one fits obeys.obeys
+    (rw (c.params-to_sql.ensures, to_z-of_z c.ranges.number) at (c.execute.ensures.runs clean
+    inside))

@@ -1,4 +1,5 @@
 use Rattle.store_tables.proofs.CreateTableLemmas.{creates_imports}
+use Rattle.store_tables.proofs.CreationFailures.{imports_fails}
 use Rattle.store_tables.proofs.WriteLemmas.{creates_table}
 use Rattle.store_tables.proofs.creation.create_imports.Goals as goal
 
@@ -6,4 +7,4 @@ pub returns : goal.returns
 returns g c =
     creates_table g.S.Store c.args.tx.now c.execute.new.self c.execute.ensures.same_reference _ _ _
     _
-    c.execute.result c.execute.ensures.runs c.execute.ensures.survives creates_imports
+    c.execute.result c.execute.ensures.runs c.execute.ensures.survives creates_imports imports_fails

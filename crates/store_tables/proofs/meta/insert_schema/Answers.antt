@@ -3,6 +3,7 @@ use Rattle.std.proofs.lemmas.Result.{on_ok_weaker}
 use Rattle.sqlite.specs.Held.{state}
 use Rattle.store_tables.proofs.ReturningLemmas.{keeps_executed, stays_executed, undone_executed}
 use Rattle.store_tables.proofs.ReturningLemmas.{executed_inside, written_by}
+use Rattle.store_tables.proofs.MetaFailures.{schema_fails}
 use Rattle.store_tables.proofs.MetaLemmas.{adds_schema_inside}
 use Rattle.store_tables.proofs.ObeyLemmas.{executed_obeys}
 use Rattle.store_tables.proofs.Queries.{add_schema_command, add_schema_text}
@@ -45,3 +46,10 @@ returns-clause-keeps_commit g c clean inside =
     keeps_executed _ _ (state g.S.Store c.args.tx.now.conn.now)
     (state g.S.Store c.execute.new.self.conn.now) c.execute.result (c.execute.ensures.runs clean
     inside)
+
+pub returns-clause-fails_from_outside : goal.returns-clause-fails_from_outside
+returns-clause-fails_from_outside g c none clean inside has obeys =
+    schema_fails (state g.S.Store c.args.tx.now.conn.now) (state g.S.Store c.execute.new.self.conn.now)
+    c.args.number c.execute.result has none obeys.obeys
+    (rw (c.params-to_sql.ensures, to_z-of_z c.ranges.number) at (c.execute.ensures.runs clean
+    inside))

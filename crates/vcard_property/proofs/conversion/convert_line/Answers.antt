@@ -2,7 +2,7 @@ use Rattle.std.proofs.Common.{◌≡◌, ◌∙◌, rules, None, Some, sym, ap, 
 use Rattle.import_text.specs.Encodings.{text_of}
 use Rattle.vcard_values.specs.KeptTexts.{kept_text}
 use Rattle.vcard_values.specs.Values.{HasValueOf}
-use Rattle.vcard_property.specs.Names.{HasNameOf}
+use Rattle.vcard_property.specs.NewLines.{HasHeadOf}
 use Rattle.vcard_property.proofs.MadeLemmas.{found_meets}
 use Rattle.vcard_property.proofs.SameLemmas.{line_is_found}
 use Rattle.vcard_property.proofs.conversion.convert_line.Goals as goal
@@ -23,15 +23,29 @@ pub returns-in-Some-clause-becomes : goal.returns-in-Some-clause-becomes
 returns-in-Some-clause-becomes c =
     inl (record { spelled = search rules; same = search rules })
 
+pub returns-in-Some-2-clause-proper : goal.returns-in-Some-2-clause-proper
+returns-in-Some-2-clause-proper c =
+    let is : c.in_ok-made.field-0 ≡ Some c.in-Some-2.made = search rules in
+    (found_meets c.in_ok-made.field-0 c.in-Some-2.made (HasHeadOf c.args.octets.now) is
+    c.in_ok-made.ensures.head).proper
+
+pub returns-in-Some-2-clause-kind : goal.returns-in-Some-2-clause-kind
+returns-in-Some-2-clause-kind c =
+    let is : c.in_ok-made.field-0 ≡ Some c.in-Some-2.made = search rules in
+    (found_meets c.in_ok-made.field-0 c.in-Some-2.made (HasHeadOf c.args.octets.now) is
+    c.in_ok-made.ensures.head).kind
+
 pub returns-in-Some-2-clause-becomes : goal.returns-in-Some-2-clause-becomes
 returns-in-Some-2-clause-becomes c =
     let text : c.as_str.result.now ≡ text_of c.args.octets.now =
     c.as_str.ensures.value ∙ c.in_ok-text.ensures in
     let is : c.in_ok-made.field-0 ≡ Some c.in-Some-2.made = search rules in
+    let head : HasHeadOf c.args.octets.now c.in-Some-2.made =
+    found_meets c.in_ok-made.field-0 c.in-Some-2.made (HasHeadOf c.args.octets.now) is
+    c.in_ok-made.ensures.head in
     inr (inl (record {
-      named = λ clear. found_meets c.in_ok-made.field-0 c.in-Some-2.made
-          (λ line. HasNameOf c.args.octets.now line.0) is (c.in_ok-made.ensures.named clear);
-      typed = λ clear. search (rules, clear);
+      named = head.named;
+      typed = head.typed;
       value = λ known. found_meets c.in_ok-made.field-0 c.in-Some-2.made
           (λ line. HasValueOf c.args.version c.args.octets.now line.0.value) is
           (c.in_ok-made.ensures.value text known);

@@ -1,5 +1,5 @@
 use Rattle.std.proofs.Common.{◌≡◌, ◌≤◌, ℕ, Result, arith, refl, subst, sym}
-use Rattle.admin_store.specs.Resyncs.{Resyncs, some_pairs}
+use Rattle.book_resync.specs.Resyncs.{Resyncs, some_pairs}
 use Rattle.book_model.specs.declared.denied.Denied.{Denied}
 use Rattle.book_resync.specs.Resyncing.{resync_step}
 use Rattle.sqlite_trees.specs.declared.store.Store.{Ghosts}

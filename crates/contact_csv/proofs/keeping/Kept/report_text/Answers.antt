@@ -1,4 +1,4 @@
-use Rattle.vcard_property.specs.declared.change_kind.ChangeKind.TheVariants.{Unreadable}
+use Rattle.vcard_changes.specs.declared.change_kind.ChangeKind.TheVariants.{Unreadable}
 use Rattle.contact_csv.proofs.KeepLemmas.{reports_none, reports_one}
 use Rattle.contact_csv.proofs.ResultLemmas.{ok_both}
 use Rattle.contact_csv.proofs.keeping.Kept.report_text.Goals as goal

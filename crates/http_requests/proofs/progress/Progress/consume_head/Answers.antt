@@ -11,15 +11,19 @@ use Rattle.http_requests.specs.HeadEnds.{EndsAtLastOctet}
 use Rattle.http_requests.specs.ParsedHeads.{IsBoundFault}
 use Rattle.http_requests.specs.internal.Progress.{IsPartialHead}
 use Rattle.http_requests.proofs.RunLemmas.{part_none}
-use Rattle.base_types.proofs.TextMapLemmas.{on_err_from}
+use Rattle.std.proofs.lemmas.Result.{err_from_is_err_and}
 use Rattle.http_requests.proofs.StepLemmas.{scan_ends, still_going, beginning_more, bound_stop}
 use Rattle.http_requests.proofs.StepLemmas.{grown_part, run_none_at}
 use Rattle.http_requests.proofs.progress.Progress.consume_head.Goals as goal
 
-pub returns-in_err-extend_from_slice-clause-err : goal.returns-in_err-extend_from_slice-clause-err
-returns-in_err-extend_from_slice-clause-err g c = on_err_from c.from_residual.result
-    (part_none g.H.Handler.does g.H.Handler.fault_reply (c.args.self.now.held.items
-    ++ c.args.piece.now) c.args.handler.now c.args.handler.now refl)
+pub returns-in_err-extend_from_slice-clause-step : goal.returns-in_err-extend_from_slice-clause-step
+returns-in_err-extend_from_slice-clause-step g c =
+    let p = err_from_is_err_and c.from_residual.result c.from_residual.ensures.1 in
+    rw p.1 (
+      part_none g.H.Handler.does g.H.Handler.fault_reply (c.args.self.now.held.items
+          ++ c.args.piece.now) c.args.handler.now c.args.handler.now refl,
+      c.requires.closed,
+    )
 
 pub finish_head-requires-clause-ends : goal.finish_head-requires-clause-ends
 finish_head-requires-clause-ends g c =
@@ -28,21 +32,31 @@ finish_head-requires-clause-ends g c =
     (scan_ends c.args.self.now.held.items c.args.piece.now c.args.state c.scan-used.result.1
     (16384 - c.len.result) c.scan-used.result.0 c.requires.holds c.scan-used.ensures ended)
 
-pub returns-in_err-stays_open-clause-err : goal.returns-in_err-stays_open-clause-err
-returns-in_err-stays_open-clause-err g c = on_err_from c.from_residual-in_err-stays_open.result
-    (grown_part g.H.Handler.does g.H.Handler.fault_reply c.args.self.now.held.items c.args.piece.now
-    c.extend_from_slice.new.self.items c.scan-used.result.0
-    c.args.handler.now c.finish_head.new.handler c.in_ok-extend_from_slice.ensures.items
-    c.in_err-stays_open.ensures.err)
+pub returns-in_err-stays_open-clause-step : goal.returns-in_err-stays_open-clause-step
+returns-in_err-stays_open-clause-step g c =
+    let p = err_from_is_err_and c.from_residual-in_err-stays_open.result
+    c.from_residual-in_err-stays_open.ensures.1 in
+    rw p.1 (
+      grown_part g.H.Handler.does g.H.Handler.fault_reply c.args.self.now.held.items c.args.piece.now
+          c.extend_from_slice.new.self.items c.scan-used.result.0
+          c.args.handler.now c.finish_head.new.handler c.in_ok-extend_from_slice.ensures.items
+          c.in_err-stays_open.ensures.step.0,
+      c.in_err-stays_open.ensures.step.1,
+    )
 
-pub returns-in_err-refuse-clause-err : goal.returns-in_err-refuse-clause-err
-returns-in_err-refuse-clause-err g c = on_err_from c.from_residual-in_err-refuse.result
-    (part_none g.H.Handler.does g.H.Handler.fault_reply (c.args.self.now.held.items
-    ++ c.args.piece.now) c.args.handler.now c.args.handler.now refl)
+pub returns-in_err-refuse-clause-step : goal.returns-in_err-refuse-clause-step
+returns-in_err-refuse-clause-step g c =
+    let p = err_from_is_err_and c.from_residual-in_err-refuse.result
+    c.from_residual-in_err-refuse.ensures.1 in
+    rw p.1 (
+      part_none g.H.Handler.does g.H.Handler.fault_reply (c.args.self.now.held.items
+          ++ c.args.piece.now) c.args.handler.now c.args.handler.now refl,
+      c.requires.closed,
+    )
 
-pub returns-then-len-lt-HEAD_OCTETS_MAX-clause-ok :
-    goal.returns-then-len-lt-HEAD_OCTETS_MAX-clause-ok
-returns-then-len-lt-HEAD_OCTETS_MAX-clause-ok g c =
+pub returns-then-len-lt-HEAD_OCTETS_MAX-clause-step :
+    goal.returns-then-len-lt-HEAD_OCTETS_MAX-clause-step
+returns-then-len-lt-HEAD_OCTETS_MAX-clause-step g c =
     let s : List ℕ = c.args.self.now.held.items ++ take c.scan-used.result.0 c.args.piece.now in
     let grown : c.extend_from_slice.new.self.items ≡ s = c.in_ok-extend_from_slice.ensures.items in
     let going : c.scan-used.result.1 ≢ Ended = λ e. let t : c.has_ended.result ≡ true =
@@ -66,8 +80,8 @@ returns-then-len-lt-HEAD_OCTETS_MAX-clause-ok g c =
           c.extend_from_slice.new.self.items c.args.handler.now grown;
     }
 
-pub returns-in_ok-refuse-clause-ok : goal.returns-in_ok-refuse-clause-ok
-returns-in_ok-refuse-clause-ok g c =
+pub returns-in_ok-refuse-clause-step : goal.returns-in_ok-refuse-clause-step
+returns-in_ok-refuse-clause-step g c =
     let held : List ℕ = c.args.self.now.held.items in
     let taken : List ℕ = take c.scan-used.result.0 c.args.piece.now in
     let s : List ℕ = held ++ taken in

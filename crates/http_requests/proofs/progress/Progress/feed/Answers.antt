@@ -36,23 +36,23 @@ loop-rest-init g c =
 pub returns-in_err-used-clause-holds : goal.returns-in_err-used-clause-holds
 returns-in_err-used-clause-holds g c =
     closed_holds c.advance.new.self.held.items c.advance.new.self.stage
-    c.in_err-used.ensures.err_closed
+    c.in_err-used.ensures.step.1
 
 pub returns-in_err-used-clause-fed_in_part : goal.returns-in_err-used-clause-fed_in_part
 returns-in_err-used-clause-fed_in_part g c = on_err_from c.from_residual.result
     (loses_part g.H.Handler.does g.H.Handler.fault_reply c.args.self.now.held.items c.args.piece.now
     c.args.self.now.stage c.args.handler.now c.loop-rest.out.items c.loop-rest.handler
     c.loop-rest.self.held.items c.loop-rest.rest.now c.advance.new.handler
-    c.loop-rest.invariant.was_open c.loop-rest.invariant.far c.in_err-used.ensures.err)
+    c.loop-rest.invariant.was_open c.loop-rest.invariant.far c.in_err-used.ensures.step.0)
 
 pub returns-then-not-stays_open-clause-holds : goal.returns-then-not-stays_open-clause-holds
 returns-then-not-stays_open-clause-holds g c =
-    let step = rw c.if-not-stays_open.true at c.in_ok-used.ensures.ok in
+    let step = rw c.if-not-stays_open.true at c.in_ok-used.ensures.step in
     closed_holds c.advance.new.self.held.items c.advance.new.self.stage step.is_closed
 
 pub returns-then-not-stays_open-clause-fed : goal.returns-then-not-stays_open-clause-fed
 returns-then-not-stays_open-clause-fed g c =
-    let step = rw c.if-not-stays_open.true at c.in_ok-used.ensures.ok in
+    let step = rw c.if-not-stays_open.true at c.in_ok-used.ensures.step in
     takes_stop g.H.Handler.does g.H.Handler.fault_reply c.args.self.now.held.items c.args.piece.now
     c.args.self.now.stage c.args.handler.now c.loop-rest.out.items c.loop-rest.handler
     c.loop-rest.self.held.items c.loop-rest.rest.now c.in_ok-used.used
@@ -61,7 +61,7 @@ returns-then-not-stays_open-clause-fed g c =
 
 pub loop-rest-preserved : goal.loop-rest-preserved
 loop-rest-preserved g c =
-    let step = rw c.if-not-stays_open.false at c.in_ok-used.ensures.ok in
+    let step = rw c.if-not-stays_open.false at c.in_ok-used.ensures.step in
     record {
       holds = step.holds;
       is_open = step.is_open;

@@ -8,34 +8,50 @@ use Rattle.std.proofs.lemmas.List.{append-nil}
 use Rattle.http_requests.specs.declared.head_fault.HeadFault.TheVariants.{BadHead}
 use Rattle.http_requests.proofs.AskingLemmas.{admits}
 use Rattle.http_requests.proofs.RunLemmas.{run_none, part_none}
-use Rattle.base_types.proofs.TextMapLemmas.{on_err_from}
+use Rattle.std.proofs.lemmas.Result.{err_from_is_err_and}
 use Rattle.http_requests.proofs.StepLemmas.{waiting, head_whole, fault_stop, screened_stop}
 use Rattle.http_requests.proofs.StepLemmas.{unreadable_stop}
 use Rattle.http_requests.proofs.progress.Progress.finish_head.Goals as goal
 
-pub returns-in_err-head-clause-err : goal.returns-in_err-head-clause-err
-returns-in_err-head-clause-err g c = on_err_from c.from_residual.result
-    (part_none g.H.Handler.does g.H.Handler.fault_reply c.args.self.now.held.items
-    c.args.handler.now c.args.handler.now refl)
+pub returns-in_err-head-clause-step : goal.returns-in_err-head-clause-step
+returns-in_err-head-clause-step g c =
+    let p = err_from_is_err_and c.from_residual.result c.from_residual.ensures.1 in
+    rw p.1 (
+      part_none g.H.Handler.does g.H.Handler.fault_reply c.args.self.now.held.items
+          c.args.handler.now c.args.handler.now refl,
+      c.requires.closed,
+    )
 
-pub returns-in_err-refuse-in-Faulty-clause-err : goal.returns-in_err-refuse-in-Faulty-clause-err
-returns-in_err-refuse-in-Faulty-clause-err g c =
-    on_err_from c.from_residual-in_err-refuse-in-Faulty.result
-    (part_none g.H.Handler.does g.H.Handler.fault_reply c.args.self.now.held.items
-    c.args.handler.now c.args.handler.now refl)
+pub returns-in_err-refuse-in-Faulty-clause-step : goal.returns-in_err-refuse-in-Faulty-clause-step
+returns-in_err-refuse-in-Faulty-clause-step g c =
+    let p = err_from_is_err_and c.from_residual-in_err-refuse-in-Faulty.result
+    c.from_residual-in_err-refuse-in-Faulty.ensures.1 in
+    rw p.1 (
+      part_none g.H.Handler.does g.H.Handler.fault_reply c.args.self.now.held.items
+          c.args.handler.now c.args.handler.now refl,
+      c.requires.closed,
+    )
 
-pub returns-in_err-refuse-in-Screened-clause-err : goal.returns-in_err-refuse-in-Screened-clause-err
-returns-in_err-refuse-in-Screened-clause-err g c =
-    on_err_from c.from_residual-in_err-refuse-in-Screened.result
-    (part_none g.H.Handler.does g.H.Handler.fault_reply c.args.self.now.held.items
-    c.args.handler.now c.args.handler.now refl)
+pub returns-in_err-refuse-in-Screened-clause-step : goal.returns-in_err-refuse-in-Screened-clause-step
+returns-in_err-refuse-in-Screened-clause-step g c =
+    let p = err_from_is_err_and c.from_residual-in_err-refuse-in-Screened.result
+    c.from_residual-in_err-refuse-in-Screened.ensures.1 in
+    rw p.1 (
+      part_none g.H.Handler.does g.H.Handler.fault_reply c.args.self.now.held.items
+          c.args.handler.now c.args.handler.now refl,
+      c.requires.closed,
+    )
 
-pub returns-in_err-refuse-in-Unreadable-clause-err :
-    goal.returns-in_err-refuse-in-Unreadable-clause-err
-returns-in_err-refuse-in-Unreadable-clause-err g c =
-    on_err_from c.from_residual-in_err-refuse-in-Unreadable.result
-    (part_none g.H.Handler.does g.H.Handler.fault_reply c.args.self.now.held.items
-    c.args.handler.now c.args.handler.now refl)
+pub returns-in_err-refuse-in-Unreadable-clause-step :
+    goal.returns-in_err-refuse-in-Unreadable-clause-step
+returns-in_err-refuse-in-Unreadable-clause-step g c =
+    let p = err_from_is_err_and c.from_residual-in_err-refuse-in-Unreadable.result
+    c.from_residual-in_err-refuse-in-Unreadable.ensures.1 in
+    rw p.1 (
+      part_none g.H.Handler.does g.H.Handler.fault_reply c.args.self.now.held.items
+          c.args.handler.now c.args.handler.now refl,
+      c.requires.closed,
+    )
 
 pub handle-requires-clause-whole : goal.handle-requires-clause-whole
 handle-requires-clause-whole g c =
@@ -45,8 +61,8 @@ handle-requires-clause-whole g c =
     found.4
     (omega (arith, c.len-start.ensures, c.args.self.now.held.ok)) c.if-head-eq0.true
 
-pub returns-in-Good-clause-ok : goal.returns-in-Good-clause-ok
-returns-in-Good-clause-ok g c =
+pub returns-in-Good-clause-step : goal.returns-in-Good-clause-step
+returns-in-Good-clause-step g c =
     let found = rw (c.deref.ensures.value, c.in-Good.is) at c.in_ok-head.ensures in
     record {
       holds = waiting c.args.self.now.held.items c.in-Good.head c.len-start.result _ found.0
@@ -62,8 +78,8 @@ returns-in-Good-clause-ok g c =
           c.args.handler.now;
     }
 
-pub returns-in-Faulty-clause-ok : goal.returns-in-Faulty-clause-ok
-returns-in-Faulty-clause-ok g c =
+pub returns-in-Faulty-clause-step : goal.returns-in-Faulty-clause-step
+returns-in-Faulty-clause-step g c =
     let found = rw (c.deref.ensures.value, c.in-Faulty.is) at c.in_ok-head.ensures in
     record {
       is_closed = c.requires.closed;
@@ -73,8 +89,8 @@ returns-in-Faulty-clause-ok g c =
           c.args.handler.now found.0 c.in-Faulty.fault found.1 found.2;
     }
 
-pub returns-in-Screened-clause-ok : goal.returns-in-Screened-clause-ok
-returns-in-Screened-clause-ok g c =
+pub returns-in-Screened-clause-step : goal.returns-in-Screened-clause-step
+returns-in-Screened-clause-step g c =
     let found = rw (c.deref.ensures.value, c.in-Screened.is) at c.in_ok-head.ensures in
     record {
       is_closed = c.requires.closed;
@@ -84,8 +100,8 @@ returns-in-Screened-clause-ok g c =
           c.args.handler.now found.0 [] c.in-Screened.fault found.1 found.2 found.3;
     }
 
-pub returns-clause-ok : goal.returns-clause-ok
-returns-clause-ok g c =
+pub returns-clause-step : goal.returns-clause-step
+returns-clause-step g c =
     let found = rw (c.deref.ensures.value, c.in-Unreadable.is) at c.in_ok-head.ensures in
     record {
       is_closed = c.requires.closed;

@@ -1,7 +1,7 @@
 use Rattle.std.proofs.Common.{◌≡◌, ◌∙◌, rules, true, false, sym, ap, subst, inl, inr, codes}
 use Rattle.std.proofs.lemmas.Result.{on_ok_weaker}
 use Rattle.vcard_property.specs.NewLines.{KeepsText}
-use Rattle.vcard_property.specs.declared.change_kind.ChangeKind.TheVariants.{KeptAside}
+use Rattle.vcard_changes.specs.declared.change_kind.ChangeKind.TheVariants.{KeptAside}
 use Rattle.vcard_import.specs.Conversions.{IsLineOf}
 use Rattle.vcard_import.specs.Delimiters.{is_delimiter}
 use Rattle.vcard_import.specs.Labels.{fits}

@@ -1,8 +1,0 @@
-use Rattle.std.proofs.Common.{◌≡◌, flat_map, map, take}
-use Rattle.cli_export.specs.CardFiles.{one_text}
-use Rattle.cli_export.proofs.export.cards_text.Given as goal
-
--- the texts of the cards so far
-abbrev pub invariant-loop-card : goal.invariant-loop-card
-invariant-loop-card l = l.out.items ≡ flat_map (one_text l.is_older)
-    (map (λ card. card.now) (take l.card-index l.cards))

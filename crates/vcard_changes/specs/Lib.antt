@@ -1,0 +1,3 @@
+pub mod DerivedUid
+pub mod Lines
+pub mod internal

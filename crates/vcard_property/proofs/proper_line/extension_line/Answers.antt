@@ -1,6 +1,0 @@
-use Rattle.vcard_property.proofs.ProperLemmas.{extension_is_proper}
-use Rattle.vcard_property.proofs.proper_line.extension_line.Goals as goal
-
-pub returns-clause-proper : goal.returns-clause-proper
-returns-clause-proper c = λ proper. rw (c.in_ok-name.ensures, c.as_str.ensures)
-    (extension_is_proper c.args.line proper)
