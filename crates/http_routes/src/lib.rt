@@ -3,6 +3,7 @@
 #![tactic(auto)]
 
 mod action;
+mod command;
 mod fault;
 pub mod laws;
 mod method;

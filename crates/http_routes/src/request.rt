@@ -6,15 +6,14 @@ ghost use Rattle.http_routes.specs.declared.fault.RouteFault.{RouteFault};
 ghost use Rattle.http_routes.specs.declared.no_command.NoCommand.TheVariants.{Fault};
 
 use crate::action::Action;
+use crate::command::command_of;
 use crate::fault::RouteFault;
 use crate::method::action_of;
 use crate::no_command::NoCommand;
 use crate::path::{decode_part, part_at, parts_of, route_of};
-use crate::query::{
-    export_form_of, has_valid_names, number_of, pairs_of, parse_number, value_or_empty,
-};
+use crate::query::{has_valid_names, pairs_of};
 use crate::router::Routes;
-use base_types::{Items, Text};
+use base_types::Text;
 use book_commands::Command;
 use std::alloc::Global;
 
@@ -26,69 +25,6 @@ pub fn split_target(target: &str) -> (&str, &str)
     match target.split_once('?') {
         Some((path, query)) => (path, query),
         None => (target, ""),
-    }
-}
-
-/// The command of an action, given the texts of the path, the body, and a query whose names are
-/// checked. `BadQuery` if a value is invalid.
-fn command_of(
-    alloc: Global,
-    action: Action,
-    book: Text,
-    uid: Text,
-    body: &[u8],
-    pairs: &[(Text, Text)],
-) -> Result<Command, NoCommand>
-    ensures { MatchesExpected (commands.command_of action book uid body.now pairs.now) result }
-{
-    match action {
-        Action::CreateBook => Ok(Command::CreateBook { book }),
-        Action::Books => Ok(Command::Books),
-        Action::Get => Ok(Command::Get { book, uid }),
-        Action::Put => {
-            let expect = number_of("version", pairs)?;
-            let text = Items::from_vec(Vec::from_slice(alloc, body)?);
-            Ok(Command::Put {
-                book,
-                uid,
-                expect,
-                text,
-            })
-        }
-        Action::Remove => {
-            let expect = number_of("version", pairs)?;
-            Ok(Command::Remove { book, uid, expect })
-        }
-        Action::MoveCard => {
-            let expect = number_of("version", pairs)?;
-            let to = Text::copy_of(alloc, value_or_empty("to", pairs))?;
-            Ok(Command::MoveCard {
-                book,
-                uid,
-                to,
-                expect,
-            })
-        }
-        Action::Report => {
-            let limit = number_of("limit", pairs)?;
-            let token = Text::copy_of(alloc, value_or_empty("token", pairs))?;
-            Ok(Command::Report { book, token, limit })
-        }
-        Action::Import => {
-            let key = Text::copy_of(alloc, value_or_empty("key", pairs))?;
-            let body = Items::from_vec(Vec::from_slice(alloc, body)?);
-            Ok(Command::Import { book, key, body })
-        }
-        Action::Forget => {
-            let upto = parse_number(value_or_empty("upto", pairs))?;
-            Ok(Command::Forget { book, upto })
-        }
-        Action::TallyOf => Ok(Command::TallyOf { book }),
-        Action::Export => {
-            let form = export_form_of(pairs)?;
-            Ok(Command::Export { book, form })
-        }
-        Action::People => Ok(Command::People { book, uid }),
     }
 }
 
