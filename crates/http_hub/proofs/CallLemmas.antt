@@ -5,30 +5,27 @@ use Rattle.std.specs.Prelude.{OnErr}
 use Rattle.std.proofs.lemmas.List.{set-set}
 use Rattle.http_hub.specs.Hubs.{HubValue, IsAt, IsFreeAt, with_link, with_slot}
 use Rattle.http_hub.specs.Links.{LinkValue}
-use Rattle.http_hub.specs.declared.slot.Slot.{Slot}
 use Rattle.http_hub.proofs.PlaceLemmas.{set_same}
 
 -- a place whose connection was taken is free
-pub free_after_take : (before taken : HubValue) (place : ℕ) (slot : Slot) → IsAt before place slot
-    → taken ≡ with_slot before place None → IsFreeAt taken place
-free_after_take before taken place slot found is =
+pub free_after_take : (before taken : HubValue) (place : ℕ) (link : LinkValue)
+    → IsAt before place link → taken ≡ with_slot before place None → IsFreeAt taken place
+free_after_take before taken place link found is =
     subst (λ (hub : HubValue). IsFreeAt hub place) (sym is) (set_same before.slots place None
-    (Some slot) found)
+    (Some link) found)
 
 -- a connection that is put back is at its place
-pub with_put_back : (before taken after : HubValue) (place serial : ℕ) (next link : LinkValue)
-    → taken ≡ with_slot before place None
-    → after ≡ with_slot taken place (Some (record { serial = serial; link = next })) → next ≡ link
-    → after ≡ with_link before place serial link
-with_put_back before taken after place serial next link taken_is after_is same =
-    let slot : Option Slot = Some (record { serial = serial; link = next }) in
-    let hub_with : List (Option Slot) → HubValue = λ slots. record {
+pub with_put_back : (before taken after : HubValue) (place : ℕ) (next link : LinkValue)
+    → taken ≡ with_slot before place None → after ≡ with_slot taken place (Some next)
+    → next ≡ link → after ≡ with_link before place link
+with_put_back before taken after place next link taken_is after_is same =
+    let hub_with : List (Option LinkValue) → HubValue = λ slots. record {
       slots = slots;
       opened = before.opened;
     } in
-    after_is ∙ ap (λ (hub : HubValue). with_slot hub place slot) taken_is
-    ∙ ap hub_with (set-set before.slots place None slot)
-    ∙ ap (λ (one : LinkValue). with_link before place serial one) same
+    after_is ∙ ap (λ (hub : HubValue). with_slot hub place (Some next)) taken_is
+    ∙ ap hub_with (set-set before.slots place None (Some next))
+    ∙ ap (λ (one : LinkValue). with_link before place one) same
 
 pub on_err_both : {A E : Type 0} (result : Result A E) (P Q R : Type 0) → (P → Q → R)
     → OnErr result P → OnErr result Q → OnErr result R

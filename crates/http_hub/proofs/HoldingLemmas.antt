@@ -18,36 +18,35 @@ use Rattle.http_hub.specs.Hubs.{EndsAt, HubValue, IsAt, IsOpenAt, OpensAt, Recei
 use Rattle.http_hub.specs.Hubs.{with_link}
 use Rattle.http_hub.specs.Links.{LinkValue, link_after_failure, link_after_refusal, link_after_sent}
 use Rattle.http_hub.specs.Links.{new_link, reply_length_after}
-use Rattle.http_hub.specs.declared.slot.Slot.{Slot}
-use Rattle.http_hub.proofs.HubLemmas.{refused_link}
+use Rattle.http_hub.proofs.HubLemmas.{refused_piece}
 use Rattle.http_hub.proofs.PlaceLemmas.{set_other, set_same}
 
 -- ---- the sum, after a place was written
 
-total_cons : (slot : Option Slot) (slots : List (Option Slot))
-    → large_total (slot ∷ slots) ≡ large_at slot + large_total slots
-total_cons slot slots = sum_by-cons large_at slot slots
+total_cons : (link : Option LinkValue) (slots : List (Option LinkValue))
+    → large_total (link ∷ slots) ≡ large_at link + large_total slots
+total_cons link slots = sum_by-cons large_at link slots
 
 -- what was at the place isn't counted any more, and what is there now is
-pub total_set : (slots : List (Option Slot)) (place : ℕ) (old new : Option Slot)
+pub total_set : (slots : List (Option LinkValue)) (place : ℕ) (old new : Option LinkValue)
     → slice_get slots place ≡ Some old
     → large_total (slice_set slots place new) + large_at old ≡ large_total slots + large_at new
 total_set [] place old new found = cc found
-total_set (slot ∷ slots) zero old new found =
-    let same : slot ≡ old = cc found in
-    omega (arith, total_cons slot slots, total_cons new slots, ap large_at same)
-total_set (slot ∷ slots) (suc place) old new found =
+total_set (link ∷ slots) zero old new found =
+    let same : link ≡ old = cc found in
+    omega (arith, total_cons link slots, total_cons new slots, ap large_at same)
+total_set (link ∷ slots) (suc place) old new found =
     omega (
       arith,
       total_set slots place old new found,
-      total_cons slot slots,
-      total_cons slot (slice_set slots place new),
+      total_cons link slots,
+      total_cons link (slice_set slots place new),
     )
 
 -- a connection holds no more than all
-pub part_of_total : (slots : List (Option Slot)) (place : ℕ) (slot : Option Slot)
-    → slice_get slots place ≡ Some slot → large_at slot ≤ large_total slots
-part_of_total slots place slot found = let changed = total_set slots place slot None found in
+pub part_of_total : (slots : List (Option LinkValue)) (place : ℕ) (link : Option LinkValue)
+    → slice_get slots place ≡ Some link → large_at link ≤ large_total slots
+part_of_total slots place link found = let changed = total_set slots place link None found in
     omega (arith, changed)
 
 pub total_none : (limit : ℕ) → large_total (replicate limit None) ≡ 0
@@ -103,20 +102,20 @@ refused_by : (load : ℕ) → load ≤ most_small → ((large_part load ≡ 0) �
 refused_by load few (inl small) = small.0
 refused_by load few (inr large) = let more = large.1 in absurd (omega (arith, few, more))
 
-pub refused_holds_none : (reply : List ℕ) (now : ℕ) → length reply ≤ most_small
-    → large_part (load_of (link_after_refusal reply now)) ≡ 0
-refused_holds_none reply now small =
+pub refused_holds_none : (link : LinkValue) (reply : List ℕ) (now : ℕ) → length reply ≤ most_small
+    → large_part (load_of (link_after_refusal link reply now)) ≡ 0
+refused_holds_none link reply now small =
     refused_by (0 + length reply) (omega (arith, small)) (large_cases (0 + length reply))
 
 -- ---- the bound
 
 -- a place that comes to hold no more keeps the bound
-pub within_set : (most : ℕ) (slots : List (Option Slot)) (place : ℕ) (old new : Option Slot)
-    → slice_get slots place ≡ Some old → large_at new ≤ large_at old
+pub within_set : (most : ℕ) (slots : List (Option LinkValue)) (place : ℕ) (old new :
+    Option LinkValue) → slice_get slots place ≡ Some old → large_at new ≤ large_at old
     → AreWithin most slots → AreWithin most (slice_set slots place new)
 within_set most slots place old new found less (inl few) =
     let changed = total_set slots place old new found in inl (omega (arith, changed, less, few))
-within_set most slots place old new found less (inr (one, slot, at, all)) =
+within_set most slots place old new found less (inr (one, link, at, all)) =
     by_place (one == place) refl
   where
     changed : large_total (slice_set slots place new) + large_at old ≡ large_total slots + large_at
@@ -125,9 +124,9 @@ within_set most slots place old new found less (inr (one, slot, at, all)) =
 
     by_place : (b : Bool) → (one == place) ≡ b → AreWithin most (slice_set slots place new)
     by_place true e =
-        let here : slice_get slots place ≡ Some slot =
+        let here : slice_get slots place ≡ Some link =
         ap (λ n. slice_get slots n) (sym (eqb-true one place e)) ∙ at in
-        let same : slot ≡ old = cc (here, found) in
+        let same : link ≡ old = cc (here, found) in
         inr (
           place,
           new,
@@ -141,81 +140,78 @@ within_set most slots place old new found less (inr (one, slot, at, all)) =
         )
     by_place false e =
         let apart : place ≡ one → ⊥ = λ same. cc (eq-eqb one place (sym same), e) in
-        let without : slice_get (slice_set slots place None) one ≡ Some slot =
+        let without : slice_get (slice_set slots place None) one ≡ Some link =
         set_other slots place one None apart ∙ at in
-        let there : slice_get (slice_set slots place new) one ≡ Some slot =
+        let there : slice_get (slice_set slots place new) one ≡ Some link =
         set_other slots place one new apart ∙ at in
         let rest = total_set slots place old None found in
-        let part = part_of_total (slice_set slots place None) one slot without in
-        inr (one, slot, there, omega (arith, changed, all, rest, part, less))
+        let part = part_of_total (slice_set slots place None) one link without in
+        inr (one, link, there, omega (arith, changed, all, rest, part, less))
 
 -- ---- a piece
 
-fitting_by : (most : ℕ) (slots before : List (Option Slot)) (place : ℕ) (old : Option Slot) (slot :
-    Slot) (own others : ℕ) → own ≡ large_at (Some slot) → others ≡ large_total slots - own
-    → slice_get before place ≡ Some old → slots ≡ slice_set before place (Some slot)
-    → slice_get slots place ≡ Some (Some slot) → may_hold most own others ≡ true
+fitting_by : (most : ℕ) (slots before : List (Option LinkValue)) (place : ℕ) (old :
+    Option LinkValue) (link : LinkValue) (own others : ℕ) → own ≡ large_at (Some link)
+    → others ≡ large_total slots - own
+    → slice_get before place ≡ Some old → slots ≡ slice_set before place (Some link)
+    → slice_get slots place ≡ Some (Some link) → may_hold most own others ≡ true
     → AreWithin most before
     → ((eqb own 0 ≡ true) × (own ≡ 0)) ⊎ ((eqb own 0 ≡ false) × (own ≢ 0))
     → ((eqb others 0 ≡ true) × (others ≡ 0)) ⊎ ((eqb others 0 ≡ false) × (others ≢ 0))
     → ((leb (own + others) most ≡ true) × (own + others ≤ most))
     ⊎ ((leb (own + others) most ≡ false) × (most < own + others)) → AreWithin most slots
-fitting_by most slots before place old slot own others own_is others_are found is at fits within
+fitting_by most slots before place old link own others own_is others_are found is at fits within
     (inl none) b c =
-    let nothing : large_at (Some slot) ≤ large_at old = omega (arith, own_is, none.1) in
-    subst (λ (xs : List (Option Slot)). AreWithin most xs) (sym is) (within_set most before place
-    old (Some slot) found nothing within)
-fitting_by most slots before place old slot own others own_is others_are found is at fits within
+    let nothing : large_at (Some link) ≤ large_at old = omega (arith, own_is, none.1) in
+    subst (λ (xs : List (Option LinkValue)). AreWithin most xs) (sym is) (within_set most before
+    place old (Some link) found nothing within)
+fitting_by most slots before place old link own others own_is others_are found is at fits within
     (inr some) (inl none) c =
-    let part = part_of_total slots place (Some slot) at in
-    inr (place, Some slot, at, omega (arith, own_is, others_are, none.1, part))
-fitting_by most slots before place old slot own others own_is others_are found is at fits within
+    let part = part_of_total slots place (Some link) at in
+    inr (place, Some link, at, omega (arith, own_is, others_are, none.1, part))
+fitting_by most slots before place old link own others own_is others_are found is at fits within
     (inr some) (inr more) (inl few) =
-    let part = part_of_total slots place (Some slot) at in
+    let part = part_of_total slots place (Some link) at in
     inl (omega (arith, own_is, others_are, few.1, part))
-fitting_by most slots before place old slot own others own_is others_are found is at fits within
+fitting_by most slots before place old link own others own_is others_are found is at fits within
     (inr some) (inr more) (inr many) =
     let no : false ≡ true = rw (some.0, more.0, many.0) at fits in absurd (cc no)
 
 -- what a connection may hold keeps the bound
-pub fitting_within : (most : ℕ) (slots before : List (Option Slot)) (place : ℕ) (old : Option Slot)
-    (slot : Slot) → slice_get before place ≡ Some old → slots ≡ slice_set before place (Some slot)
-    → slice_get slots place ≡ Some (Some slot)
-    → may_hold most (large_at (Some slot)) (large_total slots - large_at (Some slot)) ≡ true
+pub fitting_within : (most : ℕ) (slots before : List (Option LinkValue)) (place : ℕ) (old :
+    Option LinkValue) (link : LinkValue) → slice_get before place ≡ Some old
+    → slots ≡ slice_set before place (Some link)
+    → slice_get slots place ≡ Some (Some link)
+    → may_hold most (large_at (Some link)) (large_total slots - large_at (Some link)) ≡ true
     → AreWithin most before → AreWithin most slots
-fitting_within most slots before place old slot found is at fits within =
-    let own : ℕ = large_at (Some slot) in
+fitting_within most slots before place old link found is at fits within =
+    let own : ℕ = large_at (Some link) in
     let others : ℕ = large_total slots - own in
-    fitting_by most slots before place old slot own others refl refl found is at fits within
+    fitting_by most slots before place old link own others refl refl found is at fits within
     (eqb_tells own 0) (eqb_tells others 0) (leb_tells (own + others) most)
 
 -- ---- the sum that a hub keeps
 
 -- what the call of a place's part answers, where the place has this connection
 abbrev pub IsPartAt : HubValue → ℕ → ℕ → Type 0
-IsPartAt hub place part = (slot : Slot) → IsAt hub place slot
-    → part ≡ large_part (load_of slot.link)
+IsPartAt hub place part = (link : LinkValue) → IsAt hub place link
+    → part ≡ large_part (load_of link)
 
 -- the others have the rest
 pub others_of : (sum part place : ℕ) (hub : HubValue) → sum ≡ large_total hub.slots
-    → IsPartAt hub place part → (slot : Slot) → IsAt hub place slot
-    → large_total hub.slots ≡ (sum - part) + large_at (Some slot)
-others_of sum part place hub sum_is part_is slot at =
-    let within = part_of_total hub.slots place (Some slot) at in
-    let own = part_is slot at in
+    → IsPartAt hub place part → (link : LinkValue) → IsAt hub place link
+    → large_total hub.slots ≡ (sum - part) + large_at (Some link)
+others_of sum part place hub sum_is part_is link at =
+    let within = part_of_total hub.slots place (Some link) at in
+    let own = part_is link at in
     omega (arith, sum_is, own, within)
 
 pub opened_sum : (sum place now : ℕ) (old new : HubValue) → sum ≡ large_total old.slots
     → OpensAt place old now new → sum ≡ large_total new.slots
 opened_sum sum place now old new sum_is opens =
-    let slots_are : new.slots ≡ slice_set old.slots place (Some (record {
-      serial = old.opened;
-      link = new_link now;
-    })) = ap (λ (h : HubValue). h.slots) opens.after_is in
-    let changed = total_set old.slots place None (Some (record {
-      serial = old.opened;
-      link = new_link now;
-    })) opens.was_free in
+    let slots_are : new.slots ≡ slice_set old.slots place (Some (new_link old.opened now)) =
+    ap (λ (h : HubValue). h.slots) opens.after_is in
+    let changed = total_set old.slots place None (Some (new_link old.opened now)) opens.was_free in
     let same = ap large_total slots_are in
     omega (arith, sum_is, changed, same)
 
@@ -224,62 +220,58 @@ pub ended_sum : (sum part place : ℕ) (old new : HubValue) → sum ≡ large_to
 ended_sum sum part place old new sum_is part_is ends =
     let slots_are : new.slots ≡ slice_set old.slots place None =
     ap (λ (h : HubValue). h.slots) ends.after_is in
-    let changed = total_set old.slots place (Some ends.slot) None ends.found in
+    let changed = total_set old.slots place (Some ends.link) None ends.found in
     let same = ap large_total slots_are in
-    let own = part_is ends.slot ends.found in
+    let own = part_is ends.link ends.found in
     omega (arith, sum_is, changed, same, own)
 
--- a place whose link was changed still has its connection
-pub open_changed : (place serial : ℕ) (slot : Slot) (link : LinkValue) (old new : HubValue)
-    → IsAt old place slot → new ≡ with_link old place serial link → IsOpenAt new place
-open_changed place serial slot link old new at new_is =
-    let last : Slot = record { serial = serial; link = link } in (
-      last,
-      ap (λ (h : HubValue). slice_get h.slots place) new_is
-          ∙ set_same old.slots place (Some last) (Some slot) at,
-    )
+-- a place whose connection was changed still has one
+pub open_changed : (place : ℕ) (link next : LinkValue) (old new : HubValue) → IsAt old place link
+    → new ≡ with_link old place next → IsOpenAt new place
+open_changed place link next old new at new_is = (
+  next,
+  ap (λ (h : HubValue). slice_get h.slots place) new_is
+      ∙ set_same old.slots place (Some next) (Some link) at,
+)
 
--- a place whose link was changed
-pub changed_sum : (sum part next place serial : ℕ) (slot : Slot) (link : LinkValue) (old new :
-    HubValue) → sum ≡ large_total old.slots → IsAt old place slot
-    → new ≡ with_link old place serial link
-    → IsPartAt old place part → IsPartAt new place next
-    → (sum - part) + next ≡ large_total new.slots
-changed_sum sum part next place serial slot link old new sum_is at new_is part_is next_is =
-    let last : Slot = record { serial = serial; link = link } in
-    let slots_are : new.slots ≡ slice_set old.slots place (Some last) =
+-- a place whose connection was changed
+pub changed_sum : (sum part own place : ℕ) (link next : LinkValue) (old new : HubValue)
+    → sum ≡ large_total old.slots → IsAt old place link → new ≡ with_link old place next
+    → IsPartAt old place part → IsPartAt new place own → (sum - part) + own ≡ large_total new.slots
+changed_sum sum part own place link next old new sum_is at new_is part_is own_is =
+    let slots_are : new.slots ≡ slice_set old.slots place (Some next) =
     ap (λ (h : HubValue). h.slots) new_is in
-    let there : slice_get new.slots place ≡ Some (Some last) =
-    ap (λ (xs : List (Option Slot)). slice_get xs place) slots_are
-    ∙ set_same old.slots place (Some last) (Some slot) at in
-    let changed = total_set old.slots place (Some slot) (Some last) at in
+    let there : slice_get new.slots place ≡ Some (Some next) =
+    ap (λ (xs : List (Option LinkValue)). slice_get xs place) slots_are
+    ∙ set_same old.slots place (Some next) (Some link) at in
+    let changed = total_set old.slots place (Some link) (Some next) at in
     let same = ap large_total slots_are in
-    let own = part_is slot at in
-    let own_next = next_is last there in
-    let within = part_of_total old.slots place (Some slot) at in
-    omega (arith, sum_is, changed, same, own, own_next, within)
+    let before = part_is link at in
+    let after = own_is next there in
+    let within = part_of_total old.slots place (Some link) at in
+    omega (arith, sum_is, changed, same, before, after, within)
 
 pub sent_sum : (sum part next place count now : ℕ) (old new : HubValue)
     → sum ≡ large_total old.slots → IsPartAt old place part → SendsAt place old count now new
     → IsPartAt new place next
     → (sum - part) + next ≡ large_total new.slots
 sent_sum sum part next place count now old new sum_is part_is sends next_is =
-    changed_sum sum part next place sends.slot.serial sends.slot (link_after_sent sends.slot.link
-    count now) old new sum_is sends.found sends.after_is part_is next_is
+    changed_sum sum part next place sends.link (link_after_sent sends.link count now) old new sum_is
+    sends.found sends.after_is part_is next_is
 
 module _ {State : Type 0} (does : HandlerRelation State) (fault_reply : FaultReplies) where
   pub open_received : (most place : ℕ) (before : HubValue) (old : State) (piece : List ℕ) (now : ℕ)
       (new : State) (after : HubValue) → ReceivesWithin does fault_reply most place before old piece
       now new after
       → IsOpenAt after place
-  open_received most place before old piece now new after (inl fits) = (fits.slot, fits.at)
+  open_received most place before old piece now new after (inl fits) = (fits.link, fits.at)
   open_received most place before old piece now new after (inr (inl failed)) =
-      open_changed place failed.slot.serial failed.slot (link_after_failure failed.slot.link) before
-      after failed.found failed.after_is
+      open_changed place failed.link (link_after_failure failed.link) before after failed.found
+      failed.after_is
   open_received most place before old piece now new after (inr (inr large)) =
       let r = large.refused.refused in
-      open_changed place r.slot.serial r.slot (link_after_refusal large.reply now)
-      large.refused.full after r.found r.after_is
+      open_changed place r.link (link_after_refusal r.link large.reply now) large.refused.full after
+      r.found r.after_is
 
   pub received_sum : (sum part next most place : ℕ) (before : HubValue) (old : State) (piece :
       List ℕ) (now : ℕ) (new : State) (after : HubValue) → sum ≡ large_total before.slots
@@ -288,43 +280,38 @@ module _ {State : Type 0} (does : HandlerRelation State) (fault_reply : FaultRep
   received_sum sum part next most place before old piece now new after sum_is part_is (inl fits)
       next_is =
       let r = fits.received in
-      changed_sum sum part next place r.slot.serial r.slot r.next before after sum_is r.found
-      r.after_is part_is next_is
+      changed_sum sum part next place r.link r.next before after sum_is r.found r.after_is part_is
+      next_is
   received_sum sum part next most place before old piece now new after sum_is part_is
       (inr (inl failed)) next_is =
-      changed_sum sum part next place failed.slot.serial failed.slot
-      (link_after_failure failed.slot.link) before after sum_is failed.found failed.after_is
-      part_is next_is
+      changed_sum sum part next place failed.link (link_after_failure failed.link) before after
+      sum_is failed.found failed.after_is part_is next_is
   received_sum sum part next most place before old piece now new after sum_is part_is
       (inr (inr large)) next_is =
-      let r = large.refused in
-      let last : LinkValue = link_after_refusal large.reply now in
-      let is : after ≡ with_link before place r.received.slot.serial last =
-      refused_link before r.full after place r.received.slot r.refused.slot r.received.next last
-      r.received.found r.received.after_is r.refused.found r.refused.after_is in
-      changed_sum sum part next place r.received.slot.serial r.received.slot last before after
-      sum_is r.received.found is part_is next_is
+      let r = large.refused.received in
+      changed_sum sum part next place r.link (link_after_refusal r.link large.reply now) before
+      after sum_is r.found (refused_piece does fault_reply place before old piece large.reply now
+      new after large.refused) part_is next_is
 
 -- ---- the sum stays small
 
 -- a place that comes to hold no more
-pub total_less : (most place serial : ℕ) (slot : Slot) (link : LinkValue) (old new : HubValue)
-    → IsAt old place slot → new ≡ with_link old place serial link
-    → large_part (load_of link) ≤ large_part (load_of slot.link) → large_total old.slots ≤ most
+pub total_less : (most place : ℕ) (link next : LinkValue) (old new : HubValue)
+    → IsAt old place link → new ≡ with_link old place next
+    → large_part (load_of next) ≤ large_part (load_of link) → large_total old.slots ≤ most
     → large_total new.slots ≤ most
-total_less most place serial slot link old new at new_is less few =
-    let last : Slot = record { serial = serial; link = link } in
-    let slots_are : new.slots ≡ slice_set old.slots place (Some last) =
+total_less most place link next old new at new_is less few =
+    let slots_are : new.slots ≡ slice_set old.slots place (Some next) =
     ap (λ (h : HubValue). h.slots) new_is in
-    let changed = total_set old.slots place (Some slot) (Some last) at in
+    let changed = total_set old.slots place (Some link) (Some next) at in
     let same = ap large_total slots_are in
     omega (arith, changed, same, less, few)
 
 pub sent_total : (most place count now : ℕ) (old new : HubValue) → SendsAt place old count now new
     → large_total old.slots ≤ most → large_total new.slots ≤ most
 sent_total most place count now old new sends few =
-    total_less most place sends.slot.serial sends.slot (link_after_sent sends.slot.link count now)
-    old new sends.found sends.after_is (sent_holds_less sends.slot.link count now) few
+    total_less most place sends.link (link_after_sent sends.link count now) old new sends.found
+    sends.after_is (sent_holds_less sends.link count now) few
 
 held_by : (most own others : ℕ) → may_hold most own others ≡ true
     → ((eqb own 0 ≡ true) × (own ≡ 0)) ⊎ ((eqb own 0 ≡ false) × (own ≢ 0))
@@ -362,56 +349,51 @@ module _ {State : Type 0} (does : HandlerRelation State) (fault_reply : FaultRep
   received_total bound next most place before old piece now new after few small held (inl fits)
       next_is =
       let r = fits.received in
-      let last : Slot = record { serial = r.slot.serial; link = r.next } in
-      let slots_are : after.slots ≡ slice_set before.slots place (Some last) =
+      let slots_are : after.slots ≡ slice_set before.slots place (Some r.next) =
       ap (λ (h : HubValue). h.slots) r.after_is in
-      let there : slice_get after.slots place ≡ Some (Some last) =
-      ap (λ (xs : List (Option Slot)). slice_get xs place) slots_are
-      ∙ set_same before.slots place (Some last) (Some r.slot) r.found in
-      let changed = total_set before.slots place (Some r.slot) (Some last) r.found in
+      let there : slice_get after.slots place ≡ Some (Some r.next) =
+      ap (λ (xs : List (Option LinkValue)). slice_get xs place) slots_are
+      ∙ set_same before.slots place (Some r.next) (Some r.link) r.found in
+      let changed = total_set before.slots place (Some r.link) (Some r.next) r.found in
       let same = ap large_total slots_are in
-      let own_last = next_is last there in
-      let own = next_is fits.slot fits.at in
-      let within = part_of_total after.slots place (Some fits.slot) fits.at in
+      let own_last = next_is r.next there in
+      let own = next_is fits.link fits.at in
+      let within = part_of_total after.slots place (Some fits.link) fits.at in
       let total : ℕ = large_total after.slots in
       let cases : (next ≡ 0) ⊎ ((total - next ≡ 0) ⊎ (next + (total - next) ≤ most)) =
       held_cases most next (total - next) (subst (λ n. may_hold most n (total - n) ≡ true) (sym own)
       fits.fits) in
-      fits_total bound most next (large_at (Some r.slot)) total (large_total before.slots) few small
+      fits_total bound most next (large_at (Some r.link)) total (large_total before.slots) few small
       held (omega (arith, own, within)) (omega (arith, changed, same, own_last)) cases
   received_total bound next most place before old piece now new after few small held
       (inr (inl failed)) next_is =
-      total_less bound place failed.slot.serial failed.slot (link_after_failure failed.slot.link)
-      before after failed.found failed.after_is (failed_holds_less failed.slot.link) few
+      total_less bound place failed.link (link_after_failure failed.link) before after failed.found
+      failed.after_is (failed_holds_less failed.link) few
   received_total bound next most place before old piece now new after few small held
       (inr (inr large)) next_is =
-      let r = large.refused in
-      let last : LinkValue = link_after_refusal large.reply now in
-      let is : after ≡ with_link before place r.received.slot.serial last =
-      refused_link before r.full after place r.received.slot r.refused.slot r.received.next last
-      r.received.found r.received.after_is r.refused.found r.refused.after_is in
-      let none = refused_holds_none large.reply now large.small in
-      total_less bound place r.received.slot.serial r.received.slot last before after
-      r.received.found is (omega (arith, none)) few
+      let r = large.refused.received in
+      let none = refused_holds_none r.link large.reply now large.small in
+      total_less bound place r.link (link_after_refusal r.link large.reply now) before after r.found
+      (refused_piece does fault_reply place before old piece large.reply now new after
+      large.refused) (omega (arith, none)) few
 
 -- ---- a piece that was fed, and what was settled then
 
 -- the others hold what they held
-pub others_after : (others place serial : ℕ) (was : Slot) (link : LinkValue) (before full :
-    HubValue) → IsAt before place was → full ≡ with_link before place serial link
-    → large_total before.slots ≡ others + large_at (Some was) → (slot : Slot) → IsAt full place slot
-    → large_total full.slots ≡ others + large_at (Some slot)
-others_after others place serial was link before full found full_is all slot at =
-    let last : Slot = record { serial = serial; link = link } in
-    let slots_are : full.slots ≡ slice_set before.slots place (Some last) =
+pub others_after : (others place : ℕ) (was next : LinkValue) (before full : HubValue)
+    → IsAt before place was → full ≡ with_link before place next
+    → large_total before.slots ≡ others + large_at (Some was) → (link : LinkValue)
+    → IsAt full place link → large_total full.slots ≡ others + large_at (Some link)
+others_after others place was next before full found full_is all link at =
+    let slots_are : full.slots ≡ slice_set before.slots place (Some next) =
     ap (λ (h : HubValue). h.slots) full_is in
-    let there : slice_get full.slots place ≡ Some (Some last) =
-    ap (λ (xs : List (Option Slot)). slice_get xs place) slots_are
-    ∙ set_same before.slots place (Some last) (Some was) found in
-    let same : slot ≡ last = cc (at, there) in
-    let changed = total_set before.slots place (Some was) (Some last) found in
+    let there : slice_get full.slots place ≡ Some (Some next) =
+    ap (λ (xs : List (Option LinkValue)). slice_get xs place) slots_are
+    ∙ set_same before.slots place (Some next) (Some was) found in
+    let same : link ≡ next = cc (at, there) in
+    let changed = total_set before.slots place (Some was) (Some next) found in
     let total = ap large_total slots_are in
-    let own = ap (λ (s : Slot). large_at (Some s)) same in
+    let own = ap (λ (l : LinkValue). large_at (Some l)) same in
     omega (arith, changed, total, own, all)
 
 module _ {State : Type 0} (does : HandlerRelation State) (fault_reply : FaultReplies) where
@@ -423,9 +405,9 @@ module _ {State : Type 0} (does : HandlerRelation State) (fault_reply : FaultRep
   settled most place before old piece now new full after received (inl kept) = inl (record {
     received = subst (λ (h : HubValue). ReceivesAt does fault_reply place before old piece now new
         h) (sym kept.after_is) received;
-    slot = kept.slot;
-    at = subst (λ (h : HubValue). IsAt h place kept.slot) (sym kept.after_is) kept.at;
-    fits = subst (λ (h : HubValue). fits_at most h kept.slot ≡ true) (sym kept.after_is) kept.fits;
+    link = kept.link;
+    at = subst (λ (h : HubValue). IsAt h place kept.link) (sym kept.after_is) kept.at;
+    fits = subst (λ (h : HubValue). fits_at most h kept.link ≡ true) (sym kept.after_is) kept.fits;
   })
   settled most place before old piece now new full after received (inr large) = inr (inr (record {
     reply = large.reply;
@@ -435,7 +417,7 @@ module _ {State : Type 0} (does : HandlerRelation State) (fault_reply : FaultRep
       reply_is = large.reply_is;
       refused = large.refused;
     };
-    slot = large.slot;
+    link = large.link;
     at = large.at;
     too_large = large.too_large;
     small = large.small;

@@ -45,7 +45,7 @@ module _ {S : Type 0} (does : HandlerRelation S) (fault_reply : FaultReplies) wh
     pub found : slice_get before serial ≡ Some link
     pub feeds_in_part : FeedsPieceInPart does fault_reply link.session old piece new
     pub none_pending : link.pending ≡ []
-    pub after_is : after ≡ slice_set before serial (link_after_refusal reply now)
+    pub after_is : after ≡ slice_set before serial (link_after_refusal link reply now)
 
 pub record SendsBySerial (serial : ℕ) (before : List LinkValue) (count now : ℕ) (after :
     List LinkValue) : Type 0 where
@@ -58,7 +58,7 @@ module _ {S : Type 0} (does : HandlerRelation S) (fault_reply : FaultReplies) wh
   -- the effect of one step on the links of all connections; an ended connection keeps its link
   abbrev pub DoesLinkStep : List LinkValue → S → HubStep → S → List LinkValue → Type 0
   DoesLinkStep before old (Opens now) new after =
-      (old ≡ new) × (after ≡ before ++ new_link now ∷ [])
+      (old ≡ new) × (after ≡ before ++ new_link (length before) now ∷ [])
   DoesLinkStep before old (Receives serial piece replies now) new after =
       (received : ReceivesBySerial does fault_reply serial before old piece now new after)
       × (received.receives.replies ≡ replies)
@@ -77,19 +77,19 @@ module _ {S : Type 0} (does : HandlerRelation S) (fault_reply : FaultReplies) wh
       (between : List LinkValue) × (middle : S) × DoesLinkStep before old step middle between
       × LinkRuns between middle steps new after
 
-new_session : (links : List LinkValue) (now n : ℕ)
-    → session_of (slice_get (links ++ new_link now ∷ []) n) ≡ session_of (slice_get links n)
-new_session [] now zero = refl
-new_session [] now (suc n) = refl
-new_session (x ∷ links) now zero = refl
-new_session (x ∷ links) now (suc n) = new_session links now n
+new_session : (links : List LinkValue) (serial now n : ℕ)
+    → session_of (slice_get (links ++ new_link serial now ∷ []) n) ≡ session_of (slice_get links n)
+new_session [] serial now zero = refl
+new_session [] serial now (suc n) = refl
+new_session (x ∷ links) serial now zero = refl
+new_session (x ∷ links) serial now (suc n) = new_session links serial now n
 
-new_pending : (links : List LinkValue) (now n : ℕ)
-    → pending_of (slice_get (links ++ new_link now ∷ []) n) ≡ pending_of (slice_get links n)
-new_pending [] now zero = refl
-new_pending [] now (suc n) = refl
-new_pending (x ∷ links) now zero = refl
-new_pending (x ∷ links) now (suc n) = new_pending links now n
+new_pending : (links : List LinkValue) (serial now n : ℕ)
+    → pending_of (slice_get (links ++ new_link serial now ∷ []) n) ≡ pending_of (slice_get links n)
+new_pending [] serial now zero = refl
+new_pending [] serial now (suc n) = refl
+new_pending (x ∷ links) serial now zero = refl
+new_pending (x ∷ links) serial now (suc n) = new_pending links serial now n
 
 cond_same : {X : Type 0} (b : Bool) (x y z : X) → y ≡ z → cond b x y ≡ cond b x z
 cond_same true x y z e = refl
@@ -123,7 +123,8 @@ module _ {S : Type 0} (does : HandlerRelation S) (fault_reply : FaultReplies) wh
       (sessions_of after)) (sym same)
       (fed_from (pieces_in steps) (sessions_of between) (sessions_of before) (sessions_of after)
       middle v
-      (λ n. sym (ap (λ links. sessions_of links n) grown ∙ new_session before now n)) rest)
+      (λ n. sym (ap (λ links. sessions_of links n) grown
+      ∙ new_session before (length before) now n)) rest)
   links_fed (Receives place piece replies now ∷ steps) before after w v (
     between,
     middle,
@@ -178,8 +179,8 @@ module _ {S : Type 0} (does : HandlerRelation S) (fault_reply : FaultReplies) wh
         fed_from (pieces_in steps) (sessions_of between) (with_session (sessions_of before) place
             None) (sessions_of after) middle v
             (λ n. sym (ap (λ links. sessions_of links n) refused.after_is
-            ∙ shown session_of before place n (link_after_refusal reply now) refused.link
-            (place == n) refl refused.found)) rest,
+            ∙ shown session_of before place n (link_after_refusal refused.link reply now)
+            refused.link (place == n) refl refused.found)) rest,
       )
   links_fed (Sends place octets now ∷ steps) before after w v (
     between,
@@ -256,7 +257,7 @@ module _ {S : Type 0} (does : HandlerRelation S) (fault_reply : FaultReplies) wh
   ) closed =
       closed_gives_none connection steps between after middle v runs
       (ap (λ links. session_of (slice_get links connection)) grown
-      ∙ new_session before now connection ∙ closed)
+      ∙ new_session before (length before) now connection ∙ closed)
   closed_gives_none connection (Receives place piece replies now ∷ steps) before after w v (
     between,
     middle,
@@ -314,8 +315,8 @@ module _ {S : Type 0} (does : HandlerRelation S) (fault_reply : FaultReplies) wh
       no_replies (place == connection) piece (pieces_of connection (pieces_in steps))
       ∙ closed_gives_none connection steps between after middle v runs
       (ap (λ links. session_of (slice_get links connection)) refused.after_is
-      ∙ shown session_of before place connection (link_after_refusal reply now) refused.link
-      (place == connection) refl refused.found
+      ∙ shown session_of before place connection (link_after_refusal refused.link reply now)
+      refused.link (place == connection) refl refused.found
       ∙ none_either (place == connection) (session_of (slice_get before connection)) closed)
   closed_gives_none connection (Sends place octets now ∷ steps) before after w v (
     between,
@@ -357,7 +358,7 @@ module _ {S : Type 0} (does : HandlerRelation S) (fault_reply : FaultReplies) wh
   balance connection (Opens now ∷ steps) before after w v (between, middle, (same, grown), runs) =
       ap (λ t. t ++ (replies_to connection (pieces_in steps) ++ refused_to connection steps))
       (sym (ap (λ links. pending_of (slice_get links connection)) grown
-      ∙ new_pending before now connection))
+      ∙ new_pending before (length before) now connection))
       ∙ balance connection steps between after middle v runs
   balance connection (Receives place piece replies now ∷ steps) before after w v (
     between,
@@ -404,8 +405,8 @@ module _ {S : Type 0} (does : HandlerRelation S) (fault_reply : FaultReplies) wh
       let pending_now : pending_of (slice_get between connection) ≡ cond (place == connection) reply
       pending =
       ap (λ links. pending_of (slice_get links connection)) refused.after_is
-      ∙ shown pending_of before place connection (link_after_refusal reply now) refused.link
-      (place == connection) refl refused.found in
+      ∙ shown pending_of before place connection (link_after_refusal refused.link reply now)
+      refused.link (place == connection) refl refused.found in
       ap (λ t. pending ++ (t ++ cond (place == connection) (reply ++ more) more))
       (no_replies (place == connection) piece (pieces_of connection (pieces_in steps)))
       ∙ refused_on (place == connection) pending (replies_to connection (pieces_in steps)) reply
@@ -414,8 +415,8 @@ module _ {S : Type 0} (does : HandlerRelation S) (fault_reply : FaultReplies) wh
       ∙ ap pending_of refused.found ∙ refused.none_pending)
       (λ e. closed_gives_none connection steps between after middle v runs
       (ap (λ links. session_of (slice_get links connection)) refused.after_is
-      ∙ shown session_of before place connection (link_after_refusal reply now) refused.link true e
-      refused.found))
+      ∙ shown session_of before place connection (link_after_refusal refused.link reply now)
+      refused.link true e refused.found))
       ∙ ap (λ t. t ++ (replies_to connection (pieces_in steps) ++ more)) (sym pending_now)
       ∙ balance connection steps between after middle v runs
   balance connection (Sends place octets now ∷ steps) before after w v (

@@ -6,7 +6,7 @@ use Rattle.http_requests.specs.declared.head_fault.HeadFault.TheVariants.{Busy}
 use Rattle.http_hub.specs.Holdings.{large_at, large_total, most_small}
 use Rattle.http_hub.specs.HubRuns.{RefusesPieceAt}
 use Rattle.http_hub.specs.Hubs.{FailsAt, HubValue, IsAt, ReceivesAt, RefusesAt}
-use Rattle.http_hub.specs.declared.slot.Slot.{Slot}
+use Rattle.http_hub.specs.Links.{LinkValue}
 
 -- A connection may hold this many octets beside the others' if it is small, if it is the only large
 -- one, or if all large ones together are within the bound.
@@ -14,18 +14,18 @@ abbrev pub may_hold : ℕ → ℕ → ℕ → Bool
 may_hold most own others = nat_eq own 0 || nat_eq others 0 || nat_le (own + others) most
 
 -- the connection at the place may hold what it holds
-abbrev pub fits_at : ℕ → HubValue → Slot → Bool
-fits_at most hub slot =
-    may_hold most (large_at (Some slot)) (large_total hub.slots - large_at (Some slot))
+abbrev pub fits_at : ℕ → HubValue → LinkValue → Bool
+fits_at most hub link =
+    may_hold most (large_at (Some link)) (large_total hub.slots - large_at (Some link))
 
 -- what the connection at the place held was dropped, since it may not hold it; the reply to a busy
 -- server's client is pending, or none
 pub record RefusesLargeAt
     (fault_reply : FaultReplies) (most place : ℕ) (full : HubValue) (now : ℕ) (after : HubValue)
     : Type 0 where
-  pub slot : Slot
-  pub at : IsAt full place slot
-  pub too_large : fits_at most full slot ≡ false
+  pub link : LinkValue
+  pub at : IsAt full place link
+  pub too_large : fits_at most full link ≡ false
   pub reply : List ℕ
   pub reply_is : (reply ≡ fault_reply Busy) ⊎ (reply ≡ [])
   pub small : length reply ≤ most_small
@@ -33,9 +33,9 @@ pub record RefusesLargeAt
 
 -- the connection at the place may hold what it holds, and nothing changed
 pub record FitsAt (most place : ℕ) (full after : HubValue) : Type 0 where
-  pub slot : Slot
-  pub at : IsAt full place slot
-  pub fits : fits_at most full slot ≡ true
+  pub link : LinkValue
+  pub at : IsAt full place link
+  pub fits : fits_at most full link ≡ true
   pub after_is : after ≡ full
 
 -- it may hold what it holds, or that was dropped
@@ -49,9 +49,9 @@ module _ {State : Type 0} (does : HandlerRelation State) (fault_reply : FaultRep
       (most place : ℕ) (before : HubValue) (old : State) (piece : List ℕ) (now : ℕ)
       (new : State) (after : HubValue) : Type 0 where
     pub received : ReceivesAt does fault_reply place before old piece now new after
-    pub slot : Slot
-    pub at : IsAt after place slot
-    pub fits : fits_at most after slot ≡ true
+    pub link : LinkValue
+    pub at : IsAt after place link
+    pub fits : fits_at most after link ≡ true
 
   -- A piece was fed, and the connection may not hold what it then holds. So it is dropped, and the
   -- reply to a busy server's client is pending, or none.
@@ -60,9 +60,9 @@ module _ {State : Type 0} (does : HandlerRelation State) (fault_reply : FaultRep
       (new : State) (after : HubValue) : Type 0 where
     pub reply : List ℕ
     pub refused : RefusesPieceAt does fault_reply place before old piece reply now new after
-    pub slot : Slot
-    pub at : IsAt refused.full place slot
-    pub too_large : fits_at most refused.full slot ≡ false
+    pub link : LinkValue
+    pub at : IsAt refused.full place link
+    pub too_large : fits_at most refused.full link ≡ false
     pub small : length reply ≤ most_small
 
   -- the result of feeding a piece

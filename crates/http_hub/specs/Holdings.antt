@@ -4,7 +4,6 @@
 use Rattle.std.specs.Prelude.{◌≡◌, ◌≤◌, ◌⊎◌, ◌+◌, ℕ, zero, suc, List, Option, Some, None, length}
 use Rattle.std.specs.Prelude.{nat_le, slice_get, sum_by, if◌then◌else◌}
 use Rattle.http_hub.specs.Links.{LinkValue}
-use Rattle.http_hub.specs.declared.slot.Slot.{Slot}
 
 -- The octets of the incomplete request that a session holds. Once its head is complete, all octets
 -- of the request count, since they may come.
@@ -26,12 +25,12 @@ abbrev pub large_part : ℕ → ℕ
 large_part load = if nat_le load most_small then 0 else load
 
 -- the octets of the connection at a place, if it is a large one
-abbrev pub large_at : Option Slot → ℕ
+abbrev pub large_at : Option LinkValue → ℕ
 large_at None = 0
-large_at (Some slot) = large_part (load_of slot.link)
+large_at (Some link) = large_part (load_of link)
 
 -- the octets of all large connections
-abbrev pub large_total : List (Option Slot) → ℕ
+abbrev pub large_total : List (Option LinkValue) → ℕ
 large_total slots = sum_by large_at slots
 
 -- more octets than one connection can have, whose request and replies have fewer than 2^64 each
@@ -39,7 +38,7 @@ abbrev pub most_load : ℕ
 most_load = 36893488147419103232
 
 -- all large connections together have at most this many octets, or there is only one of them
-abbrev pub AreWithin : ℕ → List (Option Slot) → Type 0
+abbrev pub AreWithin : ℕ → List (Option LinkValue) → Type 0
 AreWithin most slots = (large_total slots ≤ most)
-    ⊎ ((place : ℕ) × (slot : Option Slot) × (slice_get slots place ≡ Some slot)
-    × (large_total slots ≡ large_at slot))
+    ⊎ ((place : ℕ) × (link : Option LinkValue) × (slice_get slots place ≡ Some link)
+    × (large_total slots ≡ large_at link))

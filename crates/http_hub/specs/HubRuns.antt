@@ -7,7 +7,6 @@ use Rattle.http_hub.specs.FedPieces.{AreOneRun, FedPiece, Sessions, replies_to}
 use Rattle.http_hub.specs.Hubs.{EndsAt, FailsAt, HubValue, IsAt, OpensAt, ReceivesAt, RefusesAt}
 use Rattle.http_hub.specs.Hubs.{SendsAt, new_hub, open_count}
 use Rattle.http_hub.specs.Links.{LinkValue}
-use Rattle.http_hub.specs.declared.slot.Slot.{Slot}
 
 -- One operation of a hub. A connection is named by its serial number: how many were opened before
 -- it.
@@ -80,11 +79,11 @@ sessions_of links = λ serial. session_of (slice_get links serial)
 -- connection is at its place, and no two places have the same connection
 pub record AreAllLinks (hub : HubValue) (links : List LinkValue) : Type 0 where
   pub all : length links ≡ hub.opened
-  pub are_open : (place : ℕ) (slot : Slot) → IsAt hub place slot
-      → slice_get links slot.serial ≡ Some slot.link
-  pub are_apart : (place other : ℕ) (slot another : Slot)
-      → IsAt hub place slot → IsAt hub other another
-      → slot.serial ≡ another.serial → place ≡ other
+  pub are_open : (place : ℕ) (link : LinkValue) → IsAt hub place link
+      → slice_get links link.serial ≡ Some link
+  pub are_apart : (place other : ℕ) (link another : LinkValue)
+      → IsAt hub place link → IsAt hub other another
+      → link.serial ≡ another.serial → place ≡ other
 
 module _ {State : Type 0} (does : HandlerRelation State) (fault_reply : FaultReplies) where
   -- The connection at this place received a piece, and what it came to hold was dropped. This reply
@@ -103,19 +102,19 @@ module _ {State : Type 0} (does : HandlerRelation State) (fault_reply : FaultRep
       (old ≡ new) × (place : ℕ) × OpensAt place before now after
   DoesStep before old (Receives serial piece replies now) new after =
       (place : ℕ) × (received : ReceivesAt does fault_reply place before old piece now new after)
-      × (received.slot.serial ≡ serial) × (received.receives.replies ≡ replies)
+      × (received.link.serial ≡ serial) × (received.receives.replies ≡ replies)
   DoesStep before old (Fails serial piece) new after =
       (place : ℕ) × (failed : FailsAt does fault_reply place before old piece new after)
-      × (failed.slot.serial ≡ serial)
+      × (failed.link.serial ≡ serial)
   DoesStep before old (Refuses serial piece reply now) new after =
       (place : ℕ) × (refused : RefusesPieceAt place before old piece reply now new after)
-      × (refused.received.slot.serial ≡ serial)
+      × (refused.received.link.serial ≡ serial)
   DoesStep before old (Sends serial octets now) new after =
       (old ≡ new) × (place : ℕ) × (sends : SendsAt place before (length octets) now after)
-      × (sends.slot.serial ≡ serial) × (octets ≡ take (length octets) sends.slot.link.pending)
+      × (sends.link.serial ≡ serial) × (octets ≡ take (length octets) sends.link.pending)
   DoesStep before old (Ends serial) new after =
       (old ≡ new) × (place : ℕ) × (ends : EndsAt place before after)
-      × (ends.slot.serial ≡ serial)
+      × (ends.link.serial ≡ serial)
 
   -- the effect of steps in turn
   unfoldable pub HubRuns : HubValue → State → List HubStep → State → HubValue → Type 0

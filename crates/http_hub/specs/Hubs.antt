@@ -7,17 +7,16 @@ use Rattle.http_requests.specs.HandlerRuns.{HandlerRelation, FaultReplies}
 use Rattle.http_requests.specs.SessionFeeding.{FeedsPieceInPart}
 use Rattle.http_hub.specs.Links.{LinkValue, ReceivesPiece, has_expired, link_after_failure}
 use Rattle.http_hub.specs.Links.{link_after_refusal, link_after_sent, new_link}
-use Rattle.http_hub.specs.declared.slot.Slot.{Slot}
 
 -- the places of a server, each with an open connection or none, and the number of connections that
 -- were opened so far
 pub record HubValue : Type 0 where
-  pub slots : List (Option Slot)
+  pub slots : List (Option LinkValue)
   pub opened : ℕ
 
 -- the place has this connection
-abbrev pub IsAt : HubValue → ℕ → Slot → Type 0
-IsAt hub place slot = slice_get hub.slots place ≡ Some (Some slot)
+abbrev pub IsAt : HubValue → ℕ → LinkValue → Type 0
+IsAt hub place link = slice_get hub.slots place ≡ Some (Some link)
 
 -- the place exists and has no connection
 abbrev pub IsFreeAt : HubValue → ℕ → Type 0
@@ -25,7 +24,7 @@ IsFreeAt hub place = slice_get hub.slots place ≡ Some None
 
 -- the place has some connection
 abbrev pub IsOpenAt : HubValue → ℕ → Type 0
-IsOpenAt hub place = (slot : Slot) × IsAt hub place slot
+IsOpenAt hub place = (link : LinkValue) × IsAt hub place link
 
 -- the number of open connections
 abbrev pub open_count : HubValue → ℕ
@@ -39,11 +38,10 @@ most_opened = 2 ^ 64 - 1
 abbrev pub is_full : HubValue → Bool
 is_full hub = nat_eq (open_count hub) (length hub.slots) || nat_eq hub.opened most_opened
 
--- the link of a place's connection, if it has one
-abbrev pub link_in : Option (Option Slot) → Option LinkValue
+-- the connection of a place, if there is the place and it has one
+abbrev pub link_in : Option (Option LinkValue) → Option LinkValue
 link_in None = None
-link_in (Some None) = None
-link_in (Some (Some slot)) = Some slot.link
+link_in (Some link) = link
 
 abbrev pub link_at : HubValue → ℕ → Option LinkValue
 link_at hub place = link_in (slice_get hub.slots place)
@@ -55,22 +53,20 @@ abbrev pub new_hub : ℕ → HubValue
 new_hub limit = record { slots = replicate limit None; opened = 0 }
 
 -- the hub with another connection, or none, at the place
-abbrev pub with_slot : HubValue → ℕ → Option Slot → HubValue
-with_slot hub place slot =
-    record { slots = slice_set hub.slots place slot; opened = hub.opened }
+abbrev pub with_slot : HubValue → ℕ → Option LinkValue → HubValue
+with_slot hub place link =
+    record { slots = slice_set hub.slots place link; opened = hub.opened }
 
--- the hub with this link at the place, of the connection with this serial number
-abbrev pub with_link : HubValue → ℕ → ℕ → LinkValue → HubValue
-with_link hub place serial link =
-    with_slot hub place (Some (record { serial = serial; link = link }))
+-- the hub with this connection at the place
+abbrev pub with_link : HubValue → ℕ → LinkValue → HubValue
+with_link hub place link = with_slot hub place (Some link)
 
 -- a connection was opened at a free place; its serial number is the number of connections before
 -- it, and its session is new; no other place changed
 pub record OpensAt (place : ℕ) (before : HubValue) (now : ℕ) (after : HubValue) : Type 0 where
   pub was_free : IsFreeAt before place
   pub after_is : after ≡ record {
-    slots = slice_set before.slots place
-        (Some (record { serial = before.opened; link = new_link now }));
+    slots = slice_set before.slots place (Some (new_link before.opened now));
     opened = suc before.opened;
   }
 
@@ -79,11 +75,11 @@ module _ {State : Type 0} (does : HandlerRelation State) (fault_reply : FaultRep
   pub record ReceivesAt
       (place : ℕ) (before : HubValue) (old : State) (piece : List ℕ) (now : ℕ)
       (new : State) (after : HubValue) : Type 0 where
-    pub slot : Slot
+    pub link : LinkValue
     pub next : LinkValue
-    pub found : IsAt before place slot
-    pub receives : ReceivesPiece does fault_reply slot.link old piece now new next
-    pub after_is : after ≡ with_link before place slot.serial next
+    pub found : IsAt before place link
+    pub receives : ReceivesPiece does fault_reply link old piece now new next
+    pub after_is : after ≡ with_link before place next
 
   -- out of memory: some requests at the front of the octets of the connection at this place were
   -- handled in turn, nothing else; their replies are lost, its session is closed, and no other
@@ -91,39 +87,39 @@ module _ {State : Type 0} (does : HandlerRelation State) (fault_reply : FaultRep
   pub record FailsAt
       (place : ℕ) (before : HubValue) (old : State) (piece : List ℕ)
       (new : State) (after : HubValue) : Type 0 where
-    pub slot : Slot
-    pub found : IsAt before place slot
-    pub feeds_in_part : FeedsPieceInPart does fault_reply slot.link.session old piece new
-    pub after_is : after ≡ with_link before place slot.serial (link_after_failure slot.link)
+    pub link : LinkValue
+    pub found : IsAt before place link
+    pub feeds_in_part : FeedsPieceInPart does fault_reply link.session old piece new
+    pub after_is : after ≡ with_link before place (link_after_failure link)
 
 -- what the connection at this place came to hold was dropped; no other place changed
 pub record RefusesAt (place : ℕ) (before : HubValue) (reply : List ℕ) (now : ℕ) (after : HubValue)
     : Type 0 where
-  pub slot : Slot
-  pub found : IsAt before place slot
-  pub after_is : after ≡ with_link before place slot.serial (link_after_refusal reply now)
+  pub link : LinkValue
+  pub found : IsAt before place link
+  pub after_is : after ≡ with_link before place (link_after_refusal link reply now)
 
 -- the first pending octets of the connection at this place were sent; no other place changed
 pub record SendsAt (place : ℕ) (before : HubValue) (count now : ℕ) (after : HubValue)
     : Type 0 where
-  pub slot : Slot
-  pub found : IsAt before place slot
-  pub count_fits : count ≤ length slot.link.pending
-  pub after_is : after ≡ with_link before place slot.serial (link_after_sent slot.link count now)
+  pub link : LinkValue
+  pub found : IsAt before place link
+  pub count_fits : count ≤ length link.pending
+  pub after_is : after ≡ with_link before place (link_after_sent link count now)
 
 -- the connection at this place was ended, and the place is free; no other place changed
 pub record EndsAt (place : ℕ) (before after : HubValue) : Type 0 where
-  pub slot : Slot
-  pub found : IsAt before place slot
+  pub link : LinkValue
+  pub found : IsAt before place link
   pub after_is : after ≡ with_slot before place None
 
 -- ---- expiry
 
 -- the connection, if there is one, has expired
-abbrev pub is_expired_slot : ℕ → ℕ → Option Slot → Bool
+abbrev pub is_expired_slot : ℕ → ℕ → Option LinkValue → Bool
 is_expired_slot now patience None = false
-is_expired_slot now patience (Some slot) = has_expired slot.link now patience
+is_expired_slot now patience (Some link) = has_expired link now patience
 
 -- some connection has expired
-abbrev pub any_expired : List (Option Slot) → ℕ → ℕ → Bool
+abbrev pub any_expired : List (Option LinkValue) → ℕ → ℕ → Bool
 any_expired slots now patience = list_any (is_expired_slot now patience) slots

@@ -6,10 +6,11 @@ use Rattle.http_requests.specs.HandlerRuns.{HandlerRelation, FaultReplies}
 use Rattle.http_requests.specs.HeldRequests.{IsHeldRequestLength, held_length}
 use Rattle.http_requests.specs.SessionFeeding.{FeedsPiece}
 
--- a connection: its session's value, the octets that are not sent yet, how many octets of replies it
--- holds, when it was last active, since when the rest of a request is awaited, and how long that
--- request is
+-- a connection: its serial number, which is how many connections were opened before it; the value
+-- of its session, the octets that are not sent yet, how many octets of replies it holds, when it was
+-- last active, since when the rest of a request is awaited, and how long that request is
 pub record LinkValue : Type 0 where
+  pub serial : ℕ
   pub session : Option (List ℕ)
   pub pending : List ℕ
   pub reply_length : ℕ
@@ -17,9 +18,10 @@ pub record LinkValue : Type 0 where
   pub request_since : Option ℕ
   pub request_length : ℕ
 
--- the link of a new connection
-abbrev pub new_link : ℕ → LinkValue
-new_link now = record {
+-- the link of a new connection with this serial number
+abbrev pub new_link : ℕ → ℕ → LinkValue
+new_link serial now = record {
+  serial = serial;
   session = Some [];
   pending = [];
   reply_length = 0;
@@ -52,7 +54,7 @@ since_after_piece since before added held pending now =
 abbrev pub since_after_sent : ℕ → List ℕ → ℕ → Option ℕ
 since_after_sent held pending now = if awaits_request held pending then Some now else None
 
--- ---- operations
+-- ---- operations: none changes the serial number
 
 -- how many octets of replies are held while these are pending: as many as before, sent or not, and
 -- none once all of them were sent
@@ -63,6 +65,7 @@ reply_length_after before (octet ∷ pending) = before
 -- the first octets were sent, and the rest is pending
 abbrev pub link_after_sent : LinkValue → ℕ → ℕ → LinkValue
 link_after_sent link count now = record {
+  serial = link.serial;
   session = link.session;
   pending = drop count link.pending;
   reply_length = reply_length_after link.reply_length (drop count link.pending);
@@ -74,6 +77,7 @@ link_after_sent link count now = record {
 -- the session is closed, and the rest is unchanged
 abbrev pub link_after_failure : LinkValue → LinkValue
 link_after_failure link = record {
+  serial = link.serial;
   session = None;
   pending = link.pending;
   reply_length = link.reply_length;
@@ -83,8 +87,9 @@ link_after_failure link = record {
 }
 
 -- what the connection came to hold was dropped: its session is closed, and this reply is pending
-abbrev pub link_after_refusal : List ℕ → ℕ → LinkValue
-link_after_refusal reply now = record {
+abbrev pub link_after_refusal : LinkValue → List ℕ → ℕ → LinkValue
+link_after_refusal link reply now = record {
+  serial = link.serial;
   session = None;
   pending = reply;
   reply_length = length reply;
@@ -97,6 +102,7 @@ link_after_refusal reply now = record {
 abbrev pub link_after_piece :
     LinkValue → List ℕ → List ℕ → Option (List ℕ) → ℕ → ℕ → LinkValue
 link_after_piece link piece replies session request_length now = record {
+  serial = link.serial;
   session = session;
   pending = replies;
   reply_length = length replies;

@@ -8,9 +8,8 @@ ghost use Rattle.http_hub.specs.HubRuns.{pending_of, session_of};
 ghost use Rattle.http_hub.specs.Hubs.{EndsAt, IsAt, IsFreeAt, IsOpenAt, OpensAt, SendsAt};
 ghost use Rattle.http_hub.specs.Hubs.{any_expired, is_full, link_at, most_opened, new_hub};
 ghost use Rattle.http_hub.specs.Hubs.{open_count};
-ghost use Rattle.http_hub.specs.Links.{IsFirstTime, has_expired};
+ghost use Rattle.http_hub.specs.Links.{IsFirstTime, LinkValue, has_expired};
 ghost use Rattle.http_hub.specs.PlaceCounts.{AreOpenBelow};
-ghost use Rattle.http_hub.specs.declared.slot.Slot.{Slot};
 
 use crate::hub::Hub;
 use base_types::NoMemory;
@@ -85,8 +84,8 @@ fn settle<H: Handler>(
     others: u128,
 )
     requires is_open { IsOpenAt hub.old place }
-    requires others { (slot : Slot) → IsAt hub.old place slot
-        → large_total hub.old.slots ≡ others + large_at (Some slot) }
+    requires others { (link : LinkValue) → IsAt hub.old place link
+        → large_total hub.old.slots ≡ others + large_at (Some link) }
     ensures { SettlesAt H.fault_reply most place hub.old now hub.new }
 {
     if !may_hold(most, hub.large_part(place), others) {
@@ -110,8 +109,8 @@ fn receive_beside<H: Handler>(
     requires is_open { IsOpenAt hub.old place }
     requires none_pending { pending_of (link_at hub.old place) ≡ [] }
     requires some { 0 < length piece.now }
-    requires others { (slot : Slot) → IsAt hub.old place slot
-        → large_total hub.old.slots ≡ others + large_at (Some slot) }
+    requires others { (link : LinkValue) → IsAt hub.old place link
+        → large_total hub.old.slots ≡ others + large_at (Some link) }
     ensures { ReceivesWithin H.does H.fault_reply most place
         hub.old handler.old piece.now now handler.new hub.new }
 {
@@ -187,7 +186,7 @@ impl BoundedHub {
     /// The serial number of the connection at the place: how many were opened at the hub before it.
     pub fn serial(&self, place: usize) -> u64
         requires { IsOpenAt self.now place }
-        ensures { (slot : Slot) → IsAt self.now place slot → result ≡ slot.serial }
+        ensures { (link : LinkValue) → IsAt self.now place link → result ≡ link.serial }
     {
         self.hub.serial(place)
     }
@@ -279,8 +278,8 @@ impl BoundedHub {
     /// milliseconds.
     pub fn has_expired(&self, place: usize, now: u64, patience: u64) -> bool
         requires { IsOpenAt self.now place }
-        ensures { (slot : Slot) → IsAt self.now place slot
-            → result ≡ has_expired slot.link now patience }
+        ensures { (link : LinkValue) → IsAt self.now place link
+            → result ≡ has_expired link now patience }
     {
         self.hub.has_expired(place, now, patience)
     }

@@ -1,18 +1,17 @@
 //! When the connections of a hub expire.
 ghost use Rattle.std.specs.Prelude.{◌≡◌, ◌||◌, ℕ, Bool};
 ghost use Rattle.http_hub.specs.Hubs.{IsAt, IsOpenAt, any_expired, is_expired_slot};
-ghost use Rattle.http_hub.specs.Links.{IsFirstTime, has_expired};
-ghost use Rattle.http_hub.specs.declared.slot.Slot.{Slot};
+ghost use Rattle.http_hub.specs.Links.{IsFirstTime, LinkValue, has_expired};
 
 use crate::hub::Hub;
-use crate::slot::Slot;
+use crate::link::Link;
 
 /// The first time at which the connection of the place has expired.
-fn slot_expiry(slot: &Option<Slot>, patience: u64) -> Option<u64>
-    ensures { IsFirstTime (λ now. is_expired_slot now patience slot.now) result }
+fn slot_expiry(link: &Option<Link>, patience: u64) -> Option<u64>
+    ensures { IsFirstTime (λ now. is_expired_slot now patience link.now) result }
 {
-    match slot {
-        Some(slot) => slot.link.expiry(patience),
+    match link {
+        Some(link) => link.expiry(patience),
         None => None,
     }
 }
@@ -35,13 +34,13 @@ impl Hub {
     /// (`Link::has_expired`).
     pub fn has_expired(&self, place: usize, now: u64, patience: u64) -> bool
         requires { IsOpenAt self.now place }
-        ensures { (slot : Slot) → IsAt self.now place slot
-            → result ≡ has_expired slot.link now patience }
+        ensures { (link : LinkValue) → IsAt self.now place link
+            → result ≡ has_expired link now patience }
     {
-        let Some(slot) = &self.slots[place] else {
+        let Some(link) = &self.slots[place] else {
             unreachable!()
         };
-        slot.link.has_expired(now, patience)
+        link.has_expired(now, patience)
     }
 
     /// The first time at which some connection has expired, if nothing is received or sent before.
@@ -50,8 +49,8 @@ impl Hub {
         ensures { IsFirstTime (λ now. any_expired self.now.slots now patience) result }
     {
         let mut next = None;
-        for slot in &self.slots[..self.places_end] {
-            next = earlier(next, slot_expiry(slot, patience));
+        for link in &self.slots[..self.places_end] {
+            next = earlier(next, slot_expiry(link, patience));
         }
         next
     }

@@ -5,10 +5,10 @@ ghost use Rattle.http_hub.specs.Holdings.{large_part, load_of, most_load};
 ghost use Rattle.http_hub.specs.HubRuns.{pending_of, session_of};
 ghost use Rattle.http_hub.specs.Hubs.{EndsAt, FailsAt, IsAt, IsFreeAt, IsOpenAt, ReceivesAt};
 ghost use Rattle.http_hub.specs.Hubs.{RefusesAt, SendsAt, link_at, new_hub, with_slot};
-ghost use Rattle.http_hub.specs.declared.slot.Slot.{Slot};
+ghost use Rattle.http_hub.specs.Links.{LinkValue};
 
+use crate::link::Link;
 use crate::places::last_end;
-use crate::slot::Slot;
 use base_types::NoMemory;
 use http_requests::Handler;
 use std::alloc::Global;
@@ -33,7 +33,7 @@ fn large_part(load: u128) -> u128
 /// places to find them.
 #[derive(Debug, Drop)]
 pub struct Hub {
-    pub(crate) slots: Vec<Option<Slot>>,
+    pub(crate) slots: Vec<Option<Link>>,
     pub(crate) opened: u64,
     pub(crate) open_count: usize,
     pub(crate) places_end: usize,
@@ -68,26 +68,26 @@ impl Hub {
     }
 
     /// Takes the connection from the place, which is then free.
-    fn take_slot(&mut self, place: usize) -> Slot
+    fn take_link(&mut self, place: usize) -> Link
         requires { IsOpenAt self.old place }
         ensures found { IsAt self.old place result }
         ensures freed { self.new ≡ with_slot self.old place None }
     {
         match self.slots[place].take() {
-            Some(slot) => {
+            Some(link) => {
                 self.open_count -= 1;
-                slot
+                link
             }
             None => unreachable!(),
         }
     }
 
     /// Puts the connection at the place.
-    pub(crate) fn put_slot(&mut self, place: usize, slot: Slot)
+    pub(crate) fn put_link(&mut self, place: usize, link: Link)
         requires { IsFreeAt self.old place }
-        ensures { self.new ≡ with_slot self.old place (Some slot) }
+        ensures { self.new ≡ with_slot self.old place (Some link) }
     {
-        self.slots[place] = Some(slot);
+        self.slots[place] = Some(link);
         self.open_count += 1;
         self.places_end = self.places_end.max(place + 1);
     }
@@ -97,7 +97,7 @@ impl Hub {
         ensures { IsTrue result ↔ IsOpenAt self.now place }
     {
         match self.slots.get(place) {
-            Some(slot) => slot.is_some(),
+            Some(link) => link.is_some(),
             None => false,
         }
     }
@@ -105,12 +105,12 @@ impl Hub {
     /// The serial number of the connection at the place: how many were opened at the hub before it.
     pub fn serial(&self, place: usize) -> u64
         requires { IsOpenAt self.now place }
-        ensures { (slot : Slot) → IsAt self.now place slot → result ≡ slot.serial }
+        ensures { (link : LinkValue) → IsAt self.now place link → result ≡ link.serial }
     {
-        let Some(slot) = &self.slots[place] else {
+        let Some(link) = &self.slots[place] else {
             unreachable!()
         };
-        slot.serial
+        link.serial()
     }
 
     /// The octets of the replies to the connection at the place that are not sent yet.
@@ -118,10 +118,10 @@ impl Hub {
         requires { IsOpenAt self.now place }
         ensures { result.now ≡ pending_of (link_at self.now place) }
     {
-        let Some(slot) = &self.slots[place] else {
+        let Some(link) = &self.slots[place] else {
             unreachable!()
         };
-        slot.link.pending()
+        link.pending()
     }
 
     /// Whether the session of the connection at the place is closed, so that it is to be ended once
@@ -130,10 +130,10 @@ impl Hub {
         requires { IsOpenAt self.now place }
         ensures { IsTrue result ↔ (session_of (link_at self.now place) ≡ None) }
     {
-        let Some(slot) = &self.slots[place] else {
+        let Some(link) = &self.slots[place] else {
             unreachable!()
         };
-        slot.link.session_is_closed()
+        link.session_is_closed()
     }
 
     /// Feeds a piece to the connection at the place. No octets of it may be pending.
@@ -156,9 +156,9 @@ impl Hub {
         ensures no_memory { OnErr result (FailsAt H.does H.fault_reply place
             self.old handler.old piece.now handler.new self.new) }
     {
-        let mut slot = self.take_slot(place);
-        let received = slot.link.receive(alloc, handler, piece, now);
-        self.put_slot(place, slot);
+        let mut link = self.take_link(place);
+        let received = link.receive(alloc, handler, piece, now);
+        self.put_link(place, link);
         received
     }
 
@@ -166,14 +166,14 @@ impl Hub {
     /// 16,384.
     pub fn large_part(&self, place: usize) -> u128
         requires { IsOpenAt self.now place }
-        ensures part { (slot : Slot) → IsAt self.now place slot
-            → result ≡ large_part (load_of slot.link) }
+        ensures part { (link : LinkValue) → IsAt self.now place link
+            → result ≡ large_part (load_of link) }
         ensures within { result ≤ most_load }
     {
-        let Some(slot) = &self.slots[place] else {
+        let Some(link) = &self.slots[place] else {
             unreachable!()
         };
-        large_part(slot.link.load())
+        large_part(link.load())
     }
 
     /// Drops what the connection at the place holds. Its session is closed, and the reply is
@@ -182,9 +182,9 @@ impl Hub {
         requires { IsOpenAt self.old place }
         ensures { RefusesAt place self.old reply.items now self.new }
     {
-        let mut slot = self.take_slot(place);
-        slot.link.refuse(alloc, reply, now);
-        self.put_slot(place, slot);
+        let mut link = self.take_link(place);
+        link.refuse(alloc, reply, now);
+        self.put_link(place, link);
     }
 
     /// Records that the first `count` pending octets were sent to the connection at the place.
@@ -194,9 +194,9 @@ impl Hub {
         requires within { count ≤ length (pending_of (link_at self.old place)) }
         ensures { SendsAt place self.old count now self.new }
     {
-        let mut slot = self.take_slot(place);
-        slot.link.mark_sent(count, now);
-        self.put_slot(place, slot);
+        let mut link = self.take_link(place);
+        link.mark_sent(count, now);
+        self.put_link(place, link);
     }
 
     /// Ends the connection at the place, which is then free. What it held or had pending is

@@ -7,10 +7,8 @@ mod hub;
 pub mod laws;
 mod link;
 mod places;
-mod slot;
 
 pub use bounded::BoundedHub;
 pub use expiry::earlier;
 pub use hub::Hub;
 pub use link::Link;
-pub use slot::Slot;

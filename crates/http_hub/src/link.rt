@@ -18,10 +18,12 @@ use std::marker::Model;
 /// The octets of a request for which it has one more second.
 const OCTETS_A_SECOND: u64 = 4_096;
 
-/// The session of a connection, the pending octets of its replies, when it was last active, since
-/// when the rest of a request is awaited, and how long that request is.
+/// The serial number of a connection (how many were opened before it), its session, the pending
+/// octets of its replies, when it was last active, since when the rest of a request is awaited, and
+/// how long that request is.
 #[derive(Debug, Drop)]
 pub struct Link {
+    serial: u64,
     session: Session,
     out: Vec<u8>,
     sent_count: usize,
@@ -38,6 +40,7 @@ impl Model for Link {
     ghost Value = { LinkValue };
 
     ghost view = { λ link. record {
+      serial = link.serial;
       session = link.session;
       pending = drop link.sent_count link.out.items;
       reply_length = length link.out.items;
@@ -136,12 +139,13 @@ fn drop_if_sent(out: &mut Vec<u8>, sent_count: usize) -> usize
 }
 
 impl Link {
-    /// The link of a new connection, which was last active at the time `now`, in milliseconds. It
-    /// allocates nothing.
-    pub fn new(alloc: Global, now: u64) -> Link
-        ensures { result ≡ new_link now }
+    /// The link of a new connection with this serial number, which was last active at the time
+    /// `now`, in milliseconds. It allocates nothing.
+    pub fn new(alloc: Global, serial: u64, now: u64) -> Link
+        ensures { result ≡ new_link serial now }
     {
         Link {
+            serial,
             session: Session::new(alloc),
             out: Vec::new(alloc),
             sent_count: 0,
@@ -149,6 +153,13 @@ impl Link {
             request_since: None,
             request_len: 0,
         }
+    }
+
+    /// The serial number: how many connections were opened at the hub before it.
+    pub fn serial(&self) -> u64
+        ensures { result ≡ self.now.serial }
+    {
+        self.serial
     }
 
     /// The octets of the replies that are not sent yet.
@@ -250,9 +261,10 @@ impl Link {
         self.request_load() as u128 + self.out.len() as u128
     }
 
-    /// Drops what the connection holds. Its session is closed, and the reply is pending.
+    /// Drops what the connection holds. Its session is closed, and the reply is pending; its serial
+    /// number stays.
     pub fn refuse(&mut self, alloc: Global, reply: Vec<u8>, now: u64)
-        ensures { self.new ≡ link_after_refusal reply.items now }
+        ensures { self.new ≡ link_after_refusal self.old reply.items now }
     {
         self.session.close(alloc);
         self.out = reply;

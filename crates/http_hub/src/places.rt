@@ -6,16 +6,15 @@ ghost use Rattle.http_hub.specs.Hubs.{IsFreeAt, OpensAt, is_full, most_opened, o
 
 use crate::hub::Hub;
 use crate::link::Link;
-use crate::slot::Slot;
 use std::alloc::Global;
 
 /// A place without a connection, if there is one.
-fn first_free(slots: &[Option<Slot>]) -> Option<usize>
+fn first_free(slots: &[Option<Link>]) -> Option<usize>
     ensures { MatchOption result (count_by is_some slots.now ≡ length slots.now)
         (λ place. slice_get slots.now place ≡ Some None) }
 {
-    for (place, slot) in slots.iter().enumerate() {
-        if slot.is_none() {
+    for (place, link) in slots.iter().enumerate() {
+        if link.is_none() {
             return Some(place);
         }
     }
@@ -24,7 +23,7 @@ fn first_free(slots: &[Option<Slot>]) -> Option<usize>
 
 /// One past the last place below `end` that has a connection, or 0. That bounds the places of all
 /// connections if `end` does.
-pub(crate) fn last_end(slots: &[Option<Slot>], end: usize) -> usize
+pub(crate) fn last_end(slots: &[Option<Link>], end: usize) -> usize
     requires below { AreOpenBelow slots.now end }
     requires within { end ≤ length slots.now }
     ensures below { AreOpenBelow slots.now result }
@@ -87,13 +86,7 @@ impl Hub {
         ensures { OpensAt place self.old now self.new }
     {
         let serial = self.opened;
-        self.put_slot(
-            place,
-            Slot {
-                serial,
-                link: Link::new(alloc, now),
-            },
-        );
+        self.put_link(place, Link::new(alloc, serial, now));
         self.opened += 1;
     }
 }

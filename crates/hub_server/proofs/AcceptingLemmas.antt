@@ -5,8 +5,7 @@ use Rattle.std.proofs.Common.{is_some, length, nat_le, nat_lt, slice_get, slice_
 use Rattle.std.proofs.lemmas.Bool.{and_right, le-ltb, lt-leb}
 use Rattle.std.proofs.lemmas.List.Sums.{count_by-le-length}
 use Rattle.http_hub.specs.Hubs.{HubValue, IsAt, IsFreeAt, OpensAt, open_count}
-use Rattle.http_hub.specs.Links.{has_expired, new_link}
-use Rattle.http_hub.specs.declared.slot.Slot.{Slot}
+use Rattle.http_hub.specs.Links.{LinkValue, has_expired, new_link}
 use Rattle.http_hub.proofs.CountLemmas.{count_opened}
 use Rattle.http_hub.proofs.PlaceLemmas.{set_length, set_other, set_same}
 use Rattle.hub_server.specs.Acceptings.{AcceptsNext, FailsAccepting, FailsAfterActs, free_count}
@@ -35,28 +34,29 @@ use Rattle.hub_server.proofs.SeatLemmas.{asleep_has_none}
 pub fewer_free : (a b : ServerValue) (place : ℕ) (hub : HubValue) → OpensAt place a.hub a.time hub
     → b.hub ≡ hub → free_count b < free_count a
 fewer_free a b place hub opens is =
-    let slot : Slot = record { serial = a.hub.opened; link = new_link a.time } in
+    let link : LinkValue = new_link a.hub.opened a.time in
     let hub_is = is ∙ opens.after_is in
     let counted : open_count b.hub ≡ suc (open_count a.hub) = ap (λ (h : HubValue). open_count h) is
     ∙ count_opened place a.time a.hub hub opens in
     let places : length b.hub.slots ≡ length a.hub.slots =
-    ap (λ (h : HubValue). length h.slots) hub_is ∙ set_length a.hub.slots place (Some slot) in
+    ap (λ (h : HubValue). length h.slots) hub_is ∙ set_length a.hub.slots place (Some link) in
     let within : open_count b.hub ≤ length b.hub.slots = count_by-le-length is_some b.hub.slots in
     omega (arith, counted, places, within)
 
 -- ---- a new connection
 
 -- it has the place
-opened_slot : (a : ServerValue) (place : ℕ) (hub : HubValue) (slot : Slot)
-    → OpensAt place a.hub a.time hub → IsAt hub place slot → slot.link ≡ new_link a.time
-opened_slot a place hub slot opens at =
-    let opened : Slot = record { serial = a.hub.opened; link = new_link a.time } in
+opened_link : (a : ServerValue) (place : ℕ) (hub : HubValue) (link : LinkValue)
+    → OpensAt place a.hub a.time hub → IsAt hub place link
+    → link ≡ new_link a.hub.opened a.time
+opened_link a place hub link opens at =
+    let opened : LinkValue = new_link a.hub.opened a.time in
     let here : slice_get (slice_set a.hub.slots place (Some opened)) place ≡ Some (Some opened) =
     set_same a.hub.slots place (Some opened) None opens.was_free in
-    let there : slice_get (slice_set a.hub.slots place (Some opened)) place ≡ Some (Some slot) =
+    let there : slice_get (slice_set a.hub.slots place (Some opened)) place ≡ Some (Some link) =
     ap (λ (h : HubValue). slice_get h.slots place) (sym opens.after_is) ∙ at in
-    let same : opened ≡ slot = cc (here, there) in
-    ap (λ (s : Slot). s.link) (sym same)
+    let same : opened ≡ link = cc (here, there) in
+    sym same
 
 seat_at_place : (seats : List SeatValue) (place : ℕ) (seat : SeatValue)
     → slice_get (slice_set seats place new_seat) place ≡ Some seat → new_seat ≡ seat
@@ -69,17 +69,17 @@ or_with_false : (b : Bool) → b ≡ false → (b || false) ≡ false
 or_with_false true is = is
 or_with_false false is = refl
 
-new_unexpired : (now patience : ℕ) → has_expired (new_link now) now patience ≡ false
-new_unexpired now patience = or_with_false (nat_lt patience (now - now))
+new_unexpired : (serial now patience : ℕ) → has_expired (new_link serial now) now patience ≡ false
+new_unexpired serial now patience = or_with_false (nat_lt patience (now - now))
     (le-ltb patience (now - now) (omega arith))
 
 opening_keeps : (a b : ServerValue) (place : ℕ) (hub : HubValue) → OpensAt place a.hub a.time hub
     → b ≡ with_seat a place hub new_seat → KeepsOthers place a b
 opening_keeps a b place hub opens is =
-    let slot : Option Slot = Some (record { serial = a.hub.opened; link = new_link a.time }) in
+    let link : Option LinkValue = Some (new_link a.hub.opened a.time) in
     let keeps : KeepsOthers place a (with_seat a place hub new_seat) = record {
       slots = λ other apart. ap (λ (h : HubValue). slice_get h.slots other) opens.after_is
-          ∙ set_other a.hub.slots place other slot (λ e. apart (sym e));
+          ∙ set_other a.hub.slots place other link (λ e. apart (sym e));
       seats = λ other apart. set_other a.seats place other new_seat (λ e. apart (sym e));
       time = refl;
       listener = refl;
@@ -87,31 +87,31 @@ opening_keeps a b place hub opens is =
     subst (λ (x : ServerValue). KeepsOthers place a x) (sym is) keeps
 
 -- the state of the listener doesn't matter
-seated_with : (a : ServerValue) (state : ListenerState) (place : ℕ) (slot : Slot) (seat : SeatValue)
-    → IsSeatedAt (with_listener a state) place slot seat → IsSeatedAt a place slot seat
-seated_with a state place slot seat seated = record {
-  at_slot = seated.at_slot;
+seated_with : (a : ServerValue) (state : ListenerState) (place : ℕ) (link : LinkValue) (seat :
+    SeatValue) → IsSeatedAt (with_listener a state) place link seat → IsSeatedAt a place link seat
+seated_with a state place link seat seated = record {
+  at_link = seated.at_link;
   at_seat = seated.at_seat;
 }
 
 pub turns_with : (a b : ServerValue) (state : ListenerState) → b ≡ with_listener a state
     → KeepsTurnsOver a b
 turns_with a b state is = subst (λ (x : ServerValue). KeepsTurnsOver a x) (sym is)
-    (λ before place slot seat seated. before place slot seat (seated_with a state place slot seat
+    (λ before place link seat seated. before place link seat (seated_with a state place link seat
     seated))
 
 pub unexpired_with : (limits : ServeLimits) (a b : ServerValue) (state : ListenerState)
     → b ≡ with_listener a state → KeepsNoneExpired limits a b
 unexpired_with limits a b state is =
     subst (λ (x : ServerValue). KeepsNoneExpired limits a x) (sym is)
-    (λ before place slot seat seated. before place slot seat (seated_with a state place slot seat
+    (λ before place link seat seated. before place link seat (seated_with a state place link seat
     seated))
 
 opening_turns : (a b : ServerValue) (place : ℕ) (hub : HubValue) → OpensAt place a.hub a.time hub
     → b ≡ with_seat a place hub new_seat → KeepsTurnsOver a b
 opening_turns a b place hub opens is = λ before.
-    fact_kept (λ slot seat. IsTurnOver seat) place a b (opening_keeps a b place hub opens is) before
-    (λ slot seat seated.
+    fact_kept (λ link seat. IsTurnOver seat) place a b (opening_keeps a b place hub opens is) before
+    (λ link seat seated.
     let found : slice_get (slice_set a.seats place new_seat) place ≡ Some seat =
     ap (λ (x : ServerValue). slice_get x.seats place) (sym is) ∙ seated.at_seat in
     let asleep = ap (λ (x : SeatValue). x.turn) (sym (seat_at_place a.seats place seat found)) in
@@ -122,15 +122,15 @@ opening_unexpired : (limits : ServeLimits) (a b : ServerValue) (place : ℕ) (hu
     → KeepsNoneExpired limits a b
 opening_unexpired limits a b place hub opens is = λ before.
     let now_is : b.time ≡ a.time = ap (λ (x : ServerValue). x.time) is in
-    let all = fact_kept (λ slot seat. has_expired slot.link a.time limits.patience ≡ false) place a
+    let all = fact_kept (λ link seat. has_expired link a.time limits.patience ≡ false) place a
     b (opening_keeps a b place hub opens is) before
-    (λ slot seat seated.
-    let at : IsAt hub place slot = ap (λ (x : ServerValue). slice_get x.hub.slots place) (sym is)
-    ∙ seated.at_slot in
-    ap (λ link. has_expired link a.time limits.patience) (opened_slot a place hub slot opens at)
-    ∙ new_unexpired a.time limits.patience) in
-    λ other slot seat seated. ap (λ n. has_expired slot.link n limits.patience) now_is
-    ∙ all other slot seat seated
+    (λ link seat seated.
+    let at : IsAt hub place link = ap (λ (x : ServerValue). slice_get x.hub.slots place) (sym is)
+    ∙ seated.at_link in
+    ap (λ l. has_expired l a.time limits.patience) (opened_link a place hub link opens at)
+    ∙ new_unexpired a.hub.opened a.time limits.patience) in
+    λ other link seat seated. ap (λ n. has_expired link n limits.patience) now_is
+    ∙ all other link seat seated
 
 not_due : (b : Bool) → (b && false) ≡ false
 not_due true = refl

@@ -4,8 +4,7 @@ use Rattle.std.proofs.Common.{Option, Some, refl, ap, subst, arith, get_or, leng
 use Rattle.std.proofs.Common.{IsTrue}
 use Rattle.std.proofs.lemmas.Bool.{eqb-false, eqb-true}
 use Rattle.http_hub.specs.Hubs.{IsAt, IsOpenAt, any_expired}
-use Rattle.http_hub.specs.Links.{IsFirstTime}
-use Rattle.http_hub.specs.declared.slot.Slot.{Slot}
+use Rattle.http_hub.specs.Links.{IsFirstTime, LinkValue}
 use Rattle.http_hub.proofs.ExpiryLemmas.{first_time_as}
 use Rattle.hub_server.specs.EndpointRuns.{EndpointRelation, FailsAtWait, ReachesByWait}
 use Rattle.hub_server.specs.Endpoints.EndpointEvent.{WaitEvent, WaitFault}
@@ -62,34 +61,35 @@ due_by_expiry connections patience server false time is room first =
 
 -- no connection up to the place was cut off
 abbrev pub NoneLeftBelow : ServerValue → ℕ → Type 0
-NoneLeftBelow server count = (place : ℕ) (slot : Slot) (seat : SeatValue) → place < count
-    → IsSeatedAt server place slot seat → is_awake_turn seat.turn ≡ true → ⊥
+NoneLeftBelow server count = (place : ℕ) (link : LinkValue) (seat : SeatValue) → place < count
+    → IsSeatedAt server place link seat → is_awake_turn seat.turn ≡ true → ⊥
 
 left_by : (server : ServerValue) (place : ℕ) → NoneLeftBelow server place
-    → ((slot : Slot) (seat : SeatValue) → IsSeatedAt server place slot seat
+    → ((link : LinkValue) (seat : SeatValue) → IsSeatedAt server place link seat
     → is_awake_turn seat.turn ≡ true → ⊥)
-    → (other : ℕ) (slot : Slot) (seat : SeatValue) (t : Bool) → (other == place) ≡ t
-    → other < place + 1 → IsSeatedAt server other slot seat → is_awake_turn seat.turn ≡ true → ⊥
-left_by server place below here other slot seat true e within seated awake =
-    here slot seat (subst (λ n. IsSeatedAt server n slot seat) (eqb-true other place e) seated)
+    → (other : ℕ) (link : LinkValue) (seat : SeatValue) (t : Bool) → (other == place) ≡ t
+    → other < place + 1 → IsSeatedAt server other link seat → is_awake_turn seat.turn ≡ true → ⊥
+left_by server place below here other link seat true e within seated awake =
+    here link seat (subst (λ n. IsSeatedAt server n link seat) (eqb-true other place e) seated)
     awake
-left_by server place below here other slot seat false e within seated awake =
+left_by server place below here other link seat false e within seated awake =
     let apart : other ≡ place → ⊥ = eqb-false other place e in
-    below other slot seat (omega (arith, within, apart)) seated awake
+    below other link seat (omega (arith, within, apart)) seated awake
 
 -- one more place was not cut off
 pub none_left_more : (server : ServerValue) (place : ℕ) → NoneLeftBelow server place
-    → ((slot : Slot) (seat : SeatValue) → IsSeatedAt server place slot seat
+    → ((link : LinkValue) (seat : SeatValue) → IsSeatedAt server place link seat
     → is_awake_turn seat.turn ≡ true → ⊥) → NoneLeftBelow server (place + 1)
-none_left_more server place below here other slot seat within seated awake =
-    left_by server place below here other slot seat (other == place) refl within seated awake
+none_left_more server place below here other link seat within seated awake =
+    left_by server place below here other link seat (other == place) refl within seated awake
 
 -- the connection of the place is asleep
-pub asleep_there : (seen a : ServerValue) (place : ℕ) (slot : Slot) (seat read : SeatValue) (test :
-    Bool) → seen ≡ a → IsSeatedAt a place slot seat → read ≡ get_or seen.seats place read
+pub asleep_there : (seen a : ServerValue) (place : ℕ) (link : LinkValue) (seat read :
+    SeatValue) (test : Bool) → seen ≡ a → IsSeatedAt a place link seat
+    → read ≡ get_or seen.seats place read
     → test ≡ is_awake_turn read.turn → test ≡ false
     → is_awake_turn seat.turn ≡ true → ⊥
-asleep_there seen a place slot seat read test same seated is tells asleep awake =
+asleep_there seen a place link seat read test same seated is tells asleep awake =
     let found : slice_get a.seats place ≡ Some read =
     read_at seen a place seat read same seated.at_seat is in
     let seat_is : read ≡ seat = same_seat a.seats place read seat found seated.at_seat in
@@ -97,20 +97,20 @@ asleep_there seen a place slot seat read test same seated is tells asleep awake 
     cc (asleep, yes)
 
 -- the place has no connection
-pub none_there : (seen a : ServerValue) (place : ℕ) (slot : Slot) (seat : SeatValue) (test : Bool)
-    → seen ≡ a → IsSeatedAt a place slot seat → (IsTrue test → IsOpenAt seen.hub place)
+pub none_there : (seen a : ServerValue) (place : ℕ) (link : LinkValue) (seat : SeatValue) (test :
+    Bool) → seen ≡ a → IsSeatedAt a place link seat → (IsTrue test → IsOpenAt seen.hub place)
     × (IsOpenAt seen.hub place → IsTrue test) → test ≡ false → ⊥
-none_there seen a place slot seat test same seated tells free =
-    let at : IsAt seen.hub place slot = ap (λ (x : ServerValue). slice_get x.hub.slots place) same
-    ∙ seated.at_slot in
-    let yes : test ≡ true = tells.1 (slot, at) in
+none_there seen a place link seat test same seated tells free =
+    let at : IsAt seen.hub place link = ap (λ (x : ServerValue). slice_get x.hub.slots place) same
+    ∙ seated.at_link in
+    let yes : test ≡ true = tells.1 (link, at) in
     cc (free, yes)
 
 left_below : (server : ServerValue) (count : ℕ) → AreSeatedBelow server count
-    → NoneLeftBelow server count → (place : ℕ) (slot : Slot) (seat : SeatValue)
-    → IsSeatedAt server place slot seat → is_awake_turn seat.turn ≡ true → ⊥
-left_below server count all none place slot seat seated awake =
-    none place slot seat (all place slot seat seated) seated awake
+    → NoneLeftBelow server count → (place : ℕ) (link : LinkValue) (seat : SeatValue)
+    → IsSeatedAt server place link seat → is_awake_turn seat.turn ≡ true → ⊥
+left_below server count all none place link seat seated awake =
+    none place link seat (all place link seat seated) seated awake
 
 pub none_left : (server : ServerValue) (count : ℕ) → AreSeatedBelow server count
     → NoneLeftBelow server count → (IsTrue false → IsLeft server) × (IsLeft server → IsTrue false)

@@ -7,10 +7,9 @@ use Rattle.http_hub.specs.Holdings.{AreWithin, large_at}
 use Rattle.http_hub.specs.Hubs.{HubValue, IsAt, with_link}
 use Rattle.http_hub.specs.Links.{LinkValue, link_after_failure, link_after_refusal, link_after_sent}
 use Rattle.http_hub.specs.Links.{new_link}
-use Rattle.http_hub.specs.declared.slot.Slot.{Slot}
 use Rattle.http_hub.proofs.HoldingLemmas.{failed_holds_less, fitting_within, refused_holds_none}
 use Rattle.http_hub.proofs.HoldingLemmas.{sent_holds_less, total_none, within_set}
-use Rattle.http_hub.proofs.HubLemmas.{refused_link}
+use Rattle.http_hub.proofs.HubLemmas.{refused_piece}
 use Rattle.http_hub.proofs.PlaceLemmas.{set_same}
 use Rattle.hub_server.specs.ServerActs.{DoesAct, ServerAct}
 use Rattle.hub_server.specs.ServerActs.ServerAct.{Awaits, AcceptsAt, FindsNoConnection}
@@ -27,26 +26,25 @@ as_before : (most : ℕ) (a b : ServerValue) → b.hub ≡ a.hub → AreWithin m
     → AreWithin most b.hub.slots
 as_before most a b same within = subst (λ (h : HubValue). AreWithin most h.slots) (sym same) within
 
--- a link that holds no more than before
-with_less : (most : ℕ) (hub after : HubValue) (place : ℕ) (slot : Slot) (link : LinkValue)
-    → IsAt hub place slot → after ≡ with_link hub place slot.serial link
-    → large_at (Some (record { serial = slot.serial; link = link })) ≤ large_at (Some slot)
-    → AreWithin most hub.slots → AreWithin most after.slots
-with_less most hub after place slot link found is less within =
-    let next : Slot = record { serial = slot.serial; link = link } in
+-- a connection that holds no more than before
+with_less : (most : ℕ) (hub after : HubValue) (place : ℕ) (link next : LinkValue)
+    → IsAt hub place link → after ≡ with_link hub place next
+    → large_at (Some next) ≤ large_at (Some link) → AreWithin most hub.slots
+    → AreWithin most after.slots
+with_less most hub after place link next found is less within =
     subst (λ (h : HubValue). AreWithin most h.slots) (sym is) (within_set most hub.slots place
-    (Some slot) (Some next) found less within)
+    (Some link) (Some next) found less within)
 
 act_within : (limits : ServeLimits) (most : ℕ) (act : ServerAct) (a b : ServerValue)
     → DoesAct limits a act b → AreWithin most a.hub.slots → AreWithin most b.hub.slots
 act_within limits most (Awaits until ready listener time) a b done within =
     as_before most a b (ap (λ (s : ServerValue). s.hub) done.2) within
 act_within limits most (AcceptsAt place serial) a b done within =
-    let opened : Slot = record { serial = a.hub.opened; link = new_link a.time } in
-    let slots : List (Option Slot) = slice_set a.hub.slots place (Some opened) in
+    let opened : LinkValue = new_link a.hub.opened a.time in
+    let slots : List (Option LinkValue) = slice_set a.hub.slots place (Some opened) in
     let slots_are : b.hub.slots ≡ slots = ap (λ (s : ServerValue). s.hub.slots) done.after_is
     ∙ ap (λ (h : HubValue). h.slots) done.opens.after_is in
-    subst (λ (xs : List (Option Slot)). AreWithin most xs) (sym slots_are)
+    subst (λ (xs : List (Option LinkValue)). AreWithin most xs) (sym slots_are)
     (within_set most a.hub.slots place None (Some opened) done.opens.was_free (omega arith)
     within)
 act_within limits most (FindsNoConnection place) a b done within =
@@ -59,18 +57,18 @@ act_within limits most (FindsNoInput place serial) a b done within =
     as_before most a b (ap (λ (s : ServerValue). s.hub) done.after_is) within
 act_within limits most (WritesTo place serial offered count) a b done within =
     let sends = done.sends in
-    let hub_is : b.hub ≡ with_link a.hub place sends.slot.serial (link_after_sent sends.slot.link
-    count a.time) = ap (λ (s : ServerValue). s.hub) done.after_is ∙ sends.after_is in
-    with_less most a.hub b.hub place sends.slot (link_after_sent sends.slot.link count a.time)
-    sends.found hub_is (sent_holds_less sends.slot.link count a.time) within
+    let hub_is : b.hub ≡ with_link a.hub place (link_after_sent sends.link count a.time) =
+    ap (λ (s : ServerValue). s.hub) done.after_is ∙ sends.after_is in
+    with_less most a.hub b.hub place sends.link (link_after_sent sends.link count a.time)
+    sends.found hub_is (sent_holds_less sends.link count a.time) within
 act_within limits most (FindsNoOutput place serial offered) a b done within =
     as_before most a b (ap (λ (s : ServerValue). s.hub) done.after_is) within
 act_within limits most (ClosesAt place serial cause) a b done within =
     let slots_are : b.hub.slots ≡ slice_set a.hub.slots place None =
     ap (λ (s : ServerValue). s.hub.slots) done.after_is
     ∙ ap (λ (h : HubValue). h.slots) done.ends.after_is in
-    subst (λ (xs : List (Option Slot)). AreWithin most xs) (sym slots_are)
-    (within_set most a.hub.slots place (Some done.ends.slot) None done.ends.found (omega arith)
+    subst (λ (xs : List (Option LinkValue)). AreWithin most xs) (sym slots_are)
+    (within_set most a.hub.slots place (Some done.ends.link) None done.ends.found (omega arith)
     within)
 
 module _ {S : Type 0} (does : HandlerRelation S) (fault_reply : FaultReplies) where
@@ -79,27 +77,23 @@ module _ {S : Type 0} (does : HandlerRelation S) (fault_reply : FaultReplies) wh
       → AreWithin most before.slots → AreWithin most after.slots
   piece_within most place before w piece now v after (inl fits) within =
       let r = fits.received in
-      let next : Slot = record { serial = r.slot.serial; link = r.next } in
-      let slots_are : after.slots ≡ slice_set before.slots place (Some next) =
+      let slots_are : after.slots ≡ slice_set before.slots place (Some r.next) =
       ap (λ (h : HubValue). h.slots) r.after_is in
-      let at : slice_get after.slots place ≡ Some (Some next) =
-      ap (λ (xs : List (Option Slot)). slice_get xs place) slots_are
-      ∙ set_same before.slots place (Some next) (Some r.slot) r.found in
-      let same : fits.slot ≡ next = cc (fits.at, at) in
-      fitting_within most after.slots before.slots place (Some r.slot) fits.slot r.found (slots_are
-      ∙ ap (λ (s : Slot). slice_set before.slots place (Some s)) (sym same)) fits.at fits.fits
+      let at : slice_get after.slots place ≡ Some (Some r.next) =
+      ap (λ (xs : List (Option LinkValue)). slice_get xs place) slots_are
+      ∙ set_same before.slots place (Some r.next) (Some r.link) r.found in
+      let same : fits.link ≡ r.next = cc (fits.at, at) in
+      fitting_within most after.slots before.slots place (Some r.link) fits.link r.found (slots_are
+      ∙ ap (λ (l : LinkValue). slice_set before.slots place (Some l)) (sym same)) fits.at fits.fits
       within
   piece_within most place before w piece now v after (inr (inl failed)) within =
-      with_less most before after place failed.slot (link_after_failure failed.slot.link)
-      failed.found failed.after_is (failed_holds_less failed.slot.link) within
+      with_less most before after place failed.link (link_after_failure failed.link)
+      failed.found failed.after_is (failed_holds_less failed.link) within
   piece_within most place before w piece now v after (inr (inr large)) within =
-      let r = large.refused in
-      let last : LinkValue = link_after_refusal large.reply now in
-      let is : after ≡ with_link before place r.received.slot.serial last =
-      refused_link before r.full after place r.received.slot r.refused.slot r.received.next last
-      r.received.found r.received.after_is r.refused.found r.refused.after_is in
-      let none = refused_holds_none large.reply now large.small in
-      with_less most before after place r.received.slot last r.received.found is
+      let r = large.refused.received in
+      let none = refused_holds_none r.link large.reply now large.small in
+      with_less most before after place r.link (link_after_refusal r.link large.reply now) r.found
+      (refused_piece does fault_reply place before w piece large.reply now v after large.refused)
       (omega (arith, none)) within
 
   step_within : (limits : ServeLimits) (step : ServerStep) (a b : ServerValue) (w v : S)

@@ -3,8 +3,7 @@ use Rattle.std.proofs.Common.{◌≡◌, ◌∙◌, ◌<◌, ◌≤◌, ◌+◌,
 use Rattle.std.proofs.Common.{IsTrue}
 use Rattle.std.proofs.lemmas.Bool.{false_from_ne_true}
 use Rattle.http_hub.specs.Hubs.{IsAt, IsOpenAt}
-use Rattle.http_hub.specs.Links.{has_expired}
-use Rattle.http_hub.specs.declared.slot.Slot.{Slot}
+use Rattle.http_hub.specs.Links.{LinkValue, has_expired}
 use Rattle.hub_server.specs.EndpointRuns.{EndpointRelation, ReachesByActs}
 use Rattle.hub_server.specs.Endpoints.EndpointEvent.{CloseEvent}
 use Rattle.hub_server.specs.Expiries.{ExpiresAt, HasExpiredAt, KeepsTurnsOver}
@@ -23,22 +22,22 @@ use Rattle.hub_server.proofs.RunLemmas.{acts_none, acts_on}
 -- what a test of the connection at a place says
 pub expired_by_test : (limits : ServeLimits) (server : ServerValue) (place : ℕ) (test : Bool)
     → place < length server.seats → (open_there : IsOpenAt server.hub place)
-    → ((slot : Slot) → IsAt server.hub place slot
-    → test ≡ has_expired slot.link server.time limits.patience)
+    → ((link : LinkValue) → IsAt server.hub place link
+    → test ≡ has_expired link server.time limits.patience)
     → (IsTrue test → HasExpiredAt limits server place) × (HasExpiredAt limits server place
     → IsTrue test)
 expired_by_test limits server place test within open_there tells =
     let there = seat_there server.seats place within in (
       λ yes. record {
-        slot = open_there.0;
+        link = open_there.0;
         seat = there.0;
         seated = record {
-          at_slot = open_there.1;
+          at_link = open_there.1;
           at_seat = there.1;
         };
         expired = sym (tells open_there.0 open_there.1) ∙ yes;
       },
-      λ expired. tells expired.slot expired.seated.at_slot ∙ expired.expired,
+      λ expired. tells expired.link expired.seated.at_link ∙ expired.expired,
     )
 
 module _ {Endpoint : Type 0} (calls : EndpointRelation Endpoint) where
@@ -48,11 +47,11 @@ module _ {Endpoint : Type 0} (calls : EndpointRelation Endpoint) where
       → HasExpiredAt limits a place → LeavesPlace a place b → calls s (CloseEvent place) t
       → ExpiresAt calls limits place a s b t
   expires_one limits place a b s t has left closed = record {
-    acts = acts_expired calls limits a b place has.slot has.seat s t has.seated has.expired left
+    acts = acts_expired calls limits a b place has.link has.seat s t has.seated has.expired left
         closed;
     others = leaves_keeps a b place left;
     turns = turns_left a b place left;
-    not_expired = λ still. left_is_free a b place still.slot still.seat left still.seated;
+    not_expired = λ still. left_is_free a b place still.link still.seat left still.seated;
   }
 
   pub expires_none : (limits : ServeLimits) (place : ℕ) (a : ServerValue) (s : Endpoint)
@@ -70,8 +69,8 @@ module _ {Endpoint : Type 0} (calls : EndpointRelation Endpoint) where
       (b : ServerValue) (t : Endpoint) : Type 0 where
     pub acts : ReachesByActs calls limits a s b t
     pub turns : KeepsTurnsOver a b
-    pub below : (place : ℕ) (slot : Slot) (seat : SeatValue) → place < count
-        → IsSeatedAt b place slot seat → has_expired slot.link b.time limits.patience ≡ false
+    pub below : (place : ℕ) (link : LinkValue) (seat : SeatValue) → place < count
+        → IsSeatedAt b place link seat → has_expired link b.time limits.patience ≡ false
     pub seated : AreSeatedBelow b end
 
   pub expires_nothing : (limits : ServeLimits) (end : ℕ) (a : ServerValue) (s : Endpoint)
@@ -79,7 +78,7 @@ module _ {Endpoint : Type 0} (calls : EndpointRelation Endpoint) where
   expires_nothing limits end a s seated_below = record {
     acts = acts_none calls limits a s;
     turns = λ before. before;
-    below = λ place slot seat within seated. absurd (let no :
+    below = λ place link seat within seated. absurd (let no :
         place < 0 = within in omega (arith, no));
     seated = seated_below;
   }
@@ -91,13 +90,13 @@ module _ {Endpoint : Type 0} (calls : EndpointRelation Endpoint) where
     seated = seated_kept place end b c next.others here far.seated;
     acts = acts_on calls limits a b c s t u far.acts next.acts;
     turns = λ before. next.turns (far.turns before);
-    below = fact_more (λ slot seat. has_expired slot.link c.time limits.patience ≡ false) place b c
+    below = fact_more (λ link seat. has_expired link c.time limits.patience ≡ false) place b c
         next.others
-        (λ other slot seat within seated. ap (λ n. has_expired slot.link n limits.patience)
-        next.others.time ∙ far.below other slot seat within seated)
-        (λ slot seat seated. false_from_ne_true (has_expired slot.link c.time limits.patience)
+        (λ other link seat within seated. ap (λ n. has_expired link n limits.patience)
+        next.others.time ∙ far.below other link seat within seated)
+        (λ link seat seated. false_from_ne_true (has_expired link c.time limits.patience)
         (λ yes. next.not_expired (record {
-          slot = slot;
+          link = link;
           seat = seat;
           seated = seated;
           expired = yes;

@@ -5,8 +5,7 @@ use Rattle.http_requests.specs.HandlerRuns.{HandlerRelation, FaultReplies}
 use Rattle.http_hub.specs.BoundedHubs.{ReceivesWithin}
 use Rattle.http_hub.specs.Hubs.{HubValue, with_slot}
 use Rattle.http_hub.specs.Links.{LinkValue, link_after_failure, link_after_refusal}
-use Rattle.http_hub.specs.declared.slot.Slot.{Slot}
-use Rattle.http_hub.proofs.HubLemmas.{refused_link}
+use Rattle.http_hub.proofs.HubLemmas.{refused_piece}
 use Rattle.hub_server.specs.Needs.{NeedsFeeding}
 use Rattle.hub_server.specs.Seats.{SeatValue}
 use Rattle.hub_server.specs.Seats.{next_piece, seat_after_step}
@@ -34,29 +33,22 @@ piece_fits first second piece same is =
 module _ {S : Type 0} (does : HandlerRelation S) (fault_reply : FaultReplies) where
   fed_slot : (most : ℕ) (a : ServerValue) (place : ℕ) (piece : List ℕ) (w v : S) (hub : HubValue)
       → ReceivesWithin does fault_reply most place a.hub w piece a.time v hub
-      → (slot : Option Slot) × (hub ≡ with_slot a.hub place slot)
-  fed_slot most a place piece w v hub (inl fits) = (
-    Some (record { serial = fits.received.slot.serial; link = fits.received.next }),
-    fits.received.after_is,
+      → (link : Option LinkValue) × (hub ≡ with_slot a.hub place link)
+  fed_slot most a place piece w v hub (inl fits) =
+      (Some fits.received.next, fits.received.after_is)
+  fed_slot most a place piece w v hub (inr (inl failed)) =
+      (Some (link_after_failure failed.link), failed.after_is)
+  fed_slot most a place piece w v hub (inr (inr large)) = (
+    Some (link_after_refusal large.refused.received.link large.reply a.time),
+    refused_piece does fault_reply place a.hub w piece large.reply a.time v hub large.refused,
   )
-  fed_slot most a place piece w v hub (inr (inl failed)) = (
-    Some (record { serial = failed.slot.serial; link = link_after_failure failed.slot.link }),
-    failed.after_is,
-  )
-  fed_slot most a place piece w v hub (inr (inr large)) =
-      let last : LinkValue = link_after_refusal large.reply a.time in
-      let r = large.refused in (
-        Some (record { serial = r.received.slot.serial; link = last }),
-        refused_link a.hub r.full hub place r.received.slot r.refused.slot r.received.next last
-            r.received.found r.received.after_is r.refused.found r.refused.after_is,
-      )
 
   pub feeds_piece : (most : ℕ) (a b : ServerValue) (place : ℕ) (piece : List ℕ) (w v : S) (hub :
       HubValue) (old : SeatValue) (needs : NeedsFeeding a place)
       → slice_get a.seats place ≡ Some old → piece ≡ next_piece old.unfed
       → ReceivesWithin does fault_reply most place a.hub w piece a.time v hub
       → b ≡ with_seat a place hub (seat_after_step old (drop (length piece) old.unfed))
-      → FeedsNext does fault_reply most a w place needs.slot.serial piece v b
+      → FeedsNext does fault_reply most a w place needs.link.serial piece v b
       × StepsAt place a b
   feeds_piece most a b place piece w v hub old needs found piece_is fed is =
       let same : old ≡ needs.seat = same_seat a.seats place old needs.seat found

@@ -5,20 +5,20 @@ use Rattle.std.proofs.lemmas.Option.{slice_get-get_or}
 use Rattle.http_hub.specs.HubRuns.{pending_of}
 use Rattle.http_hub.specs.Hubs.{HubValue, IsAt, link_at, link_in}
 use Rattle.http_hub.proofs.PlaceLemmas.{found_at, found_within}
-use Rattle.http_hub.specs.declared.slot.Slot.{Slot}
+use Rattle.http_hub.specs.Links.{LinkValue}
 use Rattle.hub_server.specs.Seats.{SeatValue}
 use Rattle.hub_server.specs.Servers.{ServerValue}
 
 -- ---- what a hub shows of a place
 
-pub pending_at : (hub : HubValue) (place : ℕ) (slot : Slot) → IsAt hub place slot
-    → pending_of (link_at hub place) ≡ slot.link.pending
-pending_at hub place slot at = ap (λ (t : Option (Option Slot)). pending_of (link_in t)) at
+pub pending_at : (hub : HubValue) (place : ℕ) (link : LinkValue) → IsAt hub place link
+    → pending_of (link_at hub place) ≡ link.pending
+pending_at hub place link at = ap (λ (t : Option (Option LinkValue)). pending_of (link_in t)) at
 
 -- the connection at a place is one
-pub same_slot : (hub : HubValue) (place : ℕ) (slot other : Slot) → IsAt hub place slot
-    → IsAt hub place other → slot ≡ other
-same_slot hub place slot other at also = cc (at, also)
+pub same_link : (hub : HubValue) (place : ℕ) (link other : LinkValue) → IsAt hub place link
+    → IsAt hub place other → link ≡ other
+same_link hub place link other at also = cc (at, also)
 
 pub same_seat : (seats : List SeatValue) (place : ℕ) (seat other : SeatValue)
     → slice_get seats place ≡ Some seat → slice_get seats place ≡ Some other → seat ≡ other

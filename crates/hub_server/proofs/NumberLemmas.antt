@@ -5,31 +5,30 @@ use Rattle.std.proofs.Common.{slice_set}
 use Rattle.std.proofs.lemmas.Bool.{eqb-false, eqb-true}
 use Rattle.http_hub.specs.Hubs.{HubValue, IsAt, new_hub, with_link, with_slot}
 use Rattle.http_hub.specs.Links.{LinkValue, new_link}
-use Rattle.http_hub.specs.declared.slot.Slot.{Slot}
 use Rattle.http_hub.proofs.PlaceLemmas.{set_other, set_same}
 
 -- each open connection was opened before, and no two have the same serial number
 pub record AreNumbered (hub : HubValue) : Type 0 where
-  pub earlier : (place : ℕ) (slot : Slot) → IsAt hub place slot → slot.serial < hub.opened
-  pub apart : (place other : ℕ) (slot another : Slot) → IsAt hub place slot → IsAt hub other another
-      → slot.serial ≡ another.serial → place ≡ other
+  pub earlier : (place : ℕ) (link : LinkValue) → IsAt hub place link → link.serial < hub.opened
+  pub apart : (place other : ℕ) (link another : LinkValue) → IsAt hub place link
+      → IsAt hub other another → link.serial ≡ another.serial → place ≡ other
 
-pub none_there : (limit place : ℕ) (slot : Slot) → slice_get (replicate limit None) place
-    ≡ Some (Some slot) → ⊥
-none_there zero place slot e = cc e
-none_there (suc limit) zero slot e = cc e
-none_there (suc limit) (suc place) slot e = none_there limit place slot e
+pub none_there : (limit place : ℕ) (link : LinkValue) → slice_get (replicate limit None) place
+    ≡ Some (Some link) → ⊥
+none_there zero place link e = cc e
+none_there (suc limit) zero link e = cc e
+none_there (suc limit) (suc place) link e = none_there limit place link e
 
 pub numbered_new : (limit : ℕ) → AreNumbered (new_hub limit)
 numbered_new limit = record {
-  earlier = λ place slot at. absurd (none_there limit place slot at);
-  apart = λ place other slot another at other_at same. absurd (none_there limit place slot at);
+  earlier = λ place link at. absurd (none_there limit place link at);
+  apart = λ place other link another at other_at same. absurd (none_there limit place link at);
 }
 
 -- what a place has after a write at some place
-at_same : (slots : List (Option Slot)) (place n : ℕ) (old changed : Option Slot) (one : Slot)
-    → place ≡ n → slice_get slots place ≡ Some old → slice_get (slice_set slots place changed) n
-    ≡ Some (Some one) → changed ≡ Some one
+at_same : (slots : List (Option LinkValue)) (place n : ℕ) (old changed : Option LinkValue) (one :
+    LinkValue) → place ≡ n → slice_get slots place ≡ Some old
+    → slice_get (slice_set slots place changed) n ≡ Some (Some one) → changed ≡ Some one
 at_same slots place n old changed one same found at =
     let here : slice_get (slice_set slots place changed) place ≡ Some changed =
     set_same slots place changed old found in
@@ -37,34 +36,36 @@ at_same slots place n old changed one same found at =
     ap (λ m. slice_get (slice_set slots place changed) m) same ∙ at in
     cc (here, there)
 
-at_other : (slots : List (Option Slot)) (place n : ℕ) (changed : Option Slot) (one : Slot)
-    → (place ≡ n → ⊥) → slice_get (slice_set slots place changed) n ≡ Some (Some one)
+at_other : (slots : List (Option LinkValue)) (place n : ℕ) (changed : Option LinkValue) (one :
+    LinkValue) → (place ≡ n → ⊥) → slice_get (slice_set slots place changed) n ≡ Some (Some one)
     → slice_get slots n ≡ Some (Some one)
 at_other slots place n changed one apart at = sym (set_other slots place n changed apart) ∙ at
 
-same_some : (x y : Slot) → Some x ≡ Some y → x ≡ y
+same_some : (x y : LinkValue) → Some x ≡ Some y → x ≡ y
 same_some x y same = cc same
 
 module _ (hub : HubValue) (is : AreNumbered hub) where
-  -- a change of a link
-  module _ (place : ℕ) (slot : Slot) (link : LinkValue) (found : IsAt hub place slot) where
-    before_changed : (n : ℕ) (one : Slot) (t : Bool) → (place == n) ≡ t
-        → IsAt (with_link hub place slot.serial link) n one → (old : Slot) × IsAt hub n old
+  -- a change of a connection
+  module _ (place : ℕ) (link next : LinkValue) (found : IsAt hub place link)
+      (kept : next.serial ≡ link.serial) where
+    before_changed : (n : ℕ) (one : LinkValue) (t : Bool) → (place == n) ≡ t
+        → IsAt (with_link hub place next) n one → (old : LinkValue) × IsAt hub n old
         × (old.serial ≡ one.serial)
     before_changed n one true e at =
         let same : place ≡ n = eqb-true place n e in
-        let changed : Slot = record { serial = slot.serial; link = link } in
-        let is_it : changed ≡ one = same_some changed one (at_same hub.slots place n (Some slot)
-        (Some changed) one same found at) in
-        (slot, subst (λ m. IsAt hub m slot) same found, ap (λ (s : Slot). s.serial) is_it)
+        let is_it : next ≡ one = same_some next one (at_same hub.slots place n (Some link)
+        (Some next) one same found at) in (
+          link,
+          subst (λ m. IsAt hub m link) same found,
+          sym kept ∙ ap (λ (l : LinkValue). l.serial) is_it,
+        )
     before_changed n one false e at = (
       one,
-      at_other hub.slots place n (Some (record { serial = slot.serial; link = link })) one
-          (eqb-false place n e) at,
+      at_other hub.slots place n (Some next) one (eqb-false place n e) at,
       refl,
     )
 
-    pub numbered_changed : AreNumbered (with_link hub place slot.serial link)
+    pub numbered_changed : AreNumbered (with_link hub place next)
     numbered_changed = record {
       earlier = λ n one at.
           let old = before_changed n one (place == n) refl at in
@@ -76,11 +77,11 @@ module _ (hub : HubValue) (is : AreNumbered hub) where
     }
 
   -- the end of a connection
-  module _ (place : ℕ) (slot : Slot) (found : IsAt hub place slot) where
-    before_ended : (n : ℕ) (one : Slot) (t : Bool) → (place == n) ≡ t
+  module _ (place : ℕ) (link : LinkValue) (found : IsAt hub place link) where
+    before_ended : (n : ℕ) (one : LinkValue) (t : Bool) → (place == n) ≡ t
         → IsAt (with_slot hub place None) n one → IsAt hub n one
     before_ended n one true e at =
-        let no : None ≡ Some one = at_same hub.slots place n (Some slot) None one
+        let no : None ≡ Some one = at_same hub.slots place n (Some link) None one
         (eqb-true place n e) found at in
         absurd (cc no)
     before_ended n one false e at = at_other hub.slots place n None one (eqb-false place n e) at
@@ -96,33 +97,29 @@ module _ (hub : HubValue) (is : AreNumbered hub) where
   -- a new connection
   module _ (place now : ℕ) (free : slice_get hub.slots place ≡ Some None) where
     -- the new connection, or an older one
-    pub data OpenedAt (n : ℕ) (one : Slot) : Type 0 where
+    pub data OpenedAt (n : ℕ) (one : LinkValue) : Type 0 where
       Newest : place ≡ n → one.serial ≡ hub.opened → OpenedAt n one
       Older : IsAt hub n one → OpenedAt n one
 
-    which_opened : (n : ℕ) (one : Slot) (t : Bool) → (place == n) ≡ t
-        → slice_get (slice_set hub.slots place (Some (record {
-          serial = hub.opened;
-          link = new_link now;
-        }))) n ≡ Some (Some one) → OpenedAt n one
+    which_opened : (n : ℕ) (one : LinkValue) (t : Bool) → (place == n) ≡ t
+        → slice_get (slice_set hub.slots place (Some (new_link hub.opened now))) n
+        ≡ Some (Some one) → OpenedAt n one
     which_opened n one true e at =
         let same : place ≡ n = eqb-true place n e in
-        let opened : Slot = record { serial = hub.opened; link = new_link now } in
+        let opened : LinkValue = new_link hub.opened now in
         let is_it : opened ≡ one = same_some opened one (at_same hub.slots place n None
         (Some opened) one same free at) in
-        Newest same (ap (λ (s : Slot). s.serial) (sym is_it))
+        Newest same (ap (λ (l : LinkValue). l.serial) (sym is_it))
     which_opened n one false e at =
-        Older (at_other hub.slots place n (Some (record {
-          serial = hub.opened;
-          link = new_link now;
-        })) one (eqb-false place n e) at)
+        Older (at_other hub.slots place n (Some (new_link hub.opened now)) one
+        (eqb-false place n e) at)
 
-    opened_earlier : (n : ℕ) (one : Slot) → OpenedAt n one → one.serial < suc hub.opened
+    opened_earlier : (n : ℕ) (one : LinkValue) → OpenedAt n one → one.serial < suc hub.opened
     opened_earlier n one (Newest same serial_is) = omega (arith, serial_is)
     opened_earlier n one (Older at) = let before : one.serial < hub.opened = is.earlier n one at in
         omega (arith, before)
 
-    opened_apart : (n m : ℕ) (one two : Slot) → OpenedAt n one → OpenedAt m two
+    opened_apart : (n m : ℕ) (one two : LinkValue) → OpenedAt n one → OpenedAt m two
         → one.serial ≡ two.serial → n ≡ m
     opened_apart n m one two (Newest same serial_is) (Newest other_same other_serial) serials =
         sym same ∙ other_same
@@ -137,10 +134,7 @@ module _ (hub : HubValue) (is : AreNumbered hub) where
 
     pub numbered_opened : AreNumbered
         (record {
-          slots = slice_set hub.slots place (Some (record {
-            serial = hub.opened;
-            link = new_link now;
-          }));
+          slots = slice_set hub.slots place (Some (new_link hub.opened now));
           opened = suc hub.opened;
         })
     numbered_opened = record {

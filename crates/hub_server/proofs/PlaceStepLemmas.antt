@@ -5,9 +5,8 @@ use Rattle.std.proofs.Common.{◌≡◌, ◌∙◌, ◌⊎◌, ◌<◌, ◌≤�
 use Rattle.std.proofs.Common.{ap, subst, inl, inr, arith, length, slice_get}
 use Rattle.std.proofs.lemmas.List.{set-set}
 use Rattle.http_hub.specs.Hubs.{HubValue, SendsAt, with_slot}
-use Rattle.http_hub.specs.Links.{has_expired}
+use Rattle.http_hub.specs.Links.{LinkValue, has_expired}
 use Rattle.http_hub.specs.Links.{link_after_sent}
-use Rattle.http_hub.specs.declared.slot.Slot.{Slot}
 use Rattle.http_hub.proofs.PlaceLemmas.{set_same, set_other}
 use Rattle.hub_server.specs.EndpointRuns.{EndpointRelation, ReachesByActs}
 use Rattle.hub_server.specs.Endpoints.EndpointEvent.{CloseEvent, ReadEvent, ReadNone, ReadEnd}
@@ -44,12 +43,13 @@ keeps_with_seat a place seat = record {
   listener = refl;
 }
 
--- a change of the seat and of the slot
-pub keeps_with_slot : (a : ServerValue) (place : ℕ) (hub : HubValue) (slot : Option Slot) (seat :
-    SeatValue) → hub ≡ with_slot a.hub place slot → KeepsOthers place a (with_seat a place hub seat)
-keeps_with_slot a place hub slot seat is = record {
+-- a change of the seat and of the connection
+pub keeps_with_slot : (a : ServerValue) (place : ℕ) (hub : HubValue) (link :
+    Option LinkValue) (seat : SeatValue) → hub ≡ with_slot a.hub place link
+    → KeepsOthers place a (with_seat a place hub seat)
+keeps_with_slot a place hub link seat is = record {
   slots = λ other apart. ap (λ (h : HubValue). slice_get h.slots other) is
-      ∙ set_other a.hub.slots place other slot (apart_back place other apart);
+      ∙ set_other a.hub.slots place other link (apart_back place other apart);
   seats = λ other apart. set_other a.seats place other seat (apart_back place other apart);
   time = refl;
   listener = refl;
@@ -173,14 +173,14 @@ steps_asleep a b place old found has is =
       less = less_asleep a place a.hub old (seat_asleep old) refl found has;
     })
 
-pub steps_slot : (a b : ServerValue) (place : ℕ) (hub : HubValue) (slot : Option Slot) (old :
+pub steps_slot : (a b : ServerValue) (place : ℕ) (hub : HubValue) (link : Option LinkValue) (old :
     SeatValue) (unfed : List ℕ) → slice_get a.seats place ≡ Some old → HasTurn old
-    → hub ≡ with_slot a.hub place slot
+    → hub ≡ with_slot a.hub place link
     → b ≡ with_seat a place hub (seat_after_step old unfed) → StepsAt place a b
-steps_slot a b place hub slot old unfed found has hub_is is =
+steps_slot a b place hub link old unfed found has hub_is is =
     subst (λ (x : ServerValue). StepsAt place a x) (sym is)
     (record {
-      others = keeps_with_slot a place hub slot (seat_after_step old unfed) hub_is;
+      others = keeps_with_slot a place hub link (seat_after_step old unfed) hub_is;
       less = less_after_step a place hub old unfed found has;
     })
 
@@ -200,7 +200,7 @@ module _ {Endpoint : Type 0} (calls : EndpointRelation Endpoint) where
       → b ≡ with_seat a place a.hub (seat_after_step needs.seat octets)
       → calls s (ReadEvent place octets) t → ReachesByActs calls limits a s b t
   acts_read limits a b place octets s t needs some few is called =
-      act_one calls limits (ReadsFrom place needs.slot.serial octets) (ReadEvent place octets) a b s
+      act_one calls limits (ReadsFrom place needs.link.serial octets) (ReadEvent place octets) a b s
       t
       (record {
         needs = needs;
@@ -216,7 +216,7 @@ module _ {Endpoint : Type 0} (calls : EndpointRelation Endpoint) where
       (needs : NeedsInput a place) → b ≡ with_seat a place a.hub (seat_asleep needs.seat)
       → calls s (ReadNone place) t → ReachesByActs calls limits a s b t
   acts_no_input limits a b place s t needs is called =
-      act_one calls limits (FindsNoInput place needs.slot.serial) (ReadNone place) a b s t
+      act_one calls limits (FindsNoInput place needs.link.serial) (ReadNone place) a b s t
       (record {
         needs = needs;
         serial_is = refl;
@@ -229,10 +229,10 @@ module _ {Endpoint : Type 0} (calls : EndpointRelation Endpoint) where
       → calls t (CloseEvent place) u
       → ReachesByActs calls limits a s b u
   acts_input_ended limits a b place s t u needs left called closed =
-      act_two calls limits (ClosesAt place needs.slot.serial InputEnded) (ReadEnd place)
+      act_two calls limits (ClosesAt place needs.link.serial InputEnded) (ReadEnd place)
       (CloseEvent place) a b s t u
       (record {
-        slot = needs.slot;
+        link = needs.link;
         seat = needs.seat;
         seated = needs.seated;
         serial_is = refl;
@@ -248,10 +248,10 @@ module _ {Endpoint : Type 0} (calls : EndpointRelation Endpoint) where
       (needs : NeedsInput a place) → LeavesPlace a place b → calls s (ReadFault place) t
       → calls t (CloseEvent place) u → ReachesByActs calls limits a s b u
   acts_read_failed limits a b place s t u needs left called closed =
-      act_two calls limits (ClosesAt place needs.slot.serial ReadFailed) (ReadFault place)
+      act_two calls limits (ClosesAt place needs.link.serial ReadFailed) (ReadFault place)
       (CloseEvent place) a b s t u
       (record {
-        slot = needs.slot;
+        link = needs.link;
         seat = needs.seat;
         seated = needs.seated;
         serial_is = refl;
@@ -265,13 +265,13 @@ module _ {Endpoint : Type 0} (calls : EndpointRelation Endpoint) where
   -- writing failed
   pub acts_write_failed : (limits : ServeLimits) (a b : ServerValue) (place : ℕ) (s t u : Endpoint)
       (needs : NeedsOutput a place) → LeavesPlace a place b
-      → calls s (WriteFault place needs.slot.link.pending) t → calls t (CloseEvent place) u
+      → calls s (WriteFault place needs.link.pending) t → calls t (CloseEvent place) u
       → ReachesByActs calls limits a s b u
   acts_write_failed limits a b place s t u needs left called closed =
-      act_two calls limits (ClosesAt place needs.slot.serial (WriteFailed needs.slot.link.pending))
-      (WriteFault place needs.slot.link.pending) (CloseEvent place) a b s t u
+      act_two calls limits (ClosesAt place needs.link.serial (WriteFailed needs.link.pending))
+      (WriteFault place needs.link.pending) (CloseEvent place) a b s t u
       (record {
-        slot = needs.slot;
+        link = needs.link;
         seat = needs.seat;
         seated = needs.seated;
         serial_is = refl;
@@ -287,10 +287,10 @@ module _ {Endpoint : Type 0} (calls : EndpointRelation Endpoint) where
       (needs : NeedsClosing a place) → LeavesPlace a place b → calls s (CloseEvent place) t
       → ReachesByActs calls limits a s b t
   acts_finished limits a b place s t needs left closed =
-      act_one calls limits (ClosesAt place needs.slot.serial SessionClosed) (CloseEvent place) a b s
+      act_one calls limits (ClosesAt place needs.link.serial SessionClosed) (CloseEvent place) a b s
       t
       (record {
-        slot = needs.slot;
+        link = needs.link;
         seat = needs.seat;
         seated = needs.seated;
         serial_is = refl;
@@ -306,11 +306,11 @@ module _ {Endpoint : Type 0} (calls : EndpointRelation Endpoint) where
       (s t : Endpoint) (needs : NeedsOutput a place) → 0 < count
       → SendsAt place a.hub count a.time hub
       → b ≡ with_seat a place hub (seat_after_step needs.seat needs.seat.unfed)
-      → calls s (WriteEvent place needs.slot.link.pending count) t
+      → calls s (WriteEvent place needs.link.pending count) t
       → ReachesByActs calls limits a s b t
   acts_written limits a b place count hub s t needs some sends is called =
-      act_one calls limits (WritesTo place needs.slot.serial needs.slot.link.pending count)
-      (WriteEvent place needs.slot.link.pending count) a b s t
+      act_one calls limits (WritesTo place needs.link.serial needs.link.pending count)
+      (WriteEvent place needs.link.pending count) a b s t
       (record {
         needs = needs;
         serial_is = refl;
@@ -324,10 +324,10 @@ module _ {Endpoint : Type 0} (calls : EndpointRelation Endpoint) where
   -- no pending octet is accepted for now
   pub acts_no_output : (limits : ServeLimits) (a b : ServerValue) (place : ℕ) (s t : Endpoint)
       (needs : NeedsOutput a place) → b ≡ with_seat a place a.hub (seat_asleep needs.seat)
-      → calls s (WriteNone place needs.slot.link.pending) t → ReachesByActs calls limits a s b t
+      → calls s (WriteNone place needs.link.pending) t → ReachesByActs calls limits a s b t
   acts_no_output limits a b place s t needs is called =
-      act_one calls limits (FindsNoOutput place needs.slot.serial needs.slot.link.pending)
-      (WriteNone place needs.slot.link.pending) a b s t
+      act_one calls limits (FindsNoOutput place needs.link.serial needs.link.pending)
+      (WriteNone place needs.link.pending) a b s t
       (record {
         needs = needs;
         serial_is = refl;
@@ -336,14 +336,14 @@ module _ {Endpoint : Type 0} (calls : EndpointRelation Endpoint) where
       }) refl called refl
 
   -- the connection has expired
-  pub acts_expired : (limits : ServeLimits) (a b : ServerValue) (place : ℕ) (slot : Slot) (seat :
-      SeatValue) (s t : Endpoint) → IsSeatedAt a place slot seat
-      → has_expired slot.link a.time limits.patience ≡ true
+  pub acts_expired : (limits : ServeLimits) (a b : ServerValue) (place : ℕ) (link : LinkValue)
+      (seat : SeatValue) (s t : Endpoint) → IsSeatedAt a place link seat
+      → has_expired link a.time limits.patience ≡ true
       → LeavesPlace a place b → calls s (CloseEvent place) t → ReachesByActs calls limits a s b t
-  acts_expired limits a b place slot seat s t seated expired left closed =
-      act_one calls limits (ClosesAt place slot.serial Expired) (CloseEvent place) a b s t
+  acts_expired limits a b place link seat s t seated expired left closed =
+      act_one calls limits (ClosesAt place link.serial Expired) (CloseEvent place) a b s t
       (record {
-        slot = slot;
+        link = link;
         seat = seat;
         seated = seated;
         serial_is = refl;
@@ -426,7 +426,7 @@ module _ {Endpoint : Type 0} (calls : EndpointRelation Endpoint) where
 
   pub writes_some : (a b : ServerValue) (place count : ℕ) (offered : List ℕ) (hub : HubValue) (s t :
       Endpoint) (old : SeatValue) (needs : NeedsOutput a place) → slice_get a.seats place ≡ Some old
-      → offered ≡ needs.slot.link.pending → 0 < count → calls s (WriteEvent place offered count) t
+      → offered ≡ needs.link.pending → 0 < count → calls s (WriteEvent place offered count) t
       → SendsAt place a.hub count a.time hub
       → b ≡ with_seat a place hub (seat_after_step old old.unfed) → StepsOnce place a s b t
   writes_some a b place count offered hub s t old needs found all some called sends is =
@@ -436,15 +436,12 @@ module _ {Endpoint : Type 0} (calls : EndpointRelation Endpoint) where
       is ∙ ap (λ (x : SeatValue). with_seat a place hub (seat_after_step x x.unfed)) same in
       once place a b s t (λ limits. acts_written limits a b place count hub s t needs some sends
       now_is (subst (λ (o : List ℕ). calls s (WriteEvent place o count) t) all called))
-      (steps_slot a b place hub (Some (record {
-        serial = sends.slot.serial;
-        link = link_after_sent sends.slot.link count a.time;
-      })) needs.seat needs.seat.unfed
-      needs.seated.at_seat needs.has_turn sends.after_is now_is)
+      (steps_slot a b place hub (Some (link_after_sent sends.link count a.time)) needs.seat
+      needs.seat.unfed needs.seated.at_seat needs.has_turn sends.after_is now_is)
 
   pub writes_none : (a b : ServerValue) (place : ℕ) (offered : List ℕ) (s t : Endpoint) (old :
       SeatValue) (needs : NeedsOutput a place) → slice_get a.seats place ≡ Some old
-      → offered ≡ needs.slot.link.pending → calls s (WriteNone place offered) t
+      → offered ≡ needs.link.pending → calls s (WriteNone place offered) t
       → b ≡ with_seat a place a.hub (seat_asleep old) → StepsOnce place a s b t
   writes_none a b place offered s t old needs found all called is =
       let same : old ≡ needs.seat = same_seat a.seats place old needs.seat found
@@ -456,7 +453,7 @@ module _ {Endpoint : Type 0} (calls : EndpointRelation Endpoint) where
       (steps_asleep a b place needs.seat needs.seated.at_seat needs.has_turn now_is)
 
   pub writes_fault : (a b : ServerValue) (place : ℕ) (offered : List ℕ) (s t u : Endpoint) (needs :
-      NeedsOutput a place) → offered ≡ needs.slot.link.pending
+      NeedsOutput a place) → offered ≡ needs.link.pending
       → calls s (WriteFault place offered) t → LeavesPlace a place b → calls t (CloseEvent place) u
       → StepsOnce place a s b u
   writes_fault a b place offered s t u needs all called left closed =

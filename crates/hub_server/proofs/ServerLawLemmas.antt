@@ -15,8 +15,7 @@ use Rattle.http_hub.specs.HubRuns.HubStep.{Opens, Receives, Fails, Refuses, Send
 use Rattle.http_hub.specs.Hubs.{EndsAt, FailsAt, HubValue, OpensAt, ReceivesAt, SendsAt}
 use Rattle.http_hub.specs.Hubs.{with_link}
 use Rattle.http_hub.specs.Links.{LinkValue, link_after_failure, link_after_refusal, link_after_sent}
-use Rattle.http_hub.specs.declared.slot.Slot.{Slot}
-use Rattle.http_hub.proofs.HubLemmas.{hubs_separate_connections, refused_link}
+use Rattle.http_hub.proofs.HubLemmas.{hubs_separate_connections, kept_by_piece, refused_piece}
 use Rattle.hub_server.specs.Seats.{SeatValue, next_piece, seat_after_step, seat_asleep}
 use Rattle.hub_server.specs.ServerActs.{AcceptsConnection, ClosesConnection, DoesAct, EndCause}
 use Rattle.hub_server.specs.ServerActs.{ReadsOctets, ServerAct, WritesOctets}
@@ -29,7 +28,7 @@ use Rattle.hub_server.specs.ServerRuns.{ServerRuns, ServerStep}
 use Rattle.hub_server.specs.ServerRuns.ServerStep.{Acts, Feeds}
 use Rattle.hub_server.specs.Servers.{IsSeatedAt, ServerValue, new_server, with_seat}
 use Rattle.hub_server.specs.declared.limits.ServeLimits.{ServeLimits}
-use Rattle.hub_server.proofs.NeedLemmas.{same_slot}
+use Rattle.hub_server.proofs.NeedLemmas.{same_link}
 use Rattle.hub_server.proofs.SeatLemmas.{piece_front, wait_unfed}
 use Rattle.hub_server.proofs.UnfedLemmas.{AreUnfed, with_held, unfed_changed, unfed_closed}
 use Rattle.hub_server.proofs.UnfedLemmas.{unfed_opened, unfed_same, unfed_kept, unfed_with}
@@ -133,7 +132,7 @@ module _ {S : Type 0} (does : HandlerRelation S) (fault_reply : FaultReplies) wh
       → List ℕ) (steps : List ServerStep) (parts : held serial ≡ piece ++ left)
       (run : IsHubRun b v (with_held held serial left) steps x c) where
     receives_on : (received : ReceivesAt does fault_reply place a.hub w piece a.time v b.hub)
-        → received.slot.serial ≡ serial → IsHubRun a w held (Feeds place serial piece ∷ steps) x c
+        → received.link.serial ≡ serial → IsHubRun a w held (Feeds place serial piece ∷ steps) x c
     unfolding HubRuns
     receives_on received serial_is = record {
       hub_steps = Receives serial piece received.receives.replies a.time ∷ run.hub_steps;
@@ -148,7 +147,7 @@ module _ {S : Type 0} (does : HandlerRelation S) (fault_reply : FaultReplies) wh
     }
 
     fails_on : (failed : FailsAt does fault_reply place a.hub w piece v b.hub)
-        → failed.slot.serial ≡ serial → IsHubRun a w held (Feeds place serial piece ∷ steps) x c
+        → failed.link.serial ≡ serial → IsHubRun a w held (Feeds place serial piece ∷ steps) x c
     unfolding HubRuns
     fails_on failed serial_is = record {
       hub_steps = Fails serial piece ∷ run.hub_steps;
@@ -162,7 +161,7 @@ module _ {S : Type 0} (does : HandlerRelation S) (fault_reply : FaultReplies) wh
     }
 
     refuses_on : (reply : List ℕ) (refused : RefusesPieceAt does fault_reply place a.hub w piece
-        reply a.time v b.hub) → refused.received.slot.serial ≡ serial
+        reply a.time v b.hub) → refused.received.link.serial ≡ serial
         → IsHubRun a w held (Feeds place serial piece ∷ steps) x c
     unfolding HubRuns
     refuses_on reply refused serial_is = record {
@@ -202,24 +201,25 @@ module _ {S : Type 0} (does : HandlerRelation S) (fault_reply : FaultReplies) wh
 
   -- the octets of a connection that were not fed
   unfed_of : (a : ServerValue) (held : ℕ → List ℕ) → AreUnfed a held
-      → (place serial : ℕ) (slot : Slot) (seat : SeatValue) → IsSeatedAt a place slot seat
-      → slot.serial ≡ serial → held serial ≡ seat.unfed
-  unfed_of a held unfed place serial slot seat seated serial_is = ap held (sym serial_is)
-      ∙ unfed.there place slot seat seated
+      → (place serial : ℕ) (link : LinkValue) (seat : SeatValue) → IsSeatedAt a place link seat
+      → link.serial ≡ serial → held serial ≡ seat.unfed
+  unfed_of a held unfed place serial link seat seated serial_is = ap held (sym serial_is)
+      ∙ unfed.there place link seat seated
 
   on_reads : (place serial : ℕ) (octets : List ℕ) (a b c : ServerValue) (w v : S) (held : ℕ
       → List ℕ) (steps : List ServerStep) → AreUnfed a held → ReadsOctets a place serial octets b
       → Continues b w steps v c
       → IsHubRun a w held (Acts (ReadsFrom place serial octets) ∷ steps) v c
   on_reads place serial octets a b c w v held steps unfed done more =
-      let hub_is : a.hub ≡ with_link a.hub place done.needs.slot.serial done.needs.slot.link =
-      hub_found a.hub place done.needs.slot done.needs.seated.at_slot in
-      let next : AreUnfed b (with_held held done.needs.slot.serial octets) =
-      unfed_changed a b held unfed place done.needs.slot done.needs.seat (seat_after_step done.needs.seat octets)
-      done.needs.seated done.needs.slot.link a.hub hub_is done.after_is in
+      let hub_is : a.hub ≡ with_link a.hub place done.needs.link =
+      hub_found a.hub place done.needs.link done.needs.seated.at_link in
+      let next : AreUnfed b (with_held held done.needs.link.serial octets) =
+      unfed_changed a b held unfed place done.needs.link done.needs.link done.needs.seat
+      (seat_after_step done.needs.seat octets) done.needs.seated refl a.hub hub_is done.after_is in
       reads_on place serial octets a b c w v held steps
       (sym (ap (λ (x : ServerValue). x.hub) done.after_is)) (unfed_of a held unfed place serial
-      done.needs.slot done.needs.seat done.needs.seated done.serial_is ∙ done.needs.wanted.none_unfed)
+      done.needs.link done.needs.seat done.needs.seated done.serial_is
+      ∙ done.needs.wanted.none_unfed)
       (more (with_held held serial octets) (subst (λ n. AreUnfed b (with_held held n octets))
       done.serial_is next))
 
@@ -228,45 +228,45 @@ module _ {S : Type 0} (does : HandlerRelation S) (fault_reply : FaultReplies) wh
       → WritesOctets a place serial offered count b → Continues b w steps v c
       → IsHubRun a w held (Acts (WritesTo place serial offered count) ∷ steps) v c
   on_writes place serial offered count a b c w v held steps unfed done more =
-      let same : done.sends.slot ≡ done.needs.slot =
-      same_slot a.hub place done.sends.slot done.needs.slot done.sends.found done.needs.seated.at_slot in
+      let same : done.sends.link ≡ done.needs.link =
+      same_link a.hub place done.sends.link done.needs.link done.sends.found
+      done.needs.seated.at_link in
       let hub_is : b.hub ≡ done.hub = ap (λ (x : ServerValue). x.hub) done.after_is in
-      let offered_is : offered ≡ done.sends.slot.link.pending = done.all_pending
-      ∙ ap (λ (s : Slot). s.link.pending) (sym same) in
+      let offered_is : offered ≡ done.sends.link.pending = done.all_pending
+      ∙ ap (λ (l : LinkValue). l.pending) (sym same) in
       let sends : SendsAt place a.hub count a.time b.hub =
       record {
-        slot = done.sends.slot;
+        link = done.sends.link;
         found = done.sends.found;
         count_fits = done.sends.count_fits;
         after_is = hub_is ∙ done.sends.after_is;
       } in
       let moved = sends_step place serial count a.time offered a.hub b.hub sends
-      (ap (λ (s : Slot). s.serial) same ∙ done.serial_is) offered_is in
-      let next : AreUnfed b (with_held held done.needs.slot.serial done.needs.seat.unfed) =
-      unfed_changed a b held unfed place done.needs.slot done.needs.seat
+      (ap (λ (l : LinkValue). l.serial) same ∙ done.serial_is) offered_is in
+      let next : AreUnfed b (with_held held done.needs.link.serial done.needs.seat.unfed) =
+      unfed_changed a b held unfed place done.needs.link
+      (link_after_sent done.sends.link count a.time) done.needs.seat
       (seat_after_step done.needs.seat done.needs.seat.unfed) done.needs.seated
-      (link_after_sent done.sends.slot.link count a.time) done.hub
-      (done.sends.after_is ∙ ap (λ n. with_link a.hub place n (link_after_sent done.sends.slot.link
-      count a.time)) (ap (λ (s : Slot). s.serial) same)) done.after_is in
+      (ap (λ (l : LinkValue). l.serial) same) done.hub done.sends.after_is done.after_is in
       step_on (Sends serial (take count offered) a.time) (WritesTo place serial offered count) a b c
       w v held steps (refl, place, moved.0, moved.1, moved.2) (λ more_steps. refl)
       (λ connection more_steps. sent_by (serial == connection) (take count offered)
       (sent_to connection more_steps)) (λ connection. refl)
-      (held_as b c w v held (with_held held done.needs.slot.serial done.needs.seat.unfed) steps
-      (with_kept held done.needs.slot.serial done.needs.seat.unfed (unfed.there place done.needs.slot done.needs.seat
-      done.needs.seated))
-      (more (with_held held done.needs.slot.serial done.needs.seat.unfed) next))
+      (held_as b c w v held (with_held held done.needs.link.serial done.needs.seat.unfed) steps
+      (with_kept held done.needs.link.serial done.needs.seat.unfed (unfed.there place
+      done.needs.link done.needs.seat done.needs.seated))
+      (more (with_held held done.needs.link.serial done.needs.seat.unfed) next))
 
   on_closes : (limits : ServeLimits) (place serial : ℕ) (cause : EndCause) (a b c : ServerValue)
       (w v : S) (held : ℕ → List ℕ) (steps : List ServerStep) → AreUnfed a held
       → ClosesConnection limits a place serial cause b → Continues b w steps v c
       → IsHubRun a w held (Acts (ClosesAt place serial cause) ∷ steps) v c
   on_closes limits place serial cause a b c w v held steps unfed done more =
-      let same : done.ends.slot ≡ done.slot =
-      same_slot a.hub place done.ends.slot done.slot done.ends.found done.seated.at_slot in
+      let same : done.ends.link ≡ done.link =
+      same_link a.hub place done.ends.link done.link done.ends.found done.seated.at_link in
       let hub_is : b.hub ≡ done.hub = ap (λ (x : ServerValue). x.hub) done.after_is in
       let ends : EndsAt place a.hub b.hub = record {
-        slot = done.ends.slot;
+        link = done.ends.link;
         found = done.ends.found;
         after_is = hub_is ∙ done.ends.after_is;
       } in
@@ -274,10 +274,10 @@ module _ {S : Type 0} (does : HandlerRelation S) (fault_reply : FaultReplies) wh
         refl,
         place,
         ends,
-        ap (λ (s : Slot). s.serial) same ∙ done.serial_is,
+        ap (λ (l : LinkValue). l.serial) same ∙ done.serial_is,
       ) (λ more_steps. refl)
       (λ connection more_steps. refl) (λ connection. refl)
-      (more held (unfed_closed a b held unfed place done.ends.slot done.ends.found done.hub
+      (more held (unfed_closed a b held unfed place done.ends.link done.ends.found done.hub
       done.ends.after_is done.after_is))
 
   on_accepts : (limits : ServeLimits) (place serial : ℕ) (a b c : ServerValue) (w v : S) (held : ℕ
@@ -341,29 +341,30 @@ module _ {S : Type 0} (does : HandlerRelation S) (fault_reply : FaultReplies) wh
   -- ---- a piece
 
   parts_of : (a : ServerValue) (held : ℕ → List ℕ) → AreUnfed a held
-      → (place serial : ℕ) (piece : List ℕ) (slot : Slot) (seat : SeatValue)
-      → IsSeatedAt a place slot seat → slot.serial ≡ serial → piece ≡ next_piece seat.unfed
+      → (place serial : ℕ) (piece : List ℕ) (link : LinkValue) (seat : SeatValue)
+      → IsSeatedAt a place link seat → link.serial ≡ serial → piece ≡ next_piece seat.unfed
       → held serial ≡ piece ++ drop (length piece) seat.unfed
-  parts_of a held unfed place serial piece slot seat seated serial_is piece_is =
+  parts_of a held unfed place serial piece link seat seated serial_is piece_is =
       let front : take (length piece) seat.unfed ≡ piece =
       ap (λ (t : List ℕ). take (length t) seat.unfed) piece_is ∙ piece_front seat.unfed
       ∙ sym piece_is in
-      unfed_of a held unfed place serial slot seat seated serial_is
+      unfed_of a held unfed place serial link seat seated serial_is
       ∙ sym (take-append-drop (length piece) seat.unfed)
       ∙ ap (λ (t : List ℕ). t ++ drop (length piece) seat.unfed) front
 
   module _ (place serial : ℕ) (piece : List ℕ) (a b c : ServerValue) (w v x : S) (held : ℕ
-      → List ℕ) (steps : List ServerStep) (unfed : AreUnfed a held) (slot : Slot) (seat : SeatValue)
-      (seated : IsSeatedAt a place slot seat) (serial_is : slot.serial ≡ serial) (piece_is :
+      → List ℕ) (steps : List ServerStep) (unfed : AreUnfed a held) (link : LinkValue) (seat :
+      SeatValue)
+      (seated : IsSeatedAt a place link seat) (serial_is : link.serial ≡ serial) (piece_is :
       piece ≡ next_piece seat.unfed) (hub : HubValue)
       (is : b ≡ with_seat a place hub (seat_after_step seat (drop (length piece) seat.unfed)))
       (more : Continues b v steps x c) where
-    continues : (link : LinkValue) → hub ≡ with_link a.hub place slot.serial link
+    continues : (after : LinkValue) → after.serial ≡ link.serial → hub ≡ with_link a.hub place after
         → IsHubRun b v (with_held held serial (drop (length piece) seat.unfed)) steps x c
-    continues link hub_is =
-        let next : AreUnfed b (with_held held slot.serial (drop (length piece) seat.unfed)) =
-        unfed_changed a b held unfed place slot seat
-        (seat_after_step seat (drop (length piece) seat.unfed)) seated link hub hub_is is in
+    continues after kept hub_is =
+        let next : AreUnfed b (with_held held link.serial (drop (length piece) seat.unfed)) =
+        unfed_changed a b held unfed place link after seat
+        (seat_after_step seat (drop (length piece) seat.unfed)) seated kept hub hub_is is in
         more (with_held held serial (drop (length piece) seat.unfed))
         (subst (λ n. AreUnfed b (with_held held n (drop (length piece) seat.unfed))) serial_is
         next)
@@ -371,69 +372,65 @@ module _ {S : Type 0} (does : HandlerRelation S) (fault_reply : FaultReplies) wh
     on_received : ReceivesAt does fault_reply place a.hub w piece a.time v hub
         → IsHubRun a w held (Feeds place serial piece ∷ steps) x c
     on_received received =
-        let same : received.slot ≡ slot = same_slot a.hub place received.slot slot received.found
-        seated.at_slot in
-        let serials : received.slot.serial ≡ slot.serial = ap (λ (s : Slot). s.serial) same in
+        let same : received.link ≡ link = same_link a.hub place received.link link received.found
+        seated.at_link in
+        let serials : received.link.serial ≡ link.serial = ap (λ (l : LinkValue). l.serial) same in
         let hub_is : b.hub ≡ hub = ap (λ (y : ServerValue). y.hub) is in
         let there : ReceivesAt does fault_reply place a.hub w piece a.time v b.hub =
         record {
-          slot = received.slot;
+          link = received.link;
           next = received.next;
           found = received.found;
           receives = received.receives;
           after_is = hub_is ∙ received.after_is;
         } in
         receives_on place serial piece (drop (length piece) seat.unfed) a b c w v x held steps
-        (parts_of a held unfed place serial piece slot seat seated serial_is piece_is)
-        (continues received.next (received.after_is
-        ∙ ap (λ n. with_link a.hub place n received.next) serials)) there (serials ∙ serial_is)
+        (parts_of a held unfed place serial piece link seat seated serial_is piece_is)
+        (continues received.next (kept_by_piece does fault_reply received.link w piece a.time v
+        received.next received.receives ∙ serials) received.after_is) there (serials ∙ serial_is)
 
     on_failed : FailsAt does fault_reply place a.hub w piece v hub
         → IsHubRun a w held (Feeds place serial piece ∷ steps) x c
     on_failed failed =
-        let same : failed.slot ≡ slot = same_slot a.hub place failed.slot slot failed.found
-        seated.at_slot in
-        let serials : failed.slot.serial ≡ slot.serial = ap (λ (s : Slot). s.serial) same in
+        let same : failed.link ≡ link = same_link a.hub place failed.link link failed.found
+        seated.at_link in
+        let serials : failed.link.serial ≡ link.serial = ap (λ (l : LinkValue). l.serial) same in
         let hub_is : b.hub ≡ hub = ap (λ (y : ServerValue). y.hub) is in
         let there : FailsAt does fault_reply place a.hub w piece v b.hub =
         record {
-          slot = failed.slot;
+          link = failed.link;
           found = failed.found;
           feeds_in_part = failed.feeds_in_part;
           after_is = hub_is ∙ failed.after_is;
         } in
         fails_on place serial piece (drop (length piece) seat.unfed) a b c w v x held steps
-        (parts_of a held unfed place serial piece slot seat seated serial_is piece_is)
-        (continues (link_after_failure failed.slot.link) (failed.after_is
-        ∙ ap (λ n. with_link a.hub place n (link_after_failure failed.slot.link)) serials))
-        there (serials ∙ serial_is)
+        (parts_of a held unfed place serial piece link seat seated serial_is piece_is)
+        (continues (link_after_failure failed.link) serials failed.after_is) there
+        (serials ∙ serial_is)
 
     on_refused : (reply : List ℕ) → RefusesPieceAt does fault_reply place a.hub w piece reply a.time
         v hub → IsHubRun a w held (Feeds place serial piece ∷ steps) x c
     on_refused reply refused =
         let received = refused.received in
-        let last : LinkValue = link_after_refusal reply a.time in
-        let same : received.slot ≡ slot = same_slot a.hub place received.slot slot received.found
-        seated.at_slot in
-        let serials : received.slot.serial ≡ slot.serial = ap (λ (s : Slot). s.serial) same in
+        let same : received.link ≡ link = same_link a.hub place received.link link received.found
+        seated.at_link in
+        let serials : received.link.serial ≡ link.serial = ap (λ (l : LinkValue). l.serial) same in
         let hub_is : b.hub ≡ hub = ap (λ (y : ServerValue). y.hub) is in
-        let link_is : hub ≡ with_link a.hub place received.slot.serial last =
-        refused_link a.hub refused.full hub place received.slot refused.refused.slot received.next
-        last received.found received.after_is refused.refused.found refused.refused.after_is in
         let there : RefusesPieceAt does fault_reply place a.hub w piece reply a.time v b.hub =
         record {
           full = refused.full;
           received = received;
           reply_is = refused.reply_is;
           refused = record {
-            slot = refused.refused.slot;
+            link = refused.refused.link;
             found = refused.refused.found;
             after_is = hub_is ∙ refused.refused.after_is;
           };
         } in
         refuses_on place serial piece (drop (length piece) seat.unfed) a b c w v x held steps
-        (parts_of a held unfed place serial piece slot seat seated serial_is piece_is)
-        (continues last (link_is ∙ ap (λ n. with_link a.hub place n last) serials)) reply there
+        (parts_of a held unfed place serial piece link seat seated serial_is piece_is)
+        (continues (link_after_refusal received.link reply a.time) serials
+        (refused_piece does fault_reply place a.hub w piece reply a.time v hub refused)) reply there
         (serials ∙ serial_is)
 
     on_fed : (most : ℕ) → ReceivesWithin does fault_reply most place a.hub w piece a.time v hub
@@ -455,8 +452,8 @@ module _ {S : Type 0} (does : HandlerRelation S) (fault_reply : FaultReplies) wh
       on_act limits act a b c w x held steps unfed done (λ held_now unfed_now. law_from limits steps
       b c w x held_now unfed_now here)
   law_from limits (Feeds place serial piece ∷ steps) a c w x held unfed (b, v, done, runs) =
-      on_fed place serial piece a b c w v x held steps unfed done.needs.slot done.needs.seat done.needs.seated
-      done.serial_is done.piece_is done.hub done.after_is
+      on_fed place serial piece a b c w v x held steps unfed done.needs.link done.needs.seat
+      done.needs.seated done.serial_is done.piece_is done.hub done.after_is
       (λ held_now unfed_now. law_from limits steps b c v x held_now unfed_now runs) limits.held
       done.fed
 

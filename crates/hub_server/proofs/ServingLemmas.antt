@@ -6,7 +6,7 @@ use Rattle.std.proofs.lemmas.Bool.{and_right}
 use Rattle.std.proofs.lemmas.List.{length-replicate}
 use Rattle.http_requests.specs.HandlerRuns.{HandlerRelation, FaultReplies}
 use Rattle.http_hub.specs.Hubs.{new_hub}
-use Rattle.http_hub.specs.declared.slot.Slot.{Slot}
+use Rattle.http_hub.specs.Links.{LinkValue}
 use Rattle.hub_server.specs.Acceptings.{FailsAfterActs}
 use Rattle.hub_server.specs.EndpointRuns.{EndpointRelation, FailsAtWait, ReachesByActs}
 use Rattle.hub_server.specs.EndpointRuns.{ReachesByWait}
@@ -34,17 +34,17 @@ on_ok_four P Q R T U (Err error) f p q r t = tt
 
 -- ---- the start
 
-none_at : (limit place : ℕ) (slot : Slot) → slice_get (replicate limit None) place
-    ≡ Some (Some slot) → ⊥
-none_at zero place slot e = cc e
-none_at (suc limit) zero slot e = cc e
-none_at (suc limit) (suc place) slot e = none_at limit place slot e
+none_at : (limit place : ℕ) (link : LinkValue) → slice_get (replicate limit None) place
+    ≡ Some (Some link) → ⊥
+none_at zero place link e = cc e
+none_at (suc limit) zero link e = cc e
+none_at (suc limit) (suc place) link e = none_at limit place link e
 
 pub new_is_ready : (limits : ServeLimits) → IsReadyToWait limits (new_server limits.together)
 new_is_ready limits = record {
-  served = λ place slot seat seated. absurd (none_at limits.together place slot seated.at_slot);
-  none_expired = λ place slot seat seated. absurd (none_at limits.together place slot
-      seated.at_slot);
+  served = λ place link seat seated. absurd (none_at limits.together place link seated.at_link);
+  none_expired = λ place link seat seated. absurd (none_at limits.together place link
+      seated.at_link);
   none_awaited = and_right (has_room limits.connections (new_hub limits.together)) false refl;
 }
 

@@ -1,7 +1,6 @@
 -- Closing the connections of a server that have expired.
 use Rattle.std.specs.Prelude.{◌≡◌, ℕ, true}
-use Rattle.http_hub.specs.Links.{has_expired}
-use Rattle.http_hub.specs.declared.slot.Slot.{Slot}
+use Rattle.http_hub.specs.Links.{LinkValue, has_expired}
 use Rattle.hub_server.specs.EndpointRuns.{EndpointRelation, ReachesByActs}
 use Rattle.hub_server.specs.Needs.{KeepsOthers}
 use Rattle.hub_server.specs.Seats.{SeatValue}
@@ -18,10 +17,10 @@ KeepsNoneExpired limits before after = NoneExpired limits before → NoneExpired
 
 -- the place has a connection, and it has expired
 pub record HasExpiredAt (limits : ServeLimits) (server : ServerValue) (place : ℕ) : Type 0 where
-  pub slot : Slot
+  pub link : LinkValue
   pub seat : SeatValue
-  pub seated : IsSeatedAt server place slot seat
-  pub expired : has_expired slot.link server.time limits.patience ≡ true
+  pub seated : IsSeatedAt server place link seat
+  pub expired : has_expired link server.time limits.patience ≡ true
 
 module _ {Endpoint : Type 0} (calls : EndpointRelation Endpoint) where
   -- the connection at the place was closed if it had expired

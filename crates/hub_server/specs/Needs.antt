@@ -2,7 +2,6 @@
 use Rattle.std.specs.Prelude.{◌≡◌, ◌<◌, ◌-◌, ℕ, List, [], length, Option, Some, None, slice_get}
 use Rattle.http_hub.specs.Hubs.{EndsAt, HubValue}
 use Rattle.http_hub.specs.Links.{LinkValue}
-use Rattle.http_hub.specs.declared.slot.Slot.{Slot}
 use Rattle.hub_server.specs.Seats.{HasTurn, SeatValue, most_steps, new_seat}
 use Rattle.hub_server.specs.Servers.{IsSeatedAt, ServerValue, with_seat}
 use Rattle.hub_server.specs.declared.need.Need.{Need}
@@ -33,43 +32,43 @@ pub record WantsOutput (link : LinkValue) (offered : List ℕ) : Type 0 where
 
 -- the place has a connection, and its turn isn't over
 pub record HasTurnAt (server : ServerValue) (place : ℕ) : Type 0 where
-  pub slot : Slot
+  pub link : LinkValue
   pub seat : SeatValue
-  pub seated : IsSeatedAt server place slot seat
+  pub seated : IsSeatedAt server place link seat
   pub has_turn : HasTurn seat
 
 -- the place has a connection with its turn, and octets are to be read
 pub record NeedsInput (server : ServerValue) (place : ℕ) : Type 0 where
-  pub slot : Slot
+  pub link : LinkValue
   pub seat : SeatValue
-  pub seated : IsSeatedAt server place slot seat
+  pub seated : IsSeatedAt server place link seat
   pub has_turn : HasTurn seat
-  pub wanted : WantsInput slot.link seat
+  pub wanted : WantsInput link seat
 
 -- the same, and octets that were read are to be fed
 pub record NeedsFeeding (server : ServerValue) (place : ℕ) : Type 0 where
-  pub slot : Slot
+  pub link : LinkValue
   pub seat : SeatValue
-  pub seated : IsSeatedAt server place slot seat
+  pub seated : IsSeatedAt server place link seat
   pub has_turn : HasTurn seat
-  pub wanted : WantsFeeding slot.link seat
+  pub wanted : WantsFeeding link seat
 
 -- the same, and the pending octets are to be written
 pub record NeedsOutput (server : ServerValue) (place : ℕ) : Type 0 where
-  pub slot : Slot
+  pub link : LinkValue
   pub seat : SeatValue
-  pub seated : IsSeatedAt server place slot seat
+  pub seated : IsSeatedAt server place link seat
   pub has_turn : HasTurn seat
-  pub wanted : WantsOutput slot.link slot.link.pending
+  pub wanted : WantsOutput link link.pending
 
 -- the same, and the connection is to be closed: its session is closed and no octets are pending
 pub record NeedsClosing (server : ServerValue) (place : ℕ) : Type 0 where
-  pub slot : Slot
+  pub link : LinkValue
   pub seat : SeatValue
-  pub seated : IsSeatedAt server place slot seat
+  pub seated : IsSeatedAt server place link seat
   pub has_turn : HasTurn seat
-  pub session_closed : slot.link.session ≡ None
-  pub none_pending : slot.link.pending ≡ []
+  pub session_closed : link.session ≡ None
+  pub none_pending : link.pending ≡ []
 
 -- the connection at the place needs this
 abbrev pub IsNeed : ServerValue → ℕ → Need → Type 0

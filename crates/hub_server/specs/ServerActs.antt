@@ -17,7 +17,6 @@ use Rattle.hub_server.specs.declared.listener_state.ListenerState.TheVariants.{D
 use Rattle.hub_server.specs.declared.limits.ServeLimits.{ServeLimits}
 use Rattle.http_hub.specs.Hubs.{EndsAt, HubValue, IsFreeAt, OpensAt, SendsAt}
 use Rattle.http_hub.specs.Links.{IsFirstTime, LinkValue, has_expired}
-use Rattle.http_hub.specs.declared.slot.Slot.{Slot}
 
 -- why a connection was closed
 pub data EndCause : Type 0 where
@@ -89,8 +88,8 @@ HasCause limits server link seat Expired =
 
 -- a connection was cut off at the end of its turn
 abbrev pub IsLeft : ServerValue → Type 0
-IsLeft server = (place : ℕ) × (slot : Slot) × (seat : SeatValue)
-    × IsSeatedAt server place slot seat × (is_awake_turn seat.turn ≡ true)
+IsLeft server = (place : ℕ) × (link : LinkValue) × (seat : SeatValue)
+    × IsSeatedAt server place link seat × (is_awake_turn seat.turn ≡ true)
 
 -- Not all connections were served to their end, nothing is left to do before the next wait, and the
 -- wait ends when something is to be done.
@@ -129,7 +128,7 @@ pub record ReadsOctets
     (before : ServerValue) (place serial : ℕ) (octets : List ℕ) (after : ServerValue)
     : Type 0 where
   pub needs : NeedsInput before place
-  pub serial_is : needs.slot.serial ≡ serial
+  pub serial_is : needs.link.serial ≡ serial
   pub some : 0 < length octets
   pub few : length octets ≤ most_read
   pub after_is : after ≡ with_seat before place before.hub (seat_after_step needs.seat octets)
@@ -138,7 +137,7 @@ pub record ReadsOctets
 pub record FindsInputEmpty (before : ServerValue) (place serial : ℕ) (after : ServerValue)
     : Type 0 where
   pub needs : NeedsInput before place
-  pub serial_is : needs.slot.serial ≡ serial
+  pub serial_is : needs.link.serial ≡ serial
   pub after_is : after ≡ with_seat before place before.hub (seat_asleep needs.seat)
 
 -- the first of the pending octets were written, at least one
@@ -146,8 +145,8 @@ pub record WritesOctets
     (before : ServerValue) (place serial : ℕ) (offered : List ℕ) (count : ℕ)
     (after : ServerValue) : Type 0 where
   pub needs : NeedsOutput before place
-  pub serial_is : needs.slot.serial ≡ serial
-  pub all_pending : offered ≡ needs.slot.link.pending
+  pub serial_is : needs.link.serial ≡ serial
+  pub all_pending : offered ≡ needs.link.pending
   pub some : 0 < count
   pub hub : HubValue
   pub sends : SendsAt place before.hub count before.time hub
@@ -158,19 +157,19 @@ pub record FindsOutputFull
     (before : ServerValue) (place serial : ℕ) (offered : List ℕ) (after : ServerValue)
     : Type 0 where
   pub needs : NeedsOutput before place
-  pub serial_is : needs.slot.serial ≡ serial
-  pub all_pending : offered ≡ needs.slot.link.pending
+  pub serial_is : needs.link.serial ≡ serial
+  pub all_pending : offered ≡ needs.link.pending
   pub after_is : after ≡ with_seat before place before.hub (seat_asleep needs.seat)
 
 -- the connection was closed for this cause, and its place is free
 pub record ClosesConnection
     (limits : ServeLimits) (before : ServerValue) (place serial : ℕ) (cause : EndCause)
     (after : ServerValue) : Type 0 where
-  pub slot : Slot
+  pub link : LinkValue
   pub seat : SeatValue
-  pub seated : IsSeatedAt before place slot seat
-  pub serial_is : slot.serial ≡ serial
-  pub has_cause : HasCause limits before slot.link seat cause
+  pub seated : IsSeatedAt before place link seat
+  pub serial_is : link.serial ≡ serial
+  pub has_cause : HasCause limits before link seat cause
   pub hub : HubValue
   pub ends : EndsAt place before.hub hub
   pub after_is : after ≡ with_seat before place hub new_seat

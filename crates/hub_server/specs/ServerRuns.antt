@@ -41,7 +41,7 @@ module _ {State : Type 0} (does : HandlerRelation State) (fault_reply : FaultRep
       (most : ℕ) (before : ServerValue) (old : State) (place serial : ℕ) (piece : List ℕ)
       (new : State) (after : ServerValue) : Type 0 where
     pub needs : NeedsFeeding before place
-    pub serial_is : needs.slot.serial ≡ serial
+    pub serial_is : needs.link.serial ≡ serial
     pub piece_is : piece ≡ next_piece needs.seat.unfed
     pub hub : HubValue
     pub fed : ReceivesWithin does fault_reply most place before.hub old piece before.time new hub

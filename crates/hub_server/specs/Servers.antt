@@ -6,8 +6,7 @@ use Rattle.hub_server.specs.declared.listener_state.ListenerState.{ListenerState
 use Rattle.hub_server.specs.declared.listener_state.ListenerState.TheVariants.{Idle, Ready}
 use Rattle.hub_server.specs.declared.listener_state.ListenerState.TheVariants.{Deferred}
 use Rattle.http_hub.specs.Hubs.{HubValue, IsAt, any_expired, is_full, new_hub, open_count}
-use Rattle.http_hub.specs.Links.{has_expired}
-use Rattle.http_hub.specs.declared.slot.Slot.{Slot}
+use Rattle.http_hub.specs.Links.{LinkValue, has_expired}
 use Rattle.hub_server.specs.declared.limits.ServeLimits.{ServeLimits}
 
 -- the connections, a seat for each place, whether connections wait to be accepted, and the time of
@@ -28,15 +27,15 @@ new_server limit = record {
 }
 
 -- the place has this connection and this seat
-pub record IsSeatedAt (server : ServerValue) (place : ℕ) (slot : Slot) (seat : SeatValue)
+pub record IsSeatedAt (server : ServerValue) (place : ℕ) (link : LinkValue) (seat : SeatValue)
     : Type 0 where
-  pub at_slot : IsAt server.hub place slot
+  pub at_link : IsAt server.hub place link
   pub at_seat : slice_get server.seats place ≡ Some seat
 
 -- every connection has a place below this number
 abbrev pub AreSeatedBelow : ServerValue → ℕ → Type 0
-AreSeatedBelow server end = (place : ℕ) (slot : Slot) (seat : SeatValue)
-    → IsSeatedAt server place slot seat → place < end
+AreSeatedBelow server end = (place : ℕ) (link : LinkValue) (seat : SeatValue)
+    → IsSeatedAt server place link seat → place < end
 
 -- the server with this hub and this seat at the place
 abbrev pub with_seat : ServerValue → ℕ → HubValue → SeatValue → ServerValue
@@ -83,14 +82,14 @@ is_due connections patience is_left server time =
 
 -- every connection that was ready was served, until it wasn't ready any more or had its turn
 abbrev pub AreTurnsOver : ServerValue → Type 0
-AreTurnsOver server = (place : ℕ) (slot : Slot) (seat : SeatValue)
-    → IsSeatedAt server place slot seat → IsTurnOver seat
+AreTurnsOver server = (place : ℕ) (link : LinkValue) (seat : SeatValue)
+    → IsSeatedAt server place link seat → IsTurnOver seat
 
 -- no connection has expired
 abbrev pub NoneExpired : ServeLimits → ServerValue → Type 0
-NoneExpired limits server = (place : ℕ) (slot : Slot) (seat : SeatValue)
-    → IsSeatedAt server place slot seat
-    → has_expired slot.link server.time limits.patience ≡ false
+NoneExpired limits server = (place : ℕ) (link : LinkValue) (seat : SeatValue)
+    → IsSeatedAt server place link seat
+    → has_expired link server.time limits.patience ≡ false
 
 -- all connections were accepted, and none is open any more
 pub record IsServerDone (connections : ℕ) (server : ServerValue) : Type 0 where

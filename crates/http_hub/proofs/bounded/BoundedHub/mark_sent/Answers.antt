@@ -7,7 +7,7 @@ use Rattle.http_hub.proofs.bounded.BoundedHub.mark_sent.Goals as goal
 pub large_part-next-requires : goal.large_part-next-requires
 large_part-next-requires c =
     let sends = c.mark_sent.ensures in
-    open_changed c.args.place sends.slot.serial sends.slot (link_after_sent sends.slot.link
+    open_changed c.args.place sends.link (link_after_sent sends.link
     c.args.count c.args.now) c.self.inside.hub c.mark_sent.new.self sends.found sends.after_is
 
 pub invariant_of-self : goal.invariant_of-self

@@ -6,10 +6,10 @@ use Rattle.http_hub.proofs.HoldingLemmas.{open_received, others_of, received_sum
 use Rattle.http_hub.proofs.bounded.BoundedHub.receive.Goals as goal
 
 pub receive_beside-requires-clause-others : goal.receive_beside-requires-clause-others
-receive_beside-requires-clause-others g c = λ slot at.
+receive_beside-requires-clause-others g c = λ link at.
     let left = c.saturating_sub-others.ensures in
     let all = others_of c.self.inside.large_sum c.large_part-part.result c.args.place
-    c.self.inside.hub c.self.invariant.0 c.large_part-part.ensures.part slot at in
+    c.self.inside.hub c.self.invariant.0 c.large_part-part.ensures.part link at in
     omega (arith, left, all)
 
 pub large_part-next-requires : goal.large_part-next-requires

@@ -1,8 +1,8 @@
 use Rattle.std.proofs.Common.{◌≡◌, ◌∙◌, ◌<◌, ◌-◌, Some, None, List, Option, ap, arith, sym, subst}
 use Rattle.std.proofs.Common.{slice_get, slice_set}
 use Rattle.http_hub.specs.Hubs.{HubValue}
+use Rattle.http_hub.specs.Links.{LinkValue}
 use Rattle.http_hub.specs.PlaceCounts.{AreOpenBelow, CountsPlaces}
-use Rattle.http_hub.specs.declared.slot.Slot.{Slot}
 use Rattle.http_hub.proofs.PlaceCountLemmas.{count_some, counts_closed, counts_less}
 use Rattle.http_hub.proofs.hub.Hub.end.Goals as goal
 
@@ -23,7 +23,7 @@ last_end-self-inside-requires-clause-below c =
     (c.self.inside.open_count - 1) c.self.inside.places_end =
     counts_closed c.self.inside.slots.items c.self.inside.open_count c.self.inside.places_end
     c.args.place c.requires.0 c.self.invariant found in
-    subst (λ (xs : List (Option Slot)). AreOpenBelow xs c.self.inside.places_end)
+    subst (λ (xs : List (Option LinkValue)). AreOpenBelow xs c.self.inside.places_end)
     (sym c.deref.ensures.value) closed.below
 
 pub invariant_of-self : goal.invariant_of-self
@@ -36,6 +36,6 @@ invariant_of-self c =
     c.args.place c.requires.0 c.self.invariant found in
     counts_less (slice_set c.self.inside.slots.items c.args.place None)
     (c.self.inside.open_count - 1) c.self.inside.places_end c.last_end-self-inside.result closed
-    (subst (λ (xs : List (Option Slot)). AreOpenBelow xs c.last_end-self-inside.result)
+    (subst (λ (xs : List (Option LinkValue)). AreOpenBelow xs c.last_end-self-inside.result)
     c.deref.ensures.value c.last_end-self-inside.ensures.below)
     c.last_end-self-inside.ensures.less

@@ -12,6 +12,7 @@ returns c =
     let since = c.self.inside.request_since in
     let patience : ℕ = c.args.patience in
     let seen : LinkValue = record {
+      serial = c.self.inside.serial;
       session = c.self.inside.session;
       pending = drop c.self.inside.sent_count c.self.inside.out.items;
       reply_length = length c.self.inside.out.items;

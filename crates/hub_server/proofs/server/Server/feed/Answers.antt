@@ -101,7 +101,7 @@ returns g c =
     c.receive.new.handler c.receive.new.self c.index_mut.result.now
     c.requires found piece_is fed after_is in
     record {
-      fed = (c.requires.slot.serial, c.piece-piece.result.now, done.0);
+      fed = (c.requires.link.serial, c.piece-piece.result.now, done.0);
       others = done.1.others;
       less = done.1.less;
     }

@@ -14,14 +14,14 @@ loop-place-preserved c =
       time = c.self.inside.time;
     } in
     none_left_more c.args.self.now c.loop-place.place c.loop-place.invariant
-    (λ slot seat seated awake.
+    (λ link seat seated awake.
     elim c.else-is_open.branch [
       | else-is_open-via-then-is_open+else-is_awake w ↦
-          asleep_there seen c.args.self.now c.loop-place.place slot seat w.index.result.now
+          asleep_there seen c.args.self.now c.loop-place.place link seat w.index.result.now
           w.is_awake.result c.self.view_is seated w.index.ensures w.is_awake.ensures
           w.if-is_awake.false awake
       | else-is_open-via-else-is_open w ↦
-          none_there seen c.args.self.now c.loop-place.place slot seat c.is_open.result
+          none_there seen c.args.self.now c.loop-place.place link seat c.is_open.result
           c.self.view_is seated c.is_open.ensures w.if-is_open.false
     ])
 

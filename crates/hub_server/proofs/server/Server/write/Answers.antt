@@ -20,10 +20,10 @@ returns-in-Octets g c =
     let found : slice_get c.args.self.now.seats c.args.place ≡ Some c.index_mut.result.now =
     read_at seen c.args.self.now c.args.place c.requires.seat c.index_mut.result.now c.self.view_is
     c.requires.seated.at_seat c.index_mut.ensures.value in
-    let all : c.pending.result.now ≡ c.requires.slot.link.pending =
+    let all : c.pending.result.now ≡ c.requires.link.pending =
     c.pending.ensures ∙ ap (λ (x : ServerValue). pending_of (link_at x.hub c.args.place))
-    c.self.view_is ∙ pending_at c.args.self.now.hub c.args.place c.requires.slot
-    c.requires.seated.at_slot in
+    c.self.view_is ∙ pending_at c.args.self.now.hub c.args.place c.requires.link
+    c.requires.seated.at_link in
     let sends : SendsAt c.args.place c.args.self.now.hub c.in-Octets.count c.args.self.now.time
     c.mark_sent.new.self =
     subst (λ (x : ServerValue). SendsAt c.args.place x.hub c.in-Octets.count x.time
@@ -53,10 +53,10 @@ returns-in-NoneNow g c =
     ≡ Some c.index_mut-in-NoneNow.result.now =
     read_at seen c.args.self.now c.args.place c.requires.seat c.index_mut-in-NoneNow.result.now
     c.self.view_is c.requires.seated.at_seat c.index_mut-in-NoneNow.ensures.value in
-    let all : c.pending.result.now ≡ c.requires.slot.link.pending =
+    let all : c.pending.result.now ≡ c.requires.link.pending =
     c.pending.ensures ∙ ap (λ (x : ServerValue). pending_of (link_at x.hub c.args.place))
-    c.self.view_is ∙ pending_at c.args.self.now.hub c.args.place c.requires.slot
-    c.requires.seated.at_slot in
+    c.self.view_is ∙ pending_at c.args.self.now.hub c.args.place c.requires.link
+    c.requires.seated.at_link in
     let after_is : after ≡ with_seat c.args.self.now c.args.place c.args.self.now.hub
     (seat_asleep c.index_mut-in-NoneNow.result.now) =
     ap (λ (x : ServerValue). with_seat x c.args.place x.hub c.sleep.new.self) c.self.view_is
@@ -69,10 +69,10 @@ returns-in-NoneNow g c =
 
 pub returns-in-Failed : goal.returns-in-Failed
 returns-in-Failed g c =
-    let all : c.pending.result.now ≡ c.requires.slot.link.pending =
+    let all : c.pending.result.now ≡ c.requires.link.pending =
     c.pending.ensures ∙ ap (λ (x : ServerValue). pending_of (link_at x.hub c.args.place))
-    c.self.view_is ∙ pending_at c.args.self.now.hub c.args.place c.requires.slot
-    c.requires.seated.at_slot in
+    c.self.view_is ∙ pending_at c.args.self.now.hub c.args.place c.requires.link
+    c.requires.seated.at_link in
     let done = writes_fault g.E.Endpoint.calls c.args.self.now c.close.new.self c.args.place
     c.pending.result.now c.args.endpoint.now c.write.new.self c.close.new.endpoint c.requires
     all c.in-Failed.ensures.event

@@ -1,7 +1,7 @@
 use Rattle.std.proofs.Common.{◌≡◌, ◌∙◌, Some, None, ap, slice_get}
 use Rattle.http_hub.specs.Hubs.{HubValue}
 use Rattle.http_hub.proofs.PlaceCountLemmas.{counts_opened, later_end}
-use Rattle.http_hub.proofs.hub.Hub.put_slot.Goals as goal
+use Rattle.http_hub.proofs.hub.Hub.put_link.Goals as goal
 
 pub invariant_of-self : goal.invariant_of-self
 invariant_of-self c =
@@ -10,4 +10,4 @@ invariant_of-self c =
     let end = later_end c.self.inside.slots.items c.args.place c.self.inside.places_end
     c.max-self-inside.result free c.self.invariant.within c.max-self-inside.ensures in
     counts_opened c.self.inside.slots.items c.self.inside.open_count c.self.inside.places_end
-    c.args.place c.max-self-inside.result c.args.slot c.self.invariant free end.0 end.1 end.2
+    c.args.place c.max-self-inside.result c.args.link c.self.invariant free end.0 end.1 end.2
