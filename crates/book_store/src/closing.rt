@@ -9,10 +9,11 @@ ghost use Rattle.store_tables.specs.SchemaCreation.{empty_schema};
 ghost use Rattle.sync_core.specs.StoreModels.{KeepsBooks, KeepsTerms};
 ghost use Rattle.std.specs.Prelude.{◌≡◌, IfOk, OnOk, false};
 
+use crate::over_files::into_connection;
 use crate::real_files::{OpensFiles, RealFiles};
 use crate::schema_creation::is_schema_empty;
 use crate::sql_store::SqlStore;
-use named_files::log_name;
+use named_files::{drop_connection, log_name};
 use sqlite::{Alter, Connection, FileStore, Files};
 use sqlite_disk::Disk;
 use sqlite_std_file::{FileFrom, Unknown};
@@ -34,7 +35,7 @@ impl<D: Disk + Drop> SqlStore<FileStore<D>> {
         ensures was_open { IfOk result (λ files. AreClean D.Disk files.log files.db
             → IsOpenOnHonestDisk over_files self.conn) }
     {
-        match self.into_connection().close_files() {
+        match into_connection(self).close_files() {
             Ok(files) => Ok(files),
             Err((error, _store)) => Err(open_fault_of(error)),
         }
@@ -64,7 +65,14 @@ impl<S: Alter> SqlStore<S> {
         ensures keeps_books { KeepsBooks (table_model S.Store) self.old self.new }
         ensures reads_only { OnlyReads S.Store self.old.conn self.new.conn }
     {
-        let copy = self.copy_into(target)?;
+        let rows = match self.list_rows() {
+            Ok(rows) => rows,
+            Err(fault) => {
+                drop_connection(target);
+                return Err(fault);
+            }
+        };
+        let copy = self.copy_rows_to_files(rows, &[], target)?;
         copy.close()
     }
 }
@@ -127,8 +135,7 @@ fn fill_if_empty<S: Alter, D: Disk + Drop>(
     requires { connection.in_transaction ≡ false }
 {
     if !is_schema_empty(connection.schema()) {
-        // Said, since the proof of a drop that isn't costs three times as much here.
-        drop(connection);
+        drop_connection(connection);
         return Err(OpenFault::NotEmpty);
     }
     fill_new(rt, books, connection, target, log)

@@ -5,7 +5,7 @@ ghost use Rattle.named_files.specs.FileOpenings.{OpensFound};
 use crate::files::open_refusal;
 use crate::sql_store::SqlStore;
 use book_model::Limits;
-use named_files::{NamedFiles, SystemFiles, connect_found};
+use named_files::{NamedFiles, SystemFiles, connect_found, into_store};
 use sqlite::{FileStore, Leftover};
 use sqlite_std_file::{FileFrom, Start, Unknown};
 use std::alloc::Global;
@@ -43,7 +43,7 @@ impl<S: Start> SqlStore<FileStore<FileFrom<S>>> {
             Ok(connection) => {
                 let mut conn = connection;
                 let found = find_faulty_row(alloc, &mut conn, Limits::standard());
-                (found, Some(Leftover::Store(conn.into_store())))
+                (found, Some(Leftover::Store(into_store(conn))))
             }
             Err((error, left)) => {
                 let (fault, left) = open_refusal(alloc, error, left);

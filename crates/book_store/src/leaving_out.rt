@@ -12,10 +12,12 @@ ghost use Rattle.std.specs.Prelude.{◌≡◌, ◌≤◌, IfOk, OnOk, false};
 
 use crate::closing::{check_both_free, forget_log, log_of, remove_new};
 use crate::copy_fault::{CopyFault, fault_of};
+use crate::over_files::{into_connection, resync};
 use crate::real_files::{OpensFiles, RealFiles};
 use crate::sql_store::SqlStore;
 use base_types::Text;
 use book_model::Refusal;
+use named_files::drop_connection;
 use sqlite::{Alter, Connection, FileStore, Files};
 use sqlite_disk::Disk;
 use sqlite_std_file::{FileFrom, Unknown};
@@ -37,12 +39,15 @@ fn restart_copy<D: Disk + Drop>(
         → AreRestarted D.Disk made.0 copy.limits (stored_books over_files copy.conn) pairs) }
 {
     let mut copy = copy;
-    match copy.resync(pairs) {
+    match resync(&mut copy, pairs) {
         Ok(books) => {
             let files = copy.close()?;
             Ok((files, books))
         }
-        Err(denied) => Err(fault_of(denied)),
+        Err(denied) => {
+            drop_connection(into_connection(copy));
+            Err(fault_of(denied))
+        }
     }
 }
 
@@ -75,12 +80,19 @@ impl<S: Alter> SqlStore<S> {
         ensures keeps_books { KeepsBooks (table_model S.Store) self.old self.new }
         ensures reads_only { OnlyReads S.Store self.old.conn self.new.conn }
     {
-        let rows = self.list_rows()?;
+        let rows = match self.list_rows() {
+            Ok(rows) => rows,
+            Err(fault) => {
+                drop_connection(target);
+                return Err(CopyFault::Open(fault));
+            }
+        };
         if !has_books(&rows, names) {
+            drop_connection(target);
             return Err(CopyFault::Refused(Refusal::NoSuchBook));
         }
         let pairs = restarting_pairs(&rows);
-        let copy = self.copy_rows(rows, names, target)?;
+        let copy = self.copy_rows_to_files(rows, names, target)?;
         restart_copy(copy, pairs)
     }
 }

@@ -15,6 +15,7 @@ pub mod laws;
 mod leaving_out;
 mod named_stores;
 mod opening;
+mod over_files;
 mod real_files;
 mod restarting;
 mod resyncing;

@@ -17,9 +17,10 @@ ghost use Rattle.std.specs.FinMap as finite;
 ghost use Rattle.std.specs.Prelude.{◌≡◌, IfErr, IfOk, IsTrue, true};
 
 use crate::files::{FileBooksFrom, creation_refusal, open_refusal};
+use crate::over_files::try_adopt;
 use crate::sql_store::SqlStore;
 use book_model::Limits;
-use named_files::{NamedFiles, connect_found, is_empty_without_log};
+use named_files::{NamedFiles, connect_found, into_store, is_empty_without_log};
 use sqlite::{FileStore, Leftover};
 use sqlite_std_file::{FileFrom, Start};
 use std::alloc::Global;
@@ -62,7 +63,7 @@ impl<S: Start> SqlStore<FileStore<FileFrom<S>>> {
         match files.connect(path, true, start) {
             Ok(connection) => match SqlStore::try_adopt_new(alloc, connection, limits) {
                 Ok(store) => Ok(store),
-                Err((fault, conn)) => Err((fault, Some(Leftover::Store(conn.into_store())))),
+                Err((fault, conn)) => Err((fault, Some(Leftover::Store(into_store(conn))))),
             },
             Err((error, left)) => Err(creation_refusal(alloc, error, left)),
         }
@@ -107,9 +108,9 @@ impl<S: Start> SqlStore<FileStore<FileFrom<S>>> {
             (declared_over holds.trees) refused.0 refused.1) }
     {
         match connect_found(files, path, start) {
-            Ok(connection) => match SqlStore::try_adopt(alloc, connection, limits) {
+            Ok(connection) => match try_adopt(alloc, connection, limits) {
                 Ok(store) => Ok(store),
-                Err((fault, conn)) => Err((fault, Some(Leftover::Store(conn.into_store())))),
+                Err((fault, conn)) => Err((fault, Some(Leftover::Store(into_store(conn))))),
             },
             Err((error, left)) => Err(open_refusal(alloc, error, left)),
         }

@@ -8,6 +8,7 @@ ghost use Rattle.std.specs.Prelude.{◌≡◌, IfOk, false, true};
 use crate::closing::remove_new;
 use crate::files::open_standard;
 use crate::sql_store::SqlStore;
+use named_files::drop_connection;
 use sqlite::{Connection, FileStore};
 use sqlite_disk::Disk;
 use sqlite_std_file::{FileFrom, Unknown};
@@ -48,6 +49,7 @@ fn open_new(
             // Before anything is written that others may not read.
             if take_mode(rt, path, target, log).is_err() {
                 remove_new(rt, target, log);
+                drop_connection(connection);
                 return Err(OpenFault::Store);
             }
             Ok(connection)

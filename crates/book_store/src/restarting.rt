@@ -14,7 +14,7 @@ ghost use Rattle.store_writes.specs.TableChanges.{TreesHold};
 ghost use Rattle.sync_core.specs.StoreCrashes.{IsSettled, RestartsFrom};
 ghost use Rattle.std.specs.Prelude.{◌≡◌, IfErr, IfOk, IsTrue};
 
-use crate::laws::stores_survive_crashes;
+use crate::over_files::{assert_settled, into_connection, try_adopt};
 use crate::sql_store::SqlStore;
 use book_model::Limits;
 use named_files as runs;
@@ -34,8 +34,7 @@ impl<D: Disk + Drop> SqlStore<FileStore<D>> {
             → LeaveSealedOneOf D.Disk result (TreesHold (stored_books (file_state self.conn))) }
         ensures clean { AreClean D.Disk result.log result.db → HasCleanDisk (file_state self.conn) }
     {
-        stores_survive_crashes::<FileStore<D>>();
-        runs::into_files(self.into_connection())
+        runs::into_files(into_connection(self))
     }
 
     /// Opens the store that an earlier run left in its files.
@@ -71,9 +70,12 @@ impl<D: Disk + Drop> SqlStore<FileStore<D>> {
         ensures leaves { IfErr result (λ refused. LeavesTheSame files refused.1) }
     {
         match runs::open_again(alloc, files, options) {
-            Ok(connection) => match SqlStore::try_adopt(alloc, connection, limits) {
+            Ok(connection) => match try_adopt(alloc, connection, limits) {
                 Ok(store) => Ok(store),
-                Err((fault, connection)) => Err((fault, Leftover::Store(connection.into_store()))),
+                Err((fault, connection)) => Err((
+                    fault,
+                    Leftover::Store(runs::into_store(connection)),
+                )),
             },
             Err((error, left)) => Err((open_fault_of(error), left)),
         }
@@ -109,7 +111,7 @@ impl<D: Crash + Drop> SqlStore<FileStore<D>> {
             Ok(store) => store,
             Err(refused) => return Err(refused),
         };
-        store.assert_settled();
+        assert_settled(&store);
         Ok(store)
     }
 }
@@ -131,7 +133,7 @@ pub fn open_left<D: Crash + Drop>(
         Ok(store) => store,
         Err(refused) => return Err(refused),
     };
-    store.assert_settled();
+    assert_settled(&store);
     Ok(store)
 }
 

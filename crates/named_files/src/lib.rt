@@ -13,5 +13,5 @@ pub use laws::new_files_are_empty;
 pub use log_names::log_name;
 pub use named_files::{Connected, NamedFiles, Refused};
 pub use opening::{connect_found, is_empty_without_log};
-pub use runs::{crash_files, crash_left, into_files, open_again};
+pub use runs::{crash_files, crash_left, drop_connection, into_files, into_store, open_again};
 pub use system::SystemFiles;

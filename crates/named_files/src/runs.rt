@@ -5,17 +5,39 @@ ghost use Rattle.named_files.specs.Restarts.{LeaveSealedOneOf, ShowsOpened};
 ghost use Rattle.sqlite.specs.Effect.{Database};
 ghost use Rattle.sqlite.specs.Files.{Finds, HoldsDatabase, IsCleanLeft, IsOpened, LeavesFiles};
 ghost use Rattle.sqlite.specs.Files.{file_state, image_of};
-ghost use Rattle.sqlite.specs.Held.{IsNew};
+ghost use Rattle.sqlite.specs.Held.{AreDatabases, IsNew};
 ghost use Rattle.sqlite.specs.Recovery.{Image};
 ghost use Rattle.sqlite.specs.State.{HasCleanDisk};
 ghost use Rattle.sqlite.specs.Tree.{Trees};
 ghost use Rattle.sqlite.specs.WalFiles.{outcomes};
 ghost use Rattle.sqlite.specs.WalReads.{AreClean};
+ghost use Rattle.sqlite_store.specs.FileStore.{faults, is_shielded, recovers, view};
+ghost use Rattle.sqlite_trees.specs.View.{IsClean, IsQuiet, IsRolledBack};
 ghost use Rattle.std.specs.Prelude.{IfErr, IfOk, IsTrue};
 
 use sqlite::{Connection, Error, FileStore, Files, Leftover, Options};
 use sqlite_disk::{Crash, Disk};
 use std::alloc::Global;
+
+/// `Connection::into_store` of a connection to files: it rolls back a transaction that is open, and
+/// returns the store. What a crash leaves of that is what it could leave of the connection, and it
+/// obeys its own schema.
+///
+/// Callers use this one. The proof of a call over any store, made with the store over files, takes
+/// 20 seconds; the proof of a call of this function takes one.
+pub fn into_store<D: Disk + Drop>(connection: Connection<FileStore<D>>) -> FileStore<D>
+    ensures numbered { IsClean (view result) → IsTrue (view result).is_numbered }
+    ensures sound { IsClean (view result) → AreDatabases (recovers result) }
+    ensures undone { IsRolledBack (view connection.store) (view result) }
+    ensures quiet { IsQuiet view faults recovers is_shielded connection.store result }
+{
+    connection.into_store()
+}
+
+/// Drops a connection to files. Callers use it for the same reason.
+pub fn drop_connection<D: Disk + Drop>(connection: Connection<FileStore<D>>) {
+    drop(connection)
+}
 
 /// Ends the use of a connection without writing: a transaction that is open is rolled back. Returns
 /// the files.
@@ -27,7 +49,7 @@ pub fn into_files<D: Disk + Drop>(connection: Connection<FileStore<D>>) -> Files
     ensures sealed { LeaveSealedOneOf D.Disk result (file_state connection).may_leave }
     ensures clean { AreClean D.Disk result.log result.db → HasCleanDisk (file_state connection) }
 {
-    connection.into_store().close()
+    into_store(connection).close()
 }
 
 /// The files after a crash.

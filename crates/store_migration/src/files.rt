@@ -10,7 +10,7 @@ ghost use Rattle.store_migration.specs.Migration.{
 };
 
 use crate::migrating::migrate_connection;
-use named_files::{NamedFiles, SystemFiles, connect_found};
+use named_files::{NamedFiles, SystemFiles, connect_found, drop_connection, into_store};
 use sqlite::{Connection, Error, ErrorCode, FileStore, Leftover};
 use sqlite_std_file::{FileFrom, Start, Unknown};
 use std::alloc::Global;
@@ -56,7 +56,7 @@ pub fn migrate_in<S: Start, F: NamedFiles<S>>(
             let mut conn = connection;
             match migrate_connection(alloc, &mut conn) {
                 Ok(books) => Ok((books, conn)),
-                Err(fault) => Err((fault, Some(Leftover::Store(conn.into_store())))),
+                Err(fault) => Err((fault, Some(Leftover::Store(into_store(conn))))),
             }
         }
         Err((error, Some(left))) => {
@@ -73,7 +73,10 @@ pub fn migrate_in<S: Start, F: NamedFiles<S>>(
 pub fn migrate(rt: &HostRuntime, path: &str) -> Result<u64, OpenFault> {
     let mut files = SystemFiles::new(rt);
     match migrate_in(&mut files, rt.alloc(), path, Unknown) {
-        Ok((books, _conn)) => Ok(books),
+        Ok((books, connection)) => {
+            drop_connection(connection);
+            Ok(books)
+        }
         Err((fault, _left)) => Err(fault),
     }
 }

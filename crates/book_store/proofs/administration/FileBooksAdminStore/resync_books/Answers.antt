@@ -1,4 +1,4 @@
-use Rattle.std.proofs.Common.{◌≡◌, ◌≤◌, ℕ, Result, arith, refl, subst, sym}
+use Rattle.std.proofs.Common.{◌≡◌, ℕ, Result, subst}
 use Rattle.book_resync.specs.Resyncs.{Resyncs, some_pairs}
 use Rattle.book_model.specs.declared.denied.Denied.{Denied}
 use Rattle.book_resync.specs.Resyncing.{resync_step}
@@ -21,18 +21,7 @@ resyncs_pairs g old new pairs some r are made = record {
       books n)) are made.leaves_step;
 }
 
-some_are : (pairs : ℕ) → 1 ≤ pairs → pairs ≡ some_pairs pairs
-some_are pairs some = grind (arith, some)
-
-pub returns-then-pairs-eq0-clause-resyncs : goal.returns-then-pairs-eq0-clause-resyncs
-returns-then-pairs-eq0-clause-resyncs c =
-    let none : c.args.pairs ≡ 0 = omega (arith, c.if-pairs-eq0.true) in
-    resyncs_pairs _ c.args.self.now c.resync.new.self c.args.pairs 1 c.resync.result
-    (subst (λ (n : ℕ). 1 ≡ some_pairs n) (sym none) refl) c.resync.ensures.changes
-
-pub returns-else-pairs-eq0-clause-resyncs : goal.returns-else-pairs-eq0-clause-resyncs
-returns-else-pairs-eq0-clause-resyncs c =
-    let some : 1 ≤ c.args.pairs = omega (arith, c.if-pairs-eq0.false) in
-    resyncs_pairs _ c.args.self.now c.resync-else-pairs-eq0.new.self c.args.pairs c.args.pairs
-    c.resync-else-pairs-eq0.result (some_are c.args.pairs some)
-    c.resync-else-pairs-eq0.ensures.changes
+pub returns-clause-resyncs : goal.returns-clause-resyncs
+returns-clause-resyncs c =
+    resyncs_pairs _ c.args.self.now c.resync.new.store c.args.pairs c.at_least_one.result
+    c.resync.result c.at_least_one.ensures.value c.resync.ensures.changes

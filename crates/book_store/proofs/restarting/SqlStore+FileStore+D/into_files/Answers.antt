@@ -13,7 +13,7 @@ returns-clause-books g c =
     → LeaveSealedOneOf g.D.Disk c.into_files.result (TreesHold (stored_books (file_state k))))
     c.into_connection.ensures.same_connection
     (left_books c.into_connection.result c.args.self.limits c.into_files.result
-    c.stores_survive_crashes.ensures c.into_connection.ensures.is_store
+    c.into_connection.ensures.survives c.into_connection.ensures.is_store
     c.into_files.ensures.sealed)
 
 pub returns-clause-leaves : goal.returns-clause-leaves

@@ -14,9 +14,9 @@ returns-clause-rest g c =
     let books = stored_books (file_state c.in_ok-copy.copy.conn) in
     both c.restart_copy.result _ _ _ (λ made restarted was_open honest clean.
     restarted_rest made.0 c.args.self.now.limits (state g.S.Store c.args.self.now.conn)
-    (file_state c.in_ok-copy.copy.conn) c.args.names.now c.in_ok-rows.rows
+    (file_state c.in_ok-copy.copy.conn) c.args.names.now c.in-Ok.rows
     c.restarting_pairs-pairs.result
-    (c.in_ok-rows.ensures.lists honest) (c.in_ok-copy.ensures.rest (was_open clean))
+    (c.in-Ok.ensures.lists honest) (c.in_ok-copy.ensures.rest (was_open clean))
     c.restarting_pairs-pairs.ensures.above
     (subst (λ l. AreRestarted g.D.Disk made.0 l books c.restarting_pairs-pairs.result) same
     (restarted clean))) c.restart_copy.ensures.restarted c.restart_copy.ensures.was_open
@@ -25,6 +25,6 @@ pub returns-clause-named : goal.returns-clause-named
 returns-clause-named g c =
     let each : IsTrue c.has_books.result = search (rules) in
     always c.restart_copy.result (λ honest.
-    let listed = c.in_ok-rows.ensures.lists honest in
-    names_are_books (state g.S.Store c.args.self.now.conn).now c.in_ok-rows.rows c.args.names.now
+    let listed = c.in-Ok.ensures.lists honest in
+    names_are_books (state g.S.Store c.args.self.now.conn).now c.in-Ok.rows c.args.names.now
     listed.has listed.sound (c.has_books.ensures each))
