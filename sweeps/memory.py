@@ -1,6 +1,6 @@
 """Refuses each allocation of built programs in turn, and checks the outcome.
 
-    memory.py [PROGRAM]            the cases of crates/test_faults, whose program is
+    memory.py [PROGRAM]            the cases of the part `memory` of
                                    crates/test_all/out/test_all
     memory.py --program CONTACTS   orders of the built program `contacts` over files
     --short                        only each 50th allocation

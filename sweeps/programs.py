@@ -50,7 +50,7 @@ def counted(ran):
 
 
 class Cases:
-    """The cases of test_faults, each named on standard input."""
+    """The cases of the part `memory`, each named on standard input."""
 
     def __init__(self, program, shim):
         self.program, self.shim = program, shim

@@ -3,147 +3,123 @@
 //! may choose one part, as `part cards`, or one case of the part `memory`, to be run alone.
 #![tactic(auto)]
 
+mod commands;
+mod damage;
+mod first_schema;
+mod lives;
+mod memory;
+mod stops;
+mod tables;
+
+use crate::commands::run_sections;
+use crate::damage::run_lines;
+use crate::memory::{run_all_cases, run_chosen};
+use crate::stops::run_sweeps;
+use crate::tables::{NewTables, TablesInMemory};
 use std::fs;
 use std::io::{Read, Write};
 use std::process::ExitCode;
-use test_connections::run_connection_rows;
-use test_faults::{run_all_cases, run_chosen, run_sweeps};
-use test_stores::{run_lines, run_sections};
-use test_support::{check_cards, check_formats};
+use test_connections::{run_calls, run_connection_rows};
+use test_support::{Printout, check_rows};
+
+/// A part.
+#[derive(Clone, Copy)]
+enum Part {
+    /// Calls with little free memory. This part is run first, since it allocates all memory that
+    /// the process can have. It has no rows.
+    Memory,
+    /// Reading and writing of cards, and the formats of the service.
+    Rows,
+    /// Lists of commands, over three kinds of stores.
+    Commands,
+    /// Connections over a store, a reader or a writer that fails.
+    Connections,
+    /// Calls of an endpoint and of the service. They have no rows.
+    Calls,
+    /// Damaged tables.
+    Damage,
+    /// Disks that fail.
+    Stops,
+}
+
+/// The parts, in the order in which they are run.
+const PARTS: [(&str, Part); 8] = [
+    ("memory", Part::Memory),
+    ("cards", Part::Rows),
+    ("formats", Part::Rows),
+    ("commands", Part::Commands),
+    ("connections", Part::Connections),
+    ("endpoints", Part::Calls),
+    ("damage", Part::Damage),
+    ("stops", Part::Stops),
+];
 
 fn print(rt: &HostRuntime, octets: &[u8]) -> bool {
     rt.stdout().write_all(octets).is_ok()
 }
 
-/// Prints the title of a part.
-fn print_title(rt: &HostRuntime, part: &str) -> bool {
-    print(rt, b"######## ") && print(rt, part.as_bytes()) && print(rt, b"\n")
-}
-
-/// Prints the output of the part. Returns whether that succeeded.
-fn print_part(rt: &HostRuntime, part: &str, output: &[u8]) -> bool {
-    print_title(rt, part) && print(rt, output) && print(rt, b"\n")
-}
-
-/// Calls with little free memory. This part is run first, since it allocates all memory that the
-/// process can have, and it has no rows. Returns whether all its cases were run, as do the
-/// functions of the other parts.
-fn run_memory(rt: &HostRuntime) -> bool {
-    print_title(rt, "memory") && run_all_cases(rt).is_ok() && print(rt, b"\n")
-}
-
-/// Reading and writing of cards.
-fn run_cards(rt: &HostRuntime, part: &str, rows: &str) -> bool {
-    match check_cards(rt.alloc(), rows) {
-        Ok(output) => print_part(rt, part, output.as_bytes()),
-        Err(_) => false,
-    }
-}
-
-/// The formats of the service.
-fn run_formats(rt: &HostRuntime, part: &str, rows: &str) -> bool {
-    match check_formats(rt.alloc(), rows) {
-        Ok(output) => print_part(rt, part, output.as_bytes()),
-        Err(_) => false,
-    }
-}
-
-/// Lists of commands, over three kinds of stores.
-fn run_commands(rt: &HostRuntime, part: &str, rows: &str) -> bool {
-    let mut output = String::new(rt.alloc());
-    let ran = run_sections(rt, rows, &mut output).is_ok();
-    print_part(rt, part, output.as_bytes()) && ran
-}
-
-/// Connections over a store, a reader or a writer that fails.
-fn run_connections(rt: &HostRuntime, part: &str, rows: &[u8]) -> bool {
-    match run_connection_rows(rt.alloc(), rows) {
-        Ok(printed) => print_part(rt, part, printed.as_slice()),
-        Err(_) => false,
-    }
-}
-
-/// Damaged tables.
-fn run_damage(rt: &HostRuntime, part: &str, rows: &str) -> bool {
-    let mut output = String::new(rt.alloc());
-    let ran = run_lines(rt.alloc(), rows, &mut output).is_ok();
-    print_part(rt, part, output.as_bytes()) && ran
-}
-
-/// Disks that fail.
-fn run_stops(rt: &HostRuntime, part: &str, rows: &str) -> bool {
-    match run_sweeps(rt.alloc(), rows) {
-        Ok(output) => print_part(rt, part, output.as_bytes()),
-        Err(_) => false,
-    }
-}
-
-/// Runs a part whose rows are text.
-fn run_text(rt: &HostRuntime, part: &str, rows: &str) -> bool {
+/// The output for the rows, of a part that has rows.
+fn output_of<N: NewTables>(rt: &HostRuntime, tables: &N, part: Part, rows: &[u8]) -> Printout {
+    let text = str::from_utf8(rows).unwrap_or("** not UTF-8 **");
     match part {
-        "cards" => run_cards(rt, part, rows),
-        "formats" => run_formats(rt, part, rows),
-        "commands" => run_commands(rt, part, rows),
-        "damage" => run_damage(rt, part, rows),
-        "stops" => run_stops(rt, part, rows),
-        _ => false,
+        Part::Memory => Printout::new(rt.alloc()),
+        Part::Rows => check_rows(rt.alloc(), text),
+        Part::Commands => run_sections(rt, tables, text),
+        Part::Connections => run_connection_rows(rt.alloc(), rows),
+        Part::Calls => run_calls(rt),
+        Part::Damage => run_lines(rt.alloc(), tables, text),
+        Part::Stops => run_sweeps(rt.alloc(), text),
     }
 }
 
-/// Runs the part, whose rows are in the file of its name. The rows of `connections` needn't be
-/// UTF-8.
-fn run_part(rt: &HostRuntime, part: &str) -> bool {
-    let Ok(rows) = fs::read(rt, part) else {
-        return false;
-    };
-    if part == "connections" {
-        return run_connections(rt, part, rows.as_slice());
-    }
-    match str::from_utf8(rows.as_slice()) {
-        Ok(text) => run_text(rt, part, text),
+/// Prints the output of the part for the rows. Returns whether that succeeded, and all was run.
+fn print_output<N: NewTables>(rt: &HostRuntime, tables: &N, part: Part, rows: &[u8]) -> bool {
+    let output = output_of(rt, tables, part, rows);
+    print(rt, output.as_slice()) && output.result().is_ok()
+}
+
+/// Runs a part whose rows are in the file of its name.
+fn run_with_rows<N: NewTables>(rt: &HostRuntime, tables: &N, name: &str, part: Part) -> bool {
+    match fs::read(rt, name) {
+        Ok(rows) => print_output(rt, tables, part, rows.as_slice()),
         Err(_) => false,
     }
 }
 
-/// The parts that have rows, in the order in which they are run.
-const PARTS: [&str; 6] = [
-    "cards",
-    "formats",
-    "commands",
-    "connections",
-    "damage",
-    "stops",
-];
+/// Runs a part, and prints its output below its name. Returns whether that succeeded, and all was
+/// run.
+fn run_part<N: NewTables>(rt: &HostRuntime, tables: &N, name: &str, part: Part) -> bool {
+    let titled = print(rt, b"######## ") && print(rt, name.as_bytes()) && print(rt, b"\n");
+    let ran = match part {
+        Part::Memory => run_all_cases(rt, tables).is_ok(),
+        Part::Calls => print_output(rt, tables, part, b""),
+        _ => run_with_rows(rt, tables, name, part),
+    };
+    titled && ran && print(rt, b"\n")
+}
 
-fn run_all(rt: &HostRuntime) -> bool {
-    if !run_memory(rt) {
-        return false;
-    }
-    for part in PARTS {
-        if !run_part(rt, part) {
-            return false;
+/// Runs the part of that name, or all parts if it is empty.
+fn run_parts<N: NewTables>(rt: &HostRuntime, tables: &N, chosen: &str) -> bool {
+    let mut found = false;
+    for (name, part) in PARTS {
+        if chosen.is_empty() || chosen == name {
+            if !run_part(rt, tables, name, part) {
+                return false;
+            }
+            found = true;
         }
     }
-    true
-}
-
-/// Runs one part alone.
-fn run_one(rt: &HostRuntime, part: &str) -> bool {
-    if part == "memory" {
-        run_memory(rt)
-    } else {
-        run_part(rt, part)
-    }
+    found
 }
 
 /// Runs what standard input chooses: one part, one case of the part `memory`, or else all parts.
-fn run_input(rt: &HostRuntime, input: &str) -> bool {
+fn run_input<N: NewTables>(rt: &HostRuntime, tables: &N, input: &str) -> bool {
     if input.is_empty() {
-        return run_all(rt);
+        return run_parts(rt, tables, "");
     }
     match input.strip_prefix("part ") {
-        Some(part) => run_one(rt, part),
-        None => run_chosen(rt, input).is_ok(),
+        Some(part) => run_parts(rt, tables, part),
+        None => run_chosen(rt, tables, input).is_ok(),
     }
 }
 
@@ -155,7 +131,7 @@ fn main(rt: HostRuntime) -> ExitCode {
     let Ok(chosen) = str::from_utf8(input.as_slice()) else {
         return ExitCode::FAILURE;
     };
-    if run_input(&rt, chosen.trim()) {
+    if run_input(&rt, &TablesInMemory, chosen.trim()) {
         ExitCode::SUCCESS
     } else {
         ExitCode::FAILURE

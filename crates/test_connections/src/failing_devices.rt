@@ -2,29 +2,21 @@
 //! until none fails. The row's other connections then show the books.
 
 use crate::devices::{FailingReader, FailingWriter};
-use crate::parts::{Connection, Row};
-use crate::serving::push_replies;
+use crate::parts::Connections;
+use crate::service::new_service;
+use crate::serving::print_connections;
 use base_types::NoMemory;
-use book_http::{ServeFault, Service, serve};
+use book_http::{ServeFault, serve};
 use http_requests::Handler;
 use std::alloc::Global;
 use std::io;
-use sync_core::{Limits, PlainStore};
+use test_support::{Printout, Supply};
 
 /// The device that fails.
 #[derive(Clone, Copy)]
 enum Device {
     Reader,
     Writer,
-}
-
-impl Device {
-    fn name(self) -> &'static str {
-        match self {
-            Device::Reader => "read",
-            Device::Writer => "write",
-        }
-    }
 }
 
 /// The outcome of a connection.
@@ -35,7 +27,7 @@ struct Outcome {
     /// The octets written.
     written: Vec<u8>,
     /// The replies to the row's other connections afterwards.
-    books: Vec<u8>,
+    books: Printout,
 }
 
 impl Outcome {
@@ -53,22 +45,9 @@ impl Outcome {
     }
 }
 
-/// Adds the replies to the connections.
-fn push_books<H: Handler>(
-    alloc: Global,
-    handler: &mut H,
-    connections: &[Connection],
-    out: &mut Vec<u8>,
-) -> Result<(), NoMemory> {
-    for connection in connections {
-        out.extend_from_slice(b"\n")?;
-        push_replies(alloc, handler, connection.octets, out)?;
-    }
-    Ok(())
-}
-
 /// Serves the octets with a reader and a writer, of which the device fails at that read or write.
-/// Returns how it ended, and the octets written.
+/// Returns how it ended, and the octets written. (As with `feed` of `test_support`, who calls it
+/// learns nothing of what is proved of `serve`.)
 fn serve_failing<H: Handler>(
     alloc: Global,
     handler: &mut H,
@@ -88,39 +67,42 @@ fn serve_failing<H: Handler>(
 
 /// The outcome of the connections over the service; the first one has the failing device.
 fn outcome_of<H: Handler>(
-    alloc: Global,
     handler: &mut H,
-    connections: &[Connection],
+    connections: Connections,
     device: Device,
     fails_at: u64,
-) -> Result<Outcome, NoMemory> {
-    let first = connections.first().map(|first| first.octets);
-    let octets = first.unwrap_or_default();
-    let (served, written) = serve_failing(alloc, handler, octets, device, fails_at);
-    let others = connections.get(1..).unwrap_or_default();
-    let mut outcome = Outcome {
+    supply: &mut Supply,
+) -> Outcome {
+    let alloc = supply.alloc;
+    let first = connections.first();
+    let (served, written) = serve_failing(alloc, handler, first.octets, device, fails_at);
+    let mut books = Printout::new(alloc);
+    print_connections(handler, first.others, false, &mut books);
+    supply.note(books.result());
+    Outcome {
         served,
         written,
-        books: Vec::new(alloc),
-    };
-    push_books(alloc, handler, others, &mut outcome.books)?;
-    Ok(outcome)
+        books,
+    }
 }
 
-/// The outcome of the row if the device fails at that read or write.
+/// The outcome if the device fails at that read or write. `NoMemory` if no service can be made.
 fn outcome_at(
-    alloc: Global,
-    row: &Row,
+    connections: Connections,
     device: Device,
     fails_at: u64,
+    supply: &mut Supply,
 ) -> Result<Outcome, NoMemory> {
-    let store = PlainStore::new(alloc, Limits::standard());
-    let mut service = Service::new(alloc, store)?;
-    let connections = row.connections.as_slice();
-    outcome_of(alloc, &mut service, connections, device, fails_at)
+    match new_service(supply) {
+        Some(service) => {
+            let mut service = service;
+            Ok(outcome_of(&mut service, connections, device, fails_at, supply))
+        }
+        None => Err(NoMemory),
+    }
 }
 
-fn format_end(served: Result<(), ServeFault>) -> &'static str {
+fn end_text(served: Result<(), ServeFault>) -> &'static str {
     match served {
         Ok(()) => "served to the end",
         Err(ServeFault::Read) => "a fault of the reader",
@@ -130,113 +112,74 @@ fn format_end(served: Result<(), ServeFault>) -> &'static str {
     }
 }
 
-/// Adds a line for an outcome that was first seen at that read or write.
-fn push_outcome_line(
-    alloc: Global,
-    device: Device,
-    fails_at: u64,
-    outcome: &Outcome,
-    out: &mut Vec<u8>,
-) -> Result<(), NoMemory> {
-    let (name, end) = (device.name(), format_end(outcome.served));
-    let written = outcome.written.len();
-    let line = format!(in alloc;
-        "\n-- failing at {name} {fails_at} and on: {end}, {written} octets written"
-    )?;
-    let pushed = out.extend_from_slice(line.as_bytes());
-    drop(line);
-    pushed?;
-    Ok(out.extend_from_slice(outcome.books.as_slice())?)
+/// Prints a line for an outcome that was first seen at that read or write, and its books.
+fn print_outcome(device: Device, fails_at: u64, outcome: &Outcome, out: &mut Printout) {
+    let label = match device {
+        Device::Reader => "\n-- failing at read ",
+        Device::Writer => "\n-- failing at write ",
+    };
+    out.add_labelled(label, fails_at);
+    out.add(" and on: ");
+    out.add(end_text(outcome.served));
+    out.add_count(", ", outcome.written.len());
+    out.add(" octets written");
+    out.add_printout(&outcome.books);
 }
 
-/// Adds the next outcome if it differs from the one before.
-fn push_outcome(
-    alloc: Global,
+/// Prints the next outcome if it differs from the one before.
+fn print_next(
     device: Device,
     fails_at: u64,
     next: &Outcome,
     whole: &Outcome,
     before: &Outcome,
-    out: &mut Vec<u8>,
-) -> Result<(), NoMemory> {
+    out: &mut Printout,
+) {
     if !next.is_prefix_of(whole) {
-        out.extend_from_slice(b"\n** no beginning of the replies was written **")?;
+        out.add("\n** no beginning of the replies was written **");
     }
-    if next.is_same_as(before) {
-        Ok(())
-    } else {
-        push_outcome_line(alloc, device, fails_at, next, out)
+    if !next.is_same_as(before) {
+        print_outcome(device, fails_at, next, out);
     }
 }
 
-/// Adds the outcome for that read or write if it differs from the one before, and replaces the one
-/// before by it.
-fn push_next(
-    alloc: Global,
-    row: &Row,
-    device: Device,
-    fails_at: u64,
-    whole: &Outcome,
-    before: &mut Outcome,
-    out: &mut Vec<u8>,
-) -> Result<(), NoMemory> {
-    let next = outcome_at(alloc, row, device, fails_at)?;
-    let done = push_outcome(alloc, device, fails_at, &next, whole, before, out);
-    *before = next;
-    done
-}
-
-/// Adds the first outcome, and each later one that differs from the one before, until the device
-/// doesn't fail.
-fn push_outcomes(
-    alloc: Global,
-    row: &Row,
+/// Prints the first outcome, and each later one that differs from the one before, until the device
+/// doesn't fail. `whole` is the outcome without a failure.
+fn print_outcomes(
+    connections: Connections,
     device: Device,
     whole: &Outcome,
-    before: &mut Outcome,
-    out: &mut Vec<u8>,
+    first: Outcome,
+    out: &mut Printout,
 ) -> Result<(), NoMemory> {
-    push_outcome_line(alloc, device, 1, before, out)?;
+    let mut before = first;
+    print_outcome(device, 1, &before, out);
     for fails_at in 2..1_000u64 {
         if before.is_same_as(whole) {
-            break;
+            return Ok(());
         }
-        push_next(alloc, row, device, fails_at, whole, before, out)?;
+        let next = outcome_at(connections, device, fails_at, &mut out.supply)?;
+        print_next(device, fails_at, &next, whole, &before, out);
+        before = next;
     }
     Ok(())
 }
 
-/// Adds the outcomes with a failing device, given the one without a failure.
-fn push_each(
-    alloc: Global,
-    row: &Row,
+/// Prints the outcomes of a failure of the device at each read or write in turn.
+fn print_device(
+    connections: Connections,
     device: Device,
-    whole: &Outcome,
-    out: &mut Vec<u8>,
+    out: &mut Printout,
 ) -> Result<(), NoMemory> {
-    let mut first = outcome_at(alloc, row, device, 1)?;
-    let done = push_outcomes(alloc, row, device, whole, &mut first, out);
-    drop(first);
-    done
+    let whole = outcome_at(connections, device, 0, &mut out.supply)?;
+    let first = outcome_at(connections, device, 1, &mut out.supply)?;
+    print_outcomes(connections, device, &whole, first, out)
 }
 
-/// Adds the outcomes of a failure at each read or write in turn.
-fn push_device(
-    alloc: Global,
-    row: &Row,
-    device: Device,
-    out: &mut Vec<u8>,
-) -> Result<(), NoMemory> {
-    let whole = outcome_at(alloc, row, device, 0)?;
-    let done = push_each(alloc, row, device, &whole, out);
-    drop(whole);
-    done
-}
-
-/// Adds the outcomes of the row if its reader fails, and if its writer fails.
-pub(crate) fn push_failures(alloc: Global, row: &Row, out: &mut Vec<u8>) -> Result<(), NoMemory> {
+/// Prints the outcomes of the row if its reader fails, and if its writer fails.
+pub(crate) fn print_failures(connections: Connections, out: &mut Printout) {
     for device in [Device::Reader, Device::Writer] {
-        push_device(alloc, row, device, out)?;
+        let printed = print_device(connections, device, out);
+        out.supply.note(printed);
     }
-    Ok(())
 }

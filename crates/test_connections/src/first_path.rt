@@ -2,39 +2,18 @@
 //! no order reaches.
 
 use crate::devices::{FailingReader, FailingWriter};
-use crate::parts::Row;
-use base_types::NoMemory;
 use book_http::ServeFault;
 use cli_orders::{Stop, run_try};
-use std::alloc::{AllocError, Global};
+use std::alloc::Global;
 use std::io;
 use sync_core::{Fault, Refusal, TokenCause};
+use test_support::Printout;
 
-/// Adds the line, if there was memory for it.
-fn push_line(out: &mut Vec<u8>, line: Result<String, AllocError>) -> Result<(), NoMemory> {
-    let line = line?;
-    let pushed = out.extend_from_slice(line.as_bytes());
-    drop(line);
-    Ok(pushed?)
-}
-
-/// Adds how the order ended, and the number of octets that it wrote.
-fn push_end(
-    alloc: Global,
-    what: &str,
-    ended: Result<(), Stop>,
-    written: usize,
-    out: &mut Vec<u8>,
-) -> Result<(), NoMemory> {
-    match ended {
-        Ok(()) => push_line(
-            out,
-            format!(in alloc; "\n-- {what}: done, {written} octets written"),
-        ),
-        Err(stop) => push_line(
-            out,
-            format!(in alloc; "\n-- {what}: {stop}, {written} octets written"),
-        ),
+/// Prints the stop's line.
+fn print_stop(stop: Stop, out: &mut Printout) {
+    let line = format!(in out.alloc(); "{stop}");
+    if let Some(line) = out.supply.keep(line) {
+        out.add(line.as_str());
     }
 }
 
@@ -70,38 +49,35 @@ fn end_of(alloc: Global, octets: &[u8], failure: Failure) -> (Result<(), Stop>, 
     (ended, writer.octets.len())
 }
 
-/// Runs the order on the octets with this failure, and adds how it ended.
-fn push_path(
-    alloc: Global,
-    octets: &[u8],
-    failure: Failure,
-    out: &mut Vec<u8>,
-) -> Result<(), NoMemory> {
-    let (ended, written) = end_of(alloc, octets, failure);
-    push_end(alloc, failure.0, ended, written, out)
-}
-
-/// Runs the order on the card of the row's first connection, with each failing input and output,
-/// and adds how each run ended.
-pub(crate) fn push_paths(alloc: Global, row: &Row, out: &mut Vec<u8>) -> Result<(), NoMemory> {
-    let first = row.connections.as_slice().first();
-    let octets = first.map(|first| first.octets).unwrap_or_default();
-    for failure in FAILURES {
-        push_path(alloc, octets, failure, out)?;
+/// Prints how the order ended, and the number of octets that it wrote.
+fn print_end(what: &str, ended: Result<(), Stop>, written: usize, out: &mut Printout) {
+    out.add_all(&["\n-- ", what, ": "]);
+    match ended {
+        Ok(()) => out.add("done"),
+        Err(stop) => print_stop(stop, out),
     }
-    Ok(())
+    out.add_count(", ", written);
+    out.add(" octets written");
 }
 
-/// Adds the lines and the statuses of stops that no order reaches while devices work.
-pub(crate) fn push_stops(alloc: Global, out: &mut Vec<u8>) -> Result<(), NoMemory> {
+/// Runs the order on the card, with each failing input and output, and prints how each run ended.
+pub(crate) fn print_paths(card: &[u8], out: &mut Printout) {
+    for failure in FAILURES {
+        let (ended, written) = end_of(out.alloc(), card, failure);
+        print_end(failure.0, ended, written, out);
+    }
+}
+
+/// Prints the lines and the statuses of stops that no order reaches while devices work.
+pub(crate) fn print_stops(out: &mut Printout) {
     let stops = [
         Stop::Refused(Refusal::BadToken(TokenCause::Malformed)),
         Stop::Fault(Fault::Store),
         Stop::Serve(ServeFault::TooManyTurns),
     ];
     for stop in stops {
-        let status = stop.status();
-        push_line(out, format!(in alloc; "\n-- {stop}, status {status}"))?;
+        out.add("\n-- ");
+        print_stop(stop, out);
+        out.add_labelled(", status ", u64::from(stop.status()));
     }
-    Ok(())
 }

@@ -1,9 +1,5 @@
 //! Parses the input. Each part begins with a mark and a title in one line.
 
-use crate::settings::{Setting, parse_setting};
-use base_types::NoMemory;
-use std::alloc::Global;
-
 /// Begins a row, which has a store of its own. The title follows, up to the end of the line, and
 /// then a line with its setting.
 pub(crate) const ROW: &[u8] = b"\n#### ";
@@ -12,18 +8,18 @@ pub(crate) const ROW: &[u8] = b"\n#### ";
 /// next mark.
 pub(crate) const CONNECTION: &[u8] = b"\n==== ";
 
-/// A connection of a row.
+/// The connections of a row, in their order, as their text from the first title on.
+#[derive(Clone, Copy)]
+pub(crate) struct Connections<'a> {
+    pub(crate) left: Option<&'a [u8]>,
+}
+
+/// A connection of a row, and those after it.
 #[derive(Clone, Copy)]
 pub(crate) struct Connection<'a> {
     pub(crate) title: &'a [u8],
     pub(crate) octets: &'a [u8],
-}
-
-/// A row: what fails, and the connections in their order.
-#[derive(Drop)]
-pub(crate) struct Row<'a> {
-    pub(crate) setting: Setting,
-    pub(crate) connections: Vec<Connection<'a>>,
+    pub(crate) others: Connections<'a>,
 }
 
 /// The text before the first mark, and the text after it.
@@ -48,34 +44,20 @@ pub(crate) fn first_line(text: &[u8]) -> (&[u8], &[u8]) {
     (text, &[])
 }
 
-/// Parses the connections; the first one has no mark.
-fn connections_in<'a>(
-    alloc: Global,
-    first: Option<&'a [u8]>,
-) -> Result<Vec<Connection<'a>>, NoMemory> {
-    let mut connections = Vec::new(alloc);
-    let mut left = first;
-    let most = first.unwrap_or_default().len();
-    for _connection in 0..=most {
-        let Some(rest) = left else {
-            break;
-        };
-        let (title, rest) = first_line(rest);
-        let (octets, next) = split_at_mark(rest, CONNECTION);
-        connections.push(Connection { title, octets })?;
-        left = next;
+impl<'a> Connections<'a> {
+    /// The first connection; one without a title and without octets if there is none.
+    pub(crate) fn first(self) -> Connection<'a> {
+        let (title, rest) = first_line(self.left.unwrap_or_default());
+        let (octets, left) = split_at_mark(rest, CONNECTION);
+        Connection {
+            title,
+            octets,
+            others: Connections { left },
+        }
     }
-    Ok(connections)
-}
 
-/// Parses a row from the text below its title; `None` if its setting is unknown.
-pub(crate) fn parse_row<'a>(alloc: Global, text: &'a [u8]) -> Result<Option<Row<'a>>, NoMemory> {
-    let (front, first) = split_at_mark(text, CONNECTION);
-    match parse_setting(front) {
-        Some(setting) => Ok(Some(Row {
-            setting,
-            connections: connections_in(alloc, first)?,
-        })),
-        None => Ok(None),
+    /// More than the number of the connections.
+    pub(crate) fn most(self) -> usize {
+        self.left.unwrap_or_default().len().saturating_add(1)
     }
 }

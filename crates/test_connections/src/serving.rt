@@ -1,46 +1,42 @@
 //! Feeds connections to a service.
 
-use crate::parts::{CONNECTION, Connection};
-use base_types::NoMemory;
+use crate::parts::{CONNECTION, Connections};
 use http_requests::{Handler, Session};
-use std::alloc::Global;
-use test_support::feed;
+use test_support::{Printout, feed};
 
-/// Adds the replies to a new connection with these octets, and whether it is closed then.
-pub(crate) fn push_replies<H: Handler>(
-    alloc: Global,
-    handler: &mut H,
-    octets: &[u8],
-    out: &mut Vec<u8>,
-) -> Result<(), NoMemory> {
-    let mut session = Session::new(alloc);
-    let fed = feed(alloc, &mut session, handler, octets);
-    let is_closed = session.closed();
-    drop(session);
-    let replies = fed?;
-    let pushed = out.extend_from_slice(replies.as_slice());
-    drop(replies);
-    pushed?;
-    let end: &[u8] = if is_closed {
-        b"\n-- closed"
+/// Prints the replies to a new connection with these octets, and whether it is closed then.
+fn print_replies<H: Handler>(handler: &mut H, octets: &[u8], out: &mut Printout) {
+    let mut session = Session::new(out.alloc());
+    let fed = feed(out.alloc(), &mut session, handler, octets);
+    if let Some(replies) = out.supply.keep(fed) {
+        out.add_octets(replies.as_slice());
+    }
+    out.add(if session.closed() {
+        "\n-- closed"
     } else {
-        b"\n-- open"
-    };
-    Ok(out.extend_from_slice(end)?)
+        "\n-- open"
+    });
 }
 
-/// Adds the title of each connection and the replies to it, in their order.
-pub(crate) fn push_connections<H: Handler>(
-    alloc: Global,
+/// Prints the replies to each connection, in their order, below its title if they are titled.
+pub(crate) fn print_connections<H: Handler>(
     handler: &mut H,
-    connections: &[Connection],
-    out: &mut Vec<u8>,
-) -> Result<(), NoMemory> {
-    for connection in connections {
-        out.extend_from_slice(CONNECTION)?;
-        out.extend_from_slice(connection.title)?;
-        out.extend_from_slice(b"\n")?;
-        push_replies(alloc, handler, connection.octets, out)?;
+    connections: Connections,
+    are_titled: bool,
+    out: &mut Printout,
+) {
+    let mut connections = connections;
+    for _connection in 0..connections.most() {
+        if connections.left.is_none() {
+            return;
+        }
+        let connection = connections.first();
+        if are_titled {
+            out.add_octets(CONNECTION);
+            out.add_octets(connection.title);
+        }
+        out.add("\n");
+        print_replies(handler, connection.octets, out);
+        connections = connection.others;
     }
-    Ok(())
 }

@@ -1,6 +1,5 @@
 //! What fails in a row.
 
-use std::str;
 use sync_core::Fault;
 
 /// What fails in a row.
@@ -16,14 +15,20 @@ pub(crate) enum Setting {
     Stops,
 }
 
+const SETTINGS: [(&[u8], Setting); 5] = [
+    (b"store-fault", Setting::Store(Fault::Store)),
+    (b"no-memory", Setting::Store(Fault::Memory)),
+    (b"failing-devices", Setting::Devices),
+    (b"first-path", Setting::FirstPath),
+    (b"stops", Setting::Stops),
+];
+
 /// The setting that the line names.
 pub(crate) fn parse_setting(line: &[u8]) -> Option<Setting> {
-    match str::from_utf8(line).ok()? {
-        "store-fault" => Some(Setting::Store(Fault::Store)),
-        "no-memory" => Some(Setting::Store(Fault::Memory)),
-        "failing-devices" => Some(Setting::Devices),
-        "first-path" => Some(Setting::FirstPath),
-        "stops" => Some(Setting::Stops),
-        _ => None,
+    for (name, setting) in SETTINGS {
+        if name == line {
+            return Some(setting);
+        }
     }
+    None
 }

@@ -1,9 +1,9 @@
-//! Tests of limits, of pages in JSON and of devices that apply pages, by rows. A row is a call, its
-//! input and its expected result.
+//! Calls on limits, on pages in JSON and on devices that apply pages.
 
-mod calls;
 mod devices;
 mod limits;
 mod pages;
 
-pub use calls::check_formats;
+pub(crate) use devices::run_device;
+pub(crate) use limits::run_limits;
+pub(crate) use pages::run_page;

@@ -8,4 +8,4 @@
 mod fields;
 mod lines;
 
-pub use lines::{TestCalls, check_rows};
+pub use lines::check_rows;

@@ -1,9 +1,9 @@
 //! Queries all books of a store, as one text.
 
+use crate::printout::Printout;
 use crate::scripts::run_script;
 use std::alloc::Global;
 use sync_core::BookStore;
-use vcard_text::NoMemory;
 
 /// Commands that change nothing, and whose replies show all: an import with a nonsense body shows
 /// the tally that is kept under its key.
@@ -20,9 +20,10 @@ import clients k2 nonsense";
 
 /// Each book of the store: its line, its tally, its live cards, the page of its initial report, and
 /// its kept imports. Without books the text is empty.
-pub fn query_books<S: BookStore>(alloc: Global, store: &mut S) -> Result<String, NoMemory> {
-    if matches!(store.books(), Ok(lines) if lines.is_empty()) {
-        return Ok(String::new(alloc));
+pub fn query_books<S: BookStore>(alloc: Global, store: &mut S) -> Printout {
+    let mut books = Printout::new(alloc);
+    if !matches!(store.books(), Ok(lines) if lines.is_empty()) {
+        run_script(store, QUERIES, &mut books);
     }
-    run_script(alloc, store, QUERIES)
+    books
 }

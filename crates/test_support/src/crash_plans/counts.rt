@@ -1,16 +1,7 @@
 //! Counts of stops.
 
 use crate::crash_plans::commands::Kind;
-use std::alloc::{AllocError, Global};
-use vcard_text::NoMemory;
-
-/// Adds a formatted piece.
-pub fn push_piece(output: &mut String, piece: Result<String, AllocError>) -> Result<(), NoMemory> {
-    let piece = piece?;
-    let pushed = output.push_str(piece.as_str());
-    drop(piece);
-    Ok(pushed?)
-}
+use crate::printout::Printout;
 
 /// The number of stops of each kind.
 #[derive(Clone, Copy)]
@@ -72,21 +63,16 @@ impl StopCounts {
         sum
     }
 
-    /// Adds the counts that aren't 0, one a line.
-    pub fn push_lines(self, alloc: Global, output: &mut String) -> Result<(), NoMemory> {
+    /// Prints the counts that aren't 0, one a line.
+    pub fn print(self, out: &mut Printout) {
         for (name, count) in self.parts() {
-            push_count(alloc, output, name, count)?;
+            if count != 0 {
+                out.add_all(&["  ", name]);
+                out.add_numbers("", &[count]);
+                out.add("\n");
+            }
         }
-        Ok(())
     }
-}
-
-/// Adds the count, if it isn't 0.
-fn push_count(alloc: Global, output: &mut String, name: &str, count: u64) -> Result<(), NoMemory> {
-    if count == 0 {
-        return Ok(());
-    }
-    push_piece(output, format!(in alloc; "  {name} {count}\n"))
 }
 
 /// The books that the stopped call left.
@@ -116,17 +102,13 @@ pub const NO_STATES: StateCounts = StateCounts {
 };
 
 impl StateCounts {
-    /// Counts one more.
-    pub fn add(&mut self, left: StateLeft) {
+    /// Counts one more. With `None` the stop left other books, or failed a check.
+    pub fn add(&mut self, left: Option<StateLeft>) {
         match left {
-            StateLeft::Before => self.before = self.before.saturating_add(1),
-            StateLeft::After => self.after = self.after.saturating_add(1),
+            Some(StateLeft::Before) => self.before = self.before.saturating_add(1),
+            Some(StateLeft::After) => self.after = self.after.saturating_add(1),
+            None => self.wrong = self.wrong.saturating_add(1),
         }
-    }
-
-    /// Counts one more stop that left other books or failed a check.
-    pub fn add_wrong(&mut self) {
-        self.wrong = self.wrong.saturating_add(1);
     }
 
     /// Counts devices that restarted.
@@ -134,17 +116,13 @@ impl StateCounts {
         self.anew = self.anew.saturating_add(anew);
     }
 
-    /// Adds the counts in a line that begins with the name of the kind of crash.
-    pub fn push_lines(self, alloc: Global, output: &mut String, way: &str) -> Result<(), NoMemory> {
-        let StateCounts {
-            before,
-            after,
-            wrong,
-            anew,
-        } = self;
-        let line = format!(in alloc;
-            "  {way}: before {before}, after {after}, wrong {wrong}; devices began anew {anew}\n"
-        );
-        push_piece(output, line)
+    /// Prints the counts in a line that begins with the name of the kind of crash.
+    pub fn print(self, way: &str, out: &mut Printout) {
+        out.add_all(&["  ", way]);
+        out.add_labelled(": before ", self.before);
+        out.add_labelled(", after ", self.after);
+        out.add_labelled(", wrong ", self.wrong);
+        out.add_labelled("; devices began anew ", self.anew);
+        out.add("\n");
     }
 }

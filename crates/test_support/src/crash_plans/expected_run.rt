@@ -2,11 +2,12 @@
 
 use crate::crash_plans::books::query_books;
 use crate::crash_plans::commands::{Kind, kind_of};
+use crate::printout::Printout;
 use crate::scripts::{parse_command, reply_to};
+use crate::supply::Supply;
 use book_service::{Command, Reply};
 use std::alloc::Global;
 use sync_core::{Limits, PlainStore};
-use vcard_text::NoMemory;
 
 /// A command, the reply to it, and the books after it.
 #[derive(Drop)]
@@ -15,7 +16,7 @@ pub struct Step {
     pub command: Command,
     /// The reply of a store in memory.
     pub reply: Reply,
-    books_text: String,
+    books: Printout,
 }
 
 /// The run of a list over a store with these limits.
@@ -29,59 +30,44 @@ pub struct ExpectedRun {
     pub steps: Vec<Step>,
 }
 
-/// Performs the command over a store in memory.
-fn step_of(alloc: Global, store: &mut PlainStore, command: Command) -> Result<Step, NoMemory> {
-    let reply = reply_to(alloc, store, &command);
-    match query_books(alloc, store) {
-        Ok(books_text) => Ok(Step {
-            command,
-            reply,
-            books_text,
-        }),
-        Err(error) => {
-            drop(command);
-            drop(reply);
-            Err(error)
-        }
+/// Performs the command of the line over a store in memory.
+fn step_of(store: &mut PlainStore, line: &str, supply: &mut Supply) -> Step {
+    let command = parse_command(line, supply);
+    let reply = reply_to(supply.alloc, store, &command);
+    let books = query_books(supply.alloc, store);
+    supply.note(books.result());
+    Step {
+        command,
+        reply,
+        books,
     }
 }
 
 impl ExpectedRun {
     /// Performs the list over a store in memory.
-    pub fn of_list(alloc: Global, limits: Limits, list: &str) -> Result<ExpectedRun, NoMemory> {
+    pub fn of_list(limits: Limits, list: &str, supply: &mut Supply) -> ExpectedRun {
+        let alloc = supply.alloc;
         let mut store = PlainStore::new(alloc, limits);
-        let mut expected_run = ExpectedRun {
+        let mut steps = Vec::new(alloc);
+        for line in list.lines() {
+            let step = step_of(&mut store, line, supply);
+            supply.note(steps.push(step));
+        }
+        ExpectedRun {
             alloc,
             limits,
-            steps: Vec::new(alloc),
-        };
-        let performed = expected_run.perform_list(&mut store, list);
-        drop(store);
-        performed?;
-        Ok(expected_run)
-    }
-
-    fn perform_list(&mut self, store: &mut PlainStore, list: &str) -> Result<(), NoMemory> {
-        for line in list.lines() {
-            self.perform_line(store, line)?;
+            steps,
         }
-        Ok(())
-    }
-
-    fn perform_line(&mut self, store: &mut PlainStore, line: &str) -> Result<(), NoMemory> {
-        let command = parse_command(self.alloc, line)?;
-        let step = step_of(self.alloc, store, command)?;
-        Ok(self.steps.push(step)?)
     }
 
     /// The books after the first `count` commands.
-    pub fn books_after(&self, count: usize) -> &str {
+    pub fn books_after(&self, count: usize) -> &[u8] {
         let Some(place) = count.checked_sub(1) else {
-            return "";
+            return &[];
         };
         match self.steps.as_slice().get(place) {
-            Some(step) => step.books_text.as_str(),
-            None => "",
+            Some(step) => step.books.as_slice(),
+            None => &[],
         }
     }
 

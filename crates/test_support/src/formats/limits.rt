@@ -1,15 +1,11 @@
 //! The limits of a store.
 
-use base_types::NoMemory;
-use std::alloc::Global;
+use crate::printout::Printout;
 use sync_core::Limits;
 
 /// The word as a number; 0, which is no legal limit, if it is none.
 fn number_of(word: Option<&str>) -> u64 {
-    match word {
-        Some(word) => word.parse::<u64>().unwrap_or(0),
-        None => 0,
-    }
+    word.unwrap_or_default().parse::<u64>().unwrap_or(0)
 }
 
 /// The limits with these numbers, of which the last may be left out.
@@ -29,11 +25,13 @@ fn limits_of(text: &str) -> Option<Limits> {
 
 /// `limits PAGE CARDS CHANGES BOOKS KEEP`, where the last may be left out, or `limits standard`:
 /// the five numbers of the limits.
-pub(crate) fn limits(alloc: Global, text: &str) -> Result<String, NoMemory> {
-    let Some(limits) = limits_of(text) else {
-        return Ok(String::from_str(alloc, "none")?);
-    };
-    let (pages, cards, changes) = (limits.page_max(), limits.cards_max(), limits.changes_max());
-    let (books, keep) = (limits.books_max(), limits.keep());
-    Ok(format!(in alloc; "{pages} {cards} {changes} {books} {keep}")?)
+pub(crate) fn run_limits(text: &str, out: &mut Printout) {
+    match limits_of(text) {
+        Some(limits) => {
+            out.add_number(limits.page_max());
+            let (cards, changes) = (limits.cards_max(), limits.changes_max());
+            out.add_numbers("", &[cards, changes, limits.books_max(), limits.keep()]);
+        }
+        None => out.add("none"),
+    }
 }

@@ -4,8 +4,7 @@
 //! its addresses, and a process has some 2^47 of these. So a few thousand blocks use them up, and
 //! the usual allocator refuses the next allocation.
 
-use crate::oom::stop::Stop;
-use std::alloc::Global;
+use crate::supply::Supply;
 
 /// The size of the blocks that are tried first, in octets: more than a process has addresses.
 const GREATEST: usize = 1 << 47;
@@ -31,79 +30,79 @@ type Blocks = Vec<Vec<u8>>;
 /// Blocks of memory that nothing else can use.
 #[derive(Drop)]
 pub(crate) struct Ballast {
-    alloc: Global,
     /// Always allocated: all but the room.
     always: Blocks,
     /// Allocated while a window is open: the room, except what is left to the call.
     in_window: Blocks,
 }
 
-/// Allocates blocks of this size until one is refused.
-fn allocate_size(alloc: Global, size: usize, blocks: &mut Blocks) -> Result<(), Stop> {
-    for _ in blocks.len()..BLOCKS_MAX {
-        match Vec::with_capacity(alloc, size) {
-            Ok(block) => blocks.push(block)?,
-            Err(_) => return Ok(()),
+/// Room for the most blocks.
+fn new_blocks(supply: &mut Supply) -> Blocks {
+    match Vec::with_capacity(supply.alloc, BLOCKS_MAX) {
+        Ok(blocks) => blocks,
+        Err(_) => {
+            supply.ran_out = true;
+            Vec::new(supply.alloc)
         }
     }
-    Err(Stop)
+}
+
+/// Allocates blocks of this size until one is refused.
+fn allocate_size(size: usize, blocks: &mut Blocks, supply: &mut Supply) {
+    for _ in blocks.len()..BLOCKS_MAX {
+        match Vec::with_capacity(supply.alloc, size) {
+            Ok(block) => supply.note(blocks.push(block)),
+            Err(_) => return,
+        }
+    }
+    supply.ran_out = true;
 }
 
 /// Allocates blocks of each size, the greatest first, until all are refused.
-fn allocate_all(alloc: Global, blocks: &mut Blocks) -> Result<(), Stop> {
+fn allocate_all(blocks: &mut Blocks, supply: &mut Supply) {
     for halvings in 0..HALVINGS {
-        allocate_size(alloc, GREATEST >> halvings, blocks)?;
+        allocate_size(GREATEST >> halvings, blocks, supply);
     }
     for less in 0..SMALL_SIZES {
         let size = SMALL_SIZES.saturating_sub(less).saturating_mul(16);
-        allocate_size(alloc, size, blocks)?;
+        allocate_size(size, blocks, supply);
     }
-    Ok(())
-}
-
-/// Allocates all memory but the room.
-fn allocate_beside_room(alloc: Global, blocks: &mut Blocks) -> Result<(), Stop> {
-    let room: Vec<u8> = Vec::with_capacity(alloc, ROOM)?;
-    let allocated = allocate_all(alloc, blocks);
-    drop(room);
-    allocated
 }
 
 /// Adds a block of this number of octets.
-fn push_block(blocks: &mut Blocks, alloc: Global, octets: usize) -> Result<(), Stop> {
-    blocks.push(Vec::with_capacity(alloc, octets)?)?;
-    Ok(())
+fn push_block(octets: usize, blocks: &mut Blocks, supply: &mut Supply) {
+    if let Some(block) = supply.keep(Vec::with_capacity(supply.alloc, octets)) {
+        supply.note(blocks.push(block));
+    }
 }
 
-/// Adds blocks that have this number of octets together.
-fn push_blocks(blocks: &mut Blocks, alloc: Global, octets: usize) -> Result<(), Stop> {
+/// Blocks that have this number of octets together.
+fn blocks_of(octets: usize, supply: &mut Supply) -> Blocks {
+    let mut blocks = Vec::new(supply.alloc);
     for _ in 0..octets / LEFT_IN_ONE {
-        push_block(blocks, alloc, LEFT_IN_ONE)?;
+        push_block(LEFT_IN_ONE, &mut blocks, supply);
     }
-    push_block(blocks, alloc, octets % LEFT_IN_ONE)
+    push_block(octets % LEFT_IN_ONE, &mut blocks, supply);
+    blocks
 }
 
 impl Ballast {
     /// Allocates all memory but the room.
-    pub(crate) fn new(alloc: Global) -> Result<Ballast, Stop> {
-        let mut always = Vec::with_capacity(alloc, BLOCKS_MAX)?;
-        let in_window = Vec::with_capacity(alloc, BLOCKS_MAX)?;
-        allocate_beside_room(alloc, &mut always)?;
-        Ok(Ballast {
-            alloc,
-            always,
-            in_window,
-        })
+    pub(crate) fn new(supply: &mut Supply) -> Ballast {
+        let mut always = new_blocks(supply);
+        let in_window = new_blocks(supply);
+        let room: Option<Vec<u8>> = supply.keep(Vec::with_capacity(supply.alloc, ROOM));
+        allocate_all(&mut always, supply);
+        drop(room);
+        Ballast { always, in_window }
     }
 
     /// From now on only about this number of octets can be allocated; the allocator's overhead
     /// counts.
-    pub(crate) fn limit_memory(&mut self, octets: usize) -> Result<(), Stop> {
-        let mut left = Vec::new(self.alloc);
-        push_blocks(&mut left, self.alloc, octets)?;
-        let allocated = allocate_all(self.alloc, &mut self.in_window);
+    pub(crate) fn limit_memory(&mut self, octets: usize, supply: &mut Supply) {
+        let left = blocks_of(octets, supply);
+        allocate_all(&mut self.in_window, supply);
         drop(left);
-        allocated
     }
 
     /// From now on the room can be allocated again.

@@ -1,9 +1,8 @@
 //! Queries and compares the books of stores, and a small book.
 
-use crate::oom::stop::Stop;
 use crate::oom::stores::replies_to;
+use crate::supply::Supply;
 use book_service::Reply;
-use std::alloc::Global;
 use sync_core::{BookStore, Fault};
 
 /// A book with two cards, one of them edited, and a removed card.
@@ -29,28 +28,19 @@ import staff k2
 import clients k";
 
 /// The replies that show the store's books.
-pub fn query_books<S: BookStore>(alloc: Global, store: &mut S) -> Result<Vec<Reply>, Stop> {
-    replies_to(alloc, store, QUERIES)
+pub fn query_books<S: BookStore>(store: &mut S, supply: &mut Supply) -> Vec<Reply> {
+    replies_to(store, QUERIES, supply)
 }
 
 /// Whether the store has these books.
-pub(crate) fn has_books<S: BookStore>(
-    alloc: Global,
-    store: &mut S,
-    books: &[Reply],
-) -> Result<bool, Stop> {
-    let others = query_books(alloc, store)?;
-    Ok(others.as_slice() == books)
+pub fn has_books<S: BookStore>(store: &mut S, books: &[Reply], supply: &mut Supply) -> bool {
+    query_books(store, supply).as_slice() == books
 }
 
 /// Whether both stores have the same books.
-pub fn have_same_books<S: BookStore>(
-    alloc: Global,
-    store: &mut S,
-    twin: &mut S,
-) -> Result<bool, Stop> {
-    let books = query_books(alloc, store)?;
-    has_books(alloc, twin, books.as_slice())
+pub fn have_same_books<S: BookStore>(store: &mut S, twin: &mut S, supply: &mut Supply) -> bool {
+    let books = query_books(store, supply);
+    has_books(twin, books.as_slice(), supply)
 }
 
 /// Whether the command ran out of memory.

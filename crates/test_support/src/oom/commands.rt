@@ -2,11 +2,10 @@
 
 use crate::oom::books::{has_books, is_no_memory, query_books};
 use crate::oom::harness::Harness;
-use crate::oom::stop::Stop;
 use crate::oom::stores::{Stores, filled_store};
 use crate::scripts::{parse_command, reply_to};
+use crate::supply::Supply;
 use book_service::{Command, Reply};
-use std::alloc::Global;
 use sync_core::BookStore;
 
 /// The cases: a name, and the command whose allocations are refused.
@@ -57,37 +56,23 @@ struct Expected {
     after: Vec<Reply>,
 }
 
-fn expected_from<S: BookStore>(
-    alloc: Global,
-    twin: &mut S,
-    command: &Command,
-) -> Result<Expected, Stop> {
-    let before = query_books(alloc, twin)?;
-    let reply = reply_to(alloc, twin, command);
-    let after = query_books(alloc, twin)?;
-    Ok(Expected {
-        before,
-        reply,
-        after,
-    })
-}
-
-fn expected_of<K: Stores>(alloc: Global, kind: &K, command: &Command) -> Result<Expected, Stop> {
-    let mut twin = filled_store(alloc, kind)?;
-    expected_from(alloc, &mut twin, command)
+fn expected_from<S: BookStore>(twin: &mut S, command: &Command, supply: &mut Supply) -> Expected {
+    Expected {
+        before: query_books(twin, supply),
+        reply: reply_to(supply.alloc, twin, command),
+        after: query_books(twin, supply),
+    }
 }
 
 /// Whether the reply and the books are the expected ones when the command is performed again.
 fn repeats_as_expected<S: BookStore>(
-    alloc: Global,
     store: &mut S,
     command: &Command,
     expected: &Expected,
-) -> Result<bool, Stop> {
-    let reply = reply_to(alloc, store, command);
-    let again = reply == expected.reply;
-    drop(reply);
-    Ok(has_books(alloc, store, expected.after.as_slice())? && again)
+    supply: &mut Supply,
+) -> bool {
+    let again = reply_to(supply.alloc, store, command) == expected.reply;
+    has_books(store, expected.after.as_slice(), supply) && again
 }
 
 /// Reports the outcome of the command, from its reply and the books.
@@ -97,58 +82,49 @@ fn report_reply<S: BookStore>(
     command: &Command,
     expected: &Expected,
     reply: &Reply,
-) -> Result<(), Stop> {
-    let alloc = harness.alloc();
-    let left = query_books(alloc, store)?;
+) {
+    let left = query_books(store, &mut harness.supply);
     if is_no_memory(reply) {
-        let again = harness.checked(repeats_as_expected(alloc, store, command, expected));
+        let again = repeats_as_expected(store, command, expected, &mut harness.supply);
         harness.report_no_memory(left.as_slice() == expected.before.as_slice(), again, &left);
     } else {
         let same = *reply == expected.reply && left.as_slice() == expected.after.as_slice();
         harness.report_answer(same, reply);
     }
-    Ok(())
 }
 
-/// Performs the command over a filled store in a window, and reports the outcome.
-fn run_command_case<K: Stores>(
+/// Performs the command over the store in a window, and reports the outcome. The twin store has the
+/// same books.
+fn run_command_case<S: BookStore>(
     harness: &mut Harness,
-    kind: &K,
-    name: &str,
+    store: &mut S,
+    twin: &mut S,
     command: &Command,
-) -> Result<(), Stop> {
-    let alloc = harness.alloc();
-    let mut store = filled_store(alloc, kind)?;
-    let expected = expected_of(alloc, kind, command)?;
-    harness.open_window_over(name, kind.over());
-    let reply = reply_to(alloc, &mut store, command);
+    name: &str,
+    over: &str,
+) {
+    let expected = expected_from(twin, command, &mut harness.supply);
+    harness.open_window_over(name, over);
+    let reply = reply_to(harness.alloc(), store, command);
     harness.close_window();
-    let result = report_reply(harness, &mut store, command, &expected, &reply);
-    drop(expected);
-    drop(reply);
-    result
+    report_reply(harness, store, command, &expected, &reply);
 }
 
-/// Runs the case of the line over stores of the kind, if it is selected.
-fn run_line_case<K: Stores>(
-    harness: &mut Harness,
-    kind: &K,
-    name: &str,
-    line: &str,
-) -> Result<(), Stop> {
-    if !harness.is_selected_over(name, kind.over()) {
-        return Ok(());
+/// Runs the case of the line over stores of the kind.
+fn run_line_case<K: Stores>(harness: &mut Harness, kind: &K, name: &str, line: &str) {
+    let command = parse_command(line, &mut harness.supply);
+    let store = filled_store(kind, &mut harness.supply);
+    let twin = filled_store(kind, &mut harness.supply);
+    if let (Some(mut store), Some(mut twin)) = (store, twin) {
+        run_command_case(harness, &mut store, &mut twin, &command, name, kind.over());
     }
-    let command = parse_command(harness.alloc(), line)?;
-    let result = run_command_case(harness, kind, name, &command);
-    drop(command);
-    result
 }
 
 /// Runs the selected commands over stores of the kind.
-pub fn run_commands<K: Stores>(harness: &mut Harness, kind: &K) -> Result<(), Stop> {
+pub fn run_commands<K: Stores>(harness: &mut Harness, kind: &K) {
     for (name, line) in CASES {
-        run_line_case(harness, kind, name, line)?;
+        if harness.is_selected_over(name, kind.over()) {
+            run_line_case(harness, kind, name, line);
+        }
     }
-    Ok(())
 }

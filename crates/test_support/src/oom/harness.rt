@@ -7,7 +7,8 @@
 
 use crate::oom::ballast::Ballast;
 use crate::oom::outcome::Outcome;
-use crate::oom::stop::Stop;
+use crate::supply::Supply;
+use base_types::NoMemory;
 use std::alloc::Global;
 use std::fmt::Debug;
 use std::io::Write;
@@ -16,6 +17,9 @@ use std::mem;
 /// The selected cases, and their outcomes.
 #[derive(Drop)]
 pub struct Harness<'a> {
+    /// The memory in which cases are prepared and checked. It also remembers whether a window
+    /// couldn't be opened, or a check or an output failed.
+    pub supply: Supply,
     rt: &'a HostRuntime,
     selected: String,
     /// The names of the cases that were run, in their order.
@@ -25,8 +29,6 @@ pub struct Harness<'a> {
     ballast: Option<Ballast>,
     /// The number of octets that the ballast leaves free in a window.
     left: usize,
-    /// Whether a window couldn't be opened, or a check or an output failed.
-    stopped: bool,
 }
 
 impl<'a> Harness<'a> {
@@ -34,25 +36,24 @@ impl<'a> Harness<'a> {
     pub fn new(rt: &'a HostRuntime) -> Harness<'a> {
         let alloc = rt.alloc();
         Harness {
+            supply: Supply::new(alloc),
             rt,
             selected: String::new(alloc),
             names: Vec::new(alloc),
             outcome: Outcome::Same,
             ballast: None,
             left: 0,
-            stopped: false,
         }
     }
 
     /// The allocator.
     pub fn alloc(&self) -> Global {
-        self.rt.alloc()
+        self.supply.alloc
     }
 
     /// Selects the case of this name, or `all` of them.
-    pub fn select(&mut self, name: &str) -> Result<(), Stop> {
-        self.selected = String::from_str(self.alloc(), name)?;
-        Ok(())
+    pub fn select(&mut self, name: &str) {
+        self.selected = self.supply.string(name);
     }
 
     /// Whether the case is selected.
@@ -74,12 +75,11 @@ impl<'a> Harness<'a> {
 
     /// From now on this number of octets is left free in each window, and only findings are
     /// printed.
-    pub fn limit_memory(&mut self, octets: usize) -> Result<(), Stop> {
+    pub fn limit_memory(&mut self, octets: usize) {
         if self.ballast.is_none() {
-            self.ballast = Some(Ballast::new(self.alloc())?);
+            self.ballast = Some(Ballast::new(&mut self.supply));
         }
         self.left = octets;
-        Ok(())
     }
 
     /// The outcome of the last case.
@@ -87,28 +87,9 @@ impl<'a> Harness<'a> {
         self.outcome
     }
 
-    /// Remembers a failure, so that a case needs no early return for it.
-    fn record(&mut self, done: Result<(), Stop>) {
-        if done.is_err() {
-            self.stopped = true;
-        }
-    }
-
-    /// The result of a check. If the check itself failed, remembers the failure and returns
-    /// `false`.
-    pub fn checked<E: Drop>(&mut self, checked: Result<bool, E>) -> bool {
-        match checked {
-            Ok(checked) => checked,
-            Err(_) => {
-                self.stopped = true;
-                false
-            }
-        }
-    }
-
     /// An error if a window couldn't be opened, or a check or an output failed.
-    pub fn result(&self) -> Result<(), Stop> {
-        if self.stopped { Err(Stop) } else { Ok(()) }
+    pub fn result(&self) -> Result<(), NoMemory> {
+        self.supply.result()
     }
 
     /// Opens the window of the case. From now on allocations may be refused.
@@ -118,42 +99,41 @@ impl<'a> Harness<'a> {
 
     /// Opens the window of the case over stores of a kind, which is a suffix of its name.
     pub fn open_window_over(&mut self, name: &str, over: &str) {
-        let window_opened = match &mut self.ballast {
-            Some(ballast) => ballast.limit_memory(self.left),
+        match &mut self.ballast {
+            Some(ballast) => ballast.limit_memory(self.left, &mut self.supply),
             None => self.print_case_name(name, over),
-        };
-        self.record(window_opened);
+        }
     }
 
-    /// Remembers the case's name and prints it, which opens a window from outside.
-    fn print_case_name(&mut self, name: &str, over: &str) -> Result<(), Stop> {
-        let name = format!(in self.alloc(); "{name}{over}")?;
-        self.names.push(name)?;
-        let name = self.names.last().ok_or(Stop)?;
-        self.write(name.as_str())
+    /// Remembers the case's name, and prints it, which opens a window from outside.
+    fn print_case_name(&mut self, name: &str, over: &str) {
+        let mut whole = self.supply.string(name);
+        self.supply.note(whole.push_str(over));
+        self.supply.note(self.names.push(whole));
+        if let Some(name) = self.names.last() {
+            let written = self.rt.stdout().write_all(name.as_bytes());
+            self.supply.note(written);
+        }
     }
 
     /// Closes the window. From now on nothing is refused.
     pub fn close_window(&mut self) {
-        if let Some(ballast) = &mut self.ballast {
-            ballast.release();
-            return;
+        match &mut self.ballast {
+            Some(ballast) => ballast.release(),
+            None => self.write(": "),
         }
-        let window_closed = self.write(": ");
-        self.record(window_closed);
     }
 
     /// Writes the text to standard output.
-    pub fn write(&self, text: &str) -> Result<(), Stop> {
-        self.rt.stdout().write_all(text.as_bytes())?;
-        Ok(())
+    pub fn write(&mut self, text: &str) {
+        let written = self.rt.stdout().write_all(text.as_bytes());
+        self.supply.note(written);
     }
 
     fn set_outcome(&mut self, outcome: Outcome) {
         self.outcome = outcome;
         if self.ballast.is_none() {
-            let result = self.write(outcome.line());
-            self.record(result);
+            self.write(outcome.line());
         }
     }
 
@@ -208,12 +188,9 @@ impl<'a> Harness<'a> {
     }
 
     fn print_finding<T: Debug>(&mut self, checked: &T) {
-        let result = self.write_finding(checked);
-        self.record(result);
-    }
-
-    fn write_finding<T: Debug>(&self, checked: &T) -> Result<(), Stop> {
-        let line = format!(in self.alloc(); "** {checked:?}\n")?;
-        self.write(line.as_str())
+        match format!(in self.alloc(); "** {checked:?}\n") {
+            Ok(line) => self.write(line.as_str()),
+            Err(_) => self.supply.ran_out = true,
+        }
     }
 }

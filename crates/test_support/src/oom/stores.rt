@@ -1,7 +1,8 @@
 //! Kinds of stores, and the commands that fill them before a call.
 
-use crate::oom::stop::Stop;
 use crate::scripts::{parse_command, reply_to};
+use crate::supply::Supply;
+use base_types::NoMemory;
 use book_service::Reply;
 use std::alloc::Global;
 use sync_core::{BookStore, Limits, PlainStore};
@@ -14,7 +15,7 @@ pub trait Stores {
     fn over(&self) -> &'static str;
 
     /// A store with these limits, without books.
-    fn new_store(&self, alloc: Global, limits: Limits) -> Result<Self::Store, Stop>;
+    fn new_store(&self, alloc: Global, limits: Limits) -> Result<Self::Store, NoMemory>;
 }
 
 /// Stores that keep their books in memory.
@@ -27,7 +28,7 @@ impl Stores for InMemory {
         ", in memory"
     }
 
-    fn new_store(&self, alloc: Global, limits: Limits) -> Result<PlainStore, Stop> {
+    fn new_store(&self, alloc: Global, limits: Limits) -> Result<PlainStore, NoMemory> {
         Ok(PlainStore::new(alloc, limits))
     }
 }
@@ -46,49 +47,41 @@ import clients k uid,fn,family,given,email,tel,org,note\\nh,Hal,,,,,,\\ni,Ida,,,
 remove staff d";
 
 /// The limits of all stores here.
-pub fn limits() -> Result<Limits, Stop> {
-    Limits::standard().with_keep(1).ok_or(Stop)
+pub fn limits() -> Limits {
+    let standard = Limits::standard();
+    standard.with_keep(1).unwrap_or(standard)
 }
 
-/// Performs the command of the line, and adds the reply.
-fn push_reply<S: BookStore>(
-    replies: &mut Vec<Reply>,
-    alloc: Global,
-    store: &mut S,
-    line: &str,
-) -> Result<(), Stop> {
-    let command = parse_command(alloc, line)?;
-    let reply = reply_to(alloc, store, &command);
-    drop(command);
-    replies.push(reply)?;
-    Ok(())
+/// The reply to the command of the line.
+fn reply_to_line<S: BookStore>(store: &mut S, line: &str, supply: &mut Supply) -> Reply {
+    let command = parse_command(line, supply);
+    reply_to(supply.alloc, store, &command)
 }
 
 /// Performs the commands of the lines in turn, and returns the replies.
-pub fn replies_to<S: BookStore>(
-    alloc: Global,
-    store: &mut S,
-    script: &str,
-) -> Result<Vec<Reply>, Stop> {
-    let mut replies = Vec::new(alloc);
+pub fn replies_to<S: BookStore>(store: &mut S, script: &str, supply: &mut Supply) -> Vec<Reply> {
+    let mut replies = Vec::new(supply.alloc);
     for line in script.lines() {
-        push_reply(&mut replies, alloc, store, line)?;
+        let reply = reply_to_line(store, line, supply);
+        supply.note(replies.push(reply));
     }
-    Ok(replies)
+    replies
 }
 
 /// A store of the kind, filled by these commands.
 pub fn store_filled_by<K: Stores>(
-    alloc: Global,
     kind: &K,
     filling: &str,
-) -> Result<K::Store, Stop> {
-    let mut store = kind.new_store(alloc, limits()?)?;
-    replies_to(alloc, &mut store, filling)?;
-    Ok(store)
+    supply: &mut Supply,
+) -> Option<K::Store> {
+    let mut filled = supply.keep(kind.new_store(supply.alloc, limits()));
+    if let Some(store) = &mut filled {
+        drop(replies_to(store, filling, supply));
+    }
+    filled
 }
 
 /// A store of the kind, filled by the standard commands.
-pub fn filled_store<K: Stores>(alloc: Global, kind: &K) -> Result<K::Store, Stop> {
-    store_filled_by(alloc, kind, FILLING)
+pub fn filled_store<K: Stores>(kind: &K, supply: &mut Supply) -> Option<K::Store> {
+    store_filled_by(kind, FILLING, supply)
 }

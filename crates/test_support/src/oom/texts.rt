@@ -1,12 +1,12 @@
 //! Calls that read and write texts, and keep no state.
 
 use crate::oom::harness::Harness;
-use crate::oom::stop::Stop;
 use crate::oom::stores::{InMemory, filled_store};
+use crate::printout::Printout;
+use crate::supply::Supply;
 use card_core::{GroupFault, expand};
 use csv_cards::{CsvCause, CsvFault, Form, read_rows, write_rows};
 use page_json::{ReportFault, read_report, write_report};
-use std::alloc::Global;
 use std::collections::BTreeMap;
 use sync_core::{BookStore, Page, PlainStore};
 use vcard_text::{Card, CardFault, read_card, write_card};
@@ -47,19 +47,14 @@ fn read_card_case(harness: &mut Harness) {
     harness.report_stateless(expected, ran_out, answer, again);
 }
 
-fn write_card_case(harness: &mut Harness) -> Result<(), Stop> {
-    if !harness.is_selected("write_card") {
-        return Ok(());
-    }
+fn write_card_case(harness: &mut Harness, card: &Card) {
     let alloc = harness.alloc();
-    let card = read_card(alloc, CARD.as_bytes())?;
-    let expected = write_card(alloc, &card);
+    let expected = write_card(alloc, card);
     harness.open_window("write_card");
-    let answer = write_card(alloc, &card);
+    let answer = write_card(alloc, card);
     harness.close_window();
-    let again = write_card(alloc, &card);
+    let again = write_card(alloc, card);
     harness.report_stateless(expected, answer.is_err(), answer, again);
-    Ok(())
 }
 
 fn read_rows_case(harness: &mut Harness, name: &str, rows: &str) {
@@ -84,48 +79,53 @@ fn is_out_of_memory(read: &Result<Vec<Card>, CsvFault>) -> bool {
 }
 
 /// The card with the lines.
-fn card_of(alloc: Global, lines: &str) -> Result<Card, Stop> {
-    let text = format!(in alloc; "BEGIN:VCARD\r\nVERSION:4.0\r\n{lines}END:VCARD\r\n")?;
-    Ok(read_card(alloc, text.as_bytes())?)
+fn card_of(lines: &str, supply: &mut Supply) -> Option<Card> {
+    let mut text = Printout::new(supply.alloc);
+    text.add_all(&["BEGIN:VCARD\r\nVERSION:4.0\r\n", lines, "END:VCARD\r\n"]);
+    supply.note(text.result());
+    supply.keep(read_card(supply.alloc, text.as_slice()))
 }
 
-/// Inserts the card with the lines at its UID.
-fn insert_card(cards: &mut BTreeMap<String, Card>, alloc: Global, lines: &str) -> Result<(), Stop> {
-    let card = card_of(alloc, lines)?;
-    cards.insert(String::from_str(alloc, card.uid())?, card)?;
-    Ok(())
+/// Inserts the card at its UID.
+fn insert_card(cards: &mut BTreeMap<String, Card>, card: Card, supply: &mut Supply) {
+    let uid = supply.string(card.uid());
+    match cards.insert(uid, card) {
+        Ok(_) => {}
+        Err(_) => supply.ran_out = true,
+    }
 }
 
 /// The cards of the groups, by UID.
-fn group_cards(alloc: Global) -> Result<BTreeMap<String, Card>, Stop> {
-    let mut cards = BTreeMap::new(alloc);
+fn group_cards(supply: &mut Supply) -> BTreeMap<String, Card> {
+    let mut cards = BTreeMap::new(supply.alloc);
     for lines in GROUPS {
-        insert_card(&mut cards, alloc, lines)?;
+        if let Some(card) = card_of(lines, supply) {
+            insert_card(&mut cards, card, supply);
+        }
     }
-    Ok(cards)
+    cards
 }
 
-fn write_rows_case(harness: &mut Harness, name: &str, form: Form) -> Result<(), Stop> {
+fn write_rows_case(harness: &mut Harness, name: &str, form: Form) {
     if !harness.is_selected(name) {
-        return Ok(());
+        return;
     }
     let alloc = harness.alloc();
-    let cards = group_cards(alloc)?;
+    let cards = group_cards(&mut harness.supply);
     let expected = write_rows(alloc, &cards, form);
     harness.open_window(name);
     let answer = write_rows(alloc, &cards, form);
     harness.close_window();
     let again = write_rows(alloc, &cards, form);
     harness.report_stateless(expected, answer.is_err(), answer, again);
-    Ok(())
 }
 
-fn expand_case(harness: &mut Harness) -> Result<(), Stop> {
+fn expand_case(harness: &mut Harness) {
     if !harness.is_selected("expand") {
-        return Ok(());
+        return;
     }
     let alloc = harness.alloc();
-    let cards = group_cards(alloc)?;
+    let cards = group_cards(&mut harness.supply);
     let expected = expand(alloc, &cards, "g");
     harness.open_window("expand");
     let answer = expand(alloc, &cards, "g");
@@ -133,71 +133,91 @@ fn expand_case(harness: &mut Harness) -> Result<(), Stop> {
     let again = expand(alloc, &cards, "g");
     let ran_out = matches!(&answer, Err(GroupFault::Memory));
     harness.report_stateless(expected, ran_out, answer, again);
-    Ok(())
 }
 
-/// A page of the filled store, of cards and of a removed one.
-fn page_of(store: &mut PlainStore) -> Result<Page, Stop> {
-    let from = store.report("staff", None, Some(1))?.token();
-    store.remove("staff", "c", None)?;
-    Ok(store.report("staff", Some(from), None)?)
-}
-
-fn some_page(alloc: Global) -> Result<Page, Stop> {
-    let mut store = filled_store(alloc, &InMemory)?;
-    page_of(&mut store)
-}
-
-/// The text of a page.
-fn some_report(alloc: Global) -> Result<Vec<u8>, Stop> {
-    let page = some_page(alloc)?;
-    Ok(write_report(alloc, &page)?)
-}
-
-fn write_report_case(harness: &mut Harness) -> Result<(), Stop> {
-    if !harness.is_selected("write_report") {
-        return Ok(());
+/// A page of the store, of cards and of a removed one, since the first entry.
+fn page_of(store: &mut PlainStore, supply: &mut Supply) -> Option<Page> {
+    let first = match supply.keep(store.report("staff", None, Some(1))) {
+        Some(page) => Some(page.token()),
+        None => None,
+    };
+    if supply.keep(store.remove("staff", "c", None)).is_none() {
+        return None;
     }
+    supply.keep(store.report("staff", first, None))
+}
+
+/// A page of the filled store.
+fn some_page(supply: &mut Supply) -> Option<Page> {
+    match filled_store(&InMemory, supply) {
+        Some(store) => {
+            let mut store = store;
+            page_of(&mut store, supply)
+        }
+        None => None,
+    }
+}
+
+fn write_report_case(harness: &mut Harness, page: &Page) {
     let alloc = harness.alloc();
-    let page = some_page(alloc)?;
-    let expected = write_report(alloc, &page);
+    let expected = write_report(alloc, page);
     harness.open_window("write_report");
-    let answer = write_report(alloc, &page);
+    let answer = write_report(alloc, page);
     harness.close_window();
-    let again = write_report(alloc, &page);
+    let again = write_report(alloc, page);
     harness.report_stateless(expected, answer.is_err(), answer, again);
-    Ok(())
 }
 
-fn read_report_case(harness: &mut Harness) -> Result<(), Stop> {
-    if !harness.is_selected("read_report") {
-        return Ok(());
-    }
+fn read_report_case(harness: &mut Harness, text: &[u8]) {
     let alloc = harness.alloc();
-    let text = some_report(alloc)?;
-    let expected = read_report(alloc, text.as_slice());
+    let expected = read_report(alloc, text);
     harness.open_window("read_report");
-    let answer = read_report(alloc, text.as_slice());
+    let answer = read_report(alloc, text);
     harness.close_window();
-    let again = read_report(alloc, text.as_slice());
+    let again = read_report(alloc, text);
     let ran_out = matches!(&answer, Err(ReportFault::Memory));
     harness.report_stateless(expected, ran_out, answer, again);
-    Ok(())
+}
+
+/// Runs the selected cases that write and read a page.
+fn run_page(harness: &mut Harness, page: &Page) {
+    if harness.is_selected("write_report") {
+        write_report_case(harness, page);
+    }
+    if harness.is_selected("read_report") {
+        let text = write_report(harness.alloc(), page);
+        if let Some(text) = harness.supply.keep(text) {
+            read_report_case(harness, text.as_slice());
+        }
+    }
+}
+
+/// Runs the selected cases with a page of the filled store.
+fn run_pages(harness: &mut Harness) {
+    if let Some(page) = some_page(&mut harness.supply) {
+        run_page(harness, &page);
+    }
 }
 
 /// Runs the selected cases of one card's text.
-pub fn run_cards(harness: &mut Harness) -> Result<(), Stop> {
+pub fn run_cards(harness: &mut Harness) {
     read_card_case(harness);
-    write_card_case(harness)
+    if harness.is_selected("write_card") {
+        let card = read_card(harness.alloc(), CARD.as_bytes());
+        if let Some(card) = harness.supply.keep(card) {
+            write_card_case(harness, &card);
+        }
+    }
 }
 
 /// Runs the selected cases of other texts.
-pub fn run_texts(harness: &mut Harness) -> Result<(), Stop> {
+pub fn run_texts(harness: &mut Harness) {
     read_rows_case(harness, "read_rows, of columns", COLUMNS);
     read_rows_case(harness, "read_rows, of cards", ROWS);
-    write_rows_case(harness, "write_rows, as columns", Form::Columns)?;
-    write_rows_case(harness, "write_rows, as cards", Form::Cards)?;
-    expand_case(harness)?;
-    write_report_case(harness)?;
-    read_report_case(harness)
+    write_rows_case(harness, "write_rows, as columns", Form::Columns);
+    write_rows_case(harness, "write_rows, as cards", Form::Cards);
+    expand_case(harness);
+    if harness.is_selected("write_report") || harness.is_selected("read_report") {
+        run_pages(harness);
+    }
 }

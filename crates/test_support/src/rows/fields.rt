@@ -1,6 +1,5 @@
 //! Encodes octets as a field of a row, and decodes them.
-use base_types::NoMemory;
-use std::alloc::Global;
+use crate::printout::Printout;
 
 /// The code point of the first picture of a control character, that of NUL.
 const PICTURES: u32 = 0x2400;
@@ -10,48 +9,36 @@ fn control_octet(picture: char) -> u8 {
     u8::try_from(u32::from(picture).saturating_sub(PICTURES)).unwrap_or(0)
 }
 
-/// Decodes the text, character by character, and appends it.
-fn push_plain(octets: &mut Vec<u8>, alloc: Global, text: &str) -> Result<(), NoMemory> {
+/// Decodes the text, character by character.
+fn add_plain(text: &str, octets: &mut Printout) {
     for c in text.chars() {
         match c {
-            '¶' => octets.extend_from_slice(b"\r\n")?,
-            '⊠' => octets.push(0xFF)?,
-            '␡' => octets.push(0x7F)?,
-            '\u{2400}'..='\u{241F}' => octets.push(control_octet(c))?,
-            c => {
-                let mut one = String::new(alloc);
-                one.push(c)?;
-                octets.extend_from_slice(one.as_bytes())?;
-            }
+            '¶' => octets.add("\r\n"),
+            '⊠' => octets.add_octet(0xFF),
+            '␡' => octets.add_octet(0x7F),
+            '\u{2400}'..='\u{241F}' => octets.add_octet(control_octet(c)),
+            c => octets.add_char(c),
         }
     }
-    Ok(())
 }
 
-/// Decodes a repetition, such as `3*ab`, and appends it.
-fn push_repeated(octets: &mut Vec<u8>, alloc: Global, repeated: &str) -> Result<(), NoMemory> {
+/// Decodes a repetition, such as `3*ab`.
+fn add_repeated(repeated: &str, octets: &mut Printout) {
     let (count, text) = repeated.split_once('*').unwrap_or(("1", repeated));
-    let mut once = Vec::new(alloc);
-    push_plain(&mut once, alloc, text)?;
+    let mut once = Printout::new(octets.alloc());
+    add_plain(text, &mut once);
     for _ in 0..count.parse::<u32>().unwrap_or(0) {
-        octets.extend_from_slice(once.as_slice())?;
+        octets.add_printout(&once);
     }
-    Ok(())
 }
 
 /// Decodes the field.
-pub(crate) fn decode_field(alloc: Global, field: &str) -> Result<Vec<u8>, NoMemory> {
-    let mut octets = Vec::new(alloc);
+pub(crate) fn decode_field(field: &str, octets: &mut Printout) {
     for part in field.split('«') {
-        match part.split_once('»') {
-            Some((repeated, rest)) => {
-                push_repeated(&mut octets, alloc, repeated)?;
-                push_plain(&mut octets, alloc, rest)?;
-            }
-            None => push_plain(&mut octets, alloc, part)?,
-        }
+        let (repeated, rest) = part.split_once('»').unwrap_or(("", part));
+        add_repeated(repeated, octets);
+        add_plain(rest, octets);
     }
-    Ok(octets)
 }
 
 /// The picture of a control character; any other character unchanged.
@@ -65,15 +52,12 @@ fn picture_of(c: char) -> char {
     }
 }
 
-/// Adds the octets as a field, up to 2,000 characters. What isn't UTF-8 becomes `\u{FFFD}`.
-pub(crate) fn push_field(
-    alloc: Global,
-    report: &mut String,
-    octets: &[u8],
-) -> Result<(), NoMemory> {
-    let text = String::from_utf8_lossy(alloc, octets)?;
-    for c in text.chars().take(2_000) {
-        report.push(picture_of(c))?;
+/// Prints the octets as a field, up to 2,000 characters. What isn't UTF-8 becomes `\u{FFFD}`.
+pub(crate) fn print_field(octets: &[u8], report: &mut Printout) {
+    let text = String::from_utf8_lossy(report.alloc(), octets);
+    if let Some(text) = report.supply.keep(text) {
+        for c in text.chars().take(2_000) {
+            report.add_char(picture_of(c));
+        }
     }
-    Ok(())
 }

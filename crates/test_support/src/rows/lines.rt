@@ -1,94 +1,60 @@
 //! Rows, and the report of those whose result isn't the expected one.
-use crate::rows::fields::{decode_field, push_field};
-use base_types::NoMemory;
+use crate::calls::run_call;
+use crate::printout::Printout;
+use crate::rows::fields::{decode_field, print_field};
 use std::alloc::Global;
-
-/// A row: the name of a call, its input and its expected result.
-#[derive(Drop)]
-struct Row {
-    call: String,
-    input: Vec<u8>,
-    expected: Vec<u8>,
-}
-
-/// Runs calls by name.
-pub trait TestCalls {
-    /// The result of the call. For an unknown name it is a text that no row expects.
-    fn run_call(&mut self, alloc: Global, call: &str, input: &[u8]) -> Result<Vec<u8>, NoMemory>;
-}
-
-/// The row with these fields.
-fn row_of(alloc: Global, call: &str, input: &str, expected: &str) -> Result<Row, NoMemory> {
-    let call = String::from_str(alloc, call)?;
-    let input = decode_field(alloc, input)?;
-    Ok(Row {
-        call,
-        input,
-        expected: decode_field(alloc, expected)?,
-    })
-}
 
 /// Reports the result of a call if it isn't the expected one.
 fn report_row(
-    alloc: Global,
-    row: &Row,
-    actual: &[u8],
-    report: &mut String,
-) -> Result<(), NoMemory> {
-    if actual == row.expected.as_slice() {
-        return Ok(());
+    call: &str,
+    input: &Printout,
+    expected: &Printout,
+    actual: &Printout,
+    report: &mut Printout,
+) {
+    if actual.as_slice() != expected.as_slice() {
+        report.add_all(&["** ", call, " "]);
+        print_field(input.as_slice(), report);
+        report.add(": ");
+        print_field(actual.as_slice(), report);
+        report.add("\n");
     }
-    report.push_str("** ")?;
-    report.push_str(row.call.as_str())?;
-    report.push(' ')?;
-    push_field(alloc, report, row.input.as_slice())?;
-    report.push_str(": ")?;
-    push_field(alloc, report, actual)?;
-    Ok(report.push('\n')?)
+    report.supply.note(input.result());
+    report.supply.note(expected.result());
+    report.supply.note(actual.result());
 }
 
-/// Runs the row's call, and reports its result if it isn't the expected one.
-fn run_row<T: TestCalls>(
-    alloc: Global,
-    calls: &mut T,
-    row: &Row,
-    report: &mut String,
-) -> Result<(), NoMemory> {
-    let actual = calls.run_call(alloc, row.call.as_str(), row.input.as_slice())?;
-    report_row(alloc, row, actual.as_slice(), report)
+/// Makes the row's call, and reports its result if it isn't the expected one.
+fn run_row(call: &str, input: &str, expected: &str, report: &mut Printout) {
+    let alloc = report.alloc();
+    let mut given = Printout::new(alloc);
+    let mut wanted = Printout::new(alloc);
+    let mut actual = Printout::new(alloc);
+    decode_field(input, &mut given);
+    decode_field(expected, &mut wanted);
+    run_call(call, given.as_slice(), &mut actual);
+    report_row(call, &given, &wanted, &actual, report);
 }
 
-/// Runs the row of the line. Returns whether it has one: an empty line and a comment have none.
-fn run_line<T: TestCalls>(
-    alloc: Global,
-    calls: &mut T,
-    line: &str,
-    report: &mut String,
-) -> Result<bool, NoMemory> {
-    if line.is_empty() || line.starts_with('#') {
-        return Ok(false);
-    }
+/// Runs the row of the line: a call, its input and its expected result.
+fn run_line(line: &str, report: &mut Printout) {
     let (call, fields) = line.split_once('\t').unwrap_or((line, ""));
     let (input, expected) = fields.split_once('\t').unwrap_or((fields, ""));
-    let row = row_of(alloc, call, input, expected)?;
-    run_row(alloc, calls, &row, report)?;
-    Ok(true)
+    run_row(call, input, expected, report);
 }
 
 /// Runs the rows of the list. Reports those whose result isn't the expected one, and then the
 /// number of rows.
-pub fn check_rows<T: TestCalls>(
-    alloc: Global,
-    calls: &mut T,
-    list: &str,
-) -> Result<String, NoMemory> {
-    let mut report = String::new(alloc);
+pub fn check_rows(alloc: Global, list: &str) -> Printout {
+    let mut report = Printout::new(alloc);
     let mut count: u64 = 0;
     for line in list.lines() {
-        if run_line(alloc, calls, line, &mut report)? {
+        if !line.is_empty() && !line.starts_with('#') {
+            run_line(line, &mut report);
             count = count.saturating_add(1);
         }
     }
-    report.push_str(format!(in alloc; "{count} rows\n")?.as_str())?;
-    Ok(report)
+    report.add_number(count);
+    report.add(" rows\n");
+    report
 }

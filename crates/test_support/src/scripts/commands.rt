@@ -1,165 +1,209 @@
 //! Parses commands from lines of words.
+use crate::printout::Printout;
+use crate::supply::Supply;
 use book_service::Command;
 use csv_cards::Form;
-use std::alloc::Global;
-use vcard_text::{Items, NoMemory, Text, unescape};
+use vcard_text::{Items, Text, unescape};
 
-/// The word at the index; empty after the last word.
-fn word<'a>(words: &[&'a str], place: usize) -> &'a str {
-    match words.get(place) {
-        Some(word) => *word,
-        None => "",
-    }
-}
+/// The words of a line, after its command. One that is left out is empty.
+type Words<'a> = [&'a str; 4];
 
-fn number(words: &[&str], place: usize) -> Option<u64> {
-    word(words, place).parse::<u64>().ok()
-}
-
-fn text_of(alloc: Global, words: &[&str], place: usize) -> Result<Text, NoMemory> {
-    Ok(Text::copy_of(alloc, word(words, place))?)
+fn number(word: &str) -> Option<u64> {
+    word.parse::<u64>().ok()
 }
 
 /// The octets of the word, unescaped.
-fn octets(alloc: Global, words: &[&str], place: usize) -> Result<Items<u8>, NoMemory> {
-    let text = unescape(alloc, word(words, place))?;
-    Ok(Items::from_vec(text.into_bytes()))
+fn octets(word: &str, supply: &mut Supply) -> Items<u8> {
+    let text = unescape(supply.alloc, word);
+    match supply.keep(text) {
+        Some(text) => Items::from_vec(text.into_bytes()),
+        None => Items::new(supply.alloc),
+    }
 }
 
-/// The book and the UID, the words after the first. (Texts are read in pairs, so that the functions
-/// here have few exits, and little to drop there.)
-fn book_and_uid(alloc: Global, words: &[&str]) -> Result<(Text, Text), NoMemory> {
-    let book = text_of(alloc, words, 1)?;
-    Ok((book, text_of(alloc, words, 2)?))
-}
-
-/// `get BOOK UID`
-fn get(alloc: Global, words: &[&str]) -> Result<Command, NoMemory> {
-    let (book, uid) = book_and_uid(alloc, words)?;
-    Ok(Command::Get { book, uid })
-}
-
-/// A put of the text.
-fn put_text(
-    alloc: Global,
-    words: &[&str],
-    expect: Option<u64>,
-    text: Items<u8>,
-) -> Result<Command, NoMemory> {
-    let (book, uid) = book_and_uid(alloc, words)?;
-    Ok(Command::Put {
-        book,
-        uid,
-        expect,
-        text,
-    })
+/// The octets of a card with the UID and the lines, which are unescaped.
+fn card_octets(uid: &str, lines: &str, supply: &mut Supply) -> Items<u8> {
+    let lines = octets(lines, supply);
+    let mut text = Printout::new(supply.alloc);
+    text.add_all(&["BEGIN:VCARD\r\nVERSION:4.0\r\nUID:", uid, "\r\n"]);
+    text.add_octets(lines.as_slice());
+    text.add("\r\nEND:VCARD\r\n");
+    supply.note(text.result());
+    Items::from_vec(text.into_octets())
 }
 
 /// `put BOOK UID EXPECT TEXT`
-fn put(alloc: Global, words: &[&str]) -> Result<Command, NoMemory> {
-    put_text(alloc, words, number(words, 3), octets(alloc, words, 4)?)
-}
-
-/// The text of a card with the UID and the lines.
-fn card_text(alloc: Global, uid: &str, lines: &str) -> Result<Items<u8>, NoMemory> {
-    let text = format!(in alloc;
-        "BEGIN:VCARD\r\nVERSION:4.0\r\nUID:{uid}\r\n{lines}\r\nEND:VCARD\r\n"
-    )?;
-    Ok(Items::from_vec(text.into_bytes()))
+fn put(words: Words<'_>, supply: &mut Supply) -> Command {
+    let [book, uid, expect, text] = words;
+    Command::Put {
+        book: supply.text(book),
+        uid: supply.text(uid),
+        expect: number(expect),
+        text: octets(text, supply),
+    }
 }
 
 /// `card BOOK UID LINES`: a put of a card with the UID and the lines.
-fn card(alloc: Global, words: &[&str]) -> Result<Command, NoMemory> {
-    let lines = unescape(alloc, word(words, 3))?;
-    let text = card_text(alloc, word(words, 2), lines.as_str());
-    drop(lines);
-    put_text(alloc, words, None, text?)
+fn card(words: Words<'_>, supply: &mut Supply) -> Command {
+    let [book, uid, lines, _] = words;
+    Command::Put {
+        book: supply.text(book),
+        uid: supply.text(uid),
+        expect: None,
+        text: card_octets(uid, lines, supply),
+    }
 }
 
 /// `remove BOOK UID EXPECT`
-fn remove(alloc: Global, words: &[&str]) -> Result<Command, NoMemory> {
-    let (book, uid) = book_and_uid(alloc, words)?;
-    let expect = number(words, 3);
-    Ok(Command::Remove { book, uid, expect })
+fn remove(words: Words<'_>, supply: &mut Supply) -> Command {
+    let [book, uid, expect, _] = words;
+    Command::Remove {
+        book: supply.text(book),
+        uid: supply.text(uid),
+        expect: number(expect),
+    }
 }
 
 /// `move BOOK UID TO EXPECT`
-fn move_card(alloc: Global, words: &[&str]) -> Result<Command, NoMemory> {
-    let to = text_of(alloc, words, 3)?;
-    let (book, uid) = book_and_uid(alloc, words)?;
-    let expect = number(words, 4);
-    Ok(Command::MoveCard {
-        book,
-        uid,
-        to,
-        expect,
-    })
+fn move_card(words: Words<'_>, supply: &mut Supply) -> Command {
+    let [book, uid, to, expect] = words;
+    Command::MoveCard {
+        book: supply.text(book),
+        uid: supply.text(uid),
+        to: supply.text(to),
+        expect: number(expect),
+    }
 }
 
 /// `report BOOK TOKEN LIMIT`
-fn report(alloc: Global, words: &[&str]) -> Result<Command, NoMemory> {
-    let token = match word(words, 2) {
-        "-" => "",
-        token => token,
-    };
-    Ok(Command::Report {
-        book: text_of(alloc, words, 1)?,
-        token: Text::copy_of(alloc, token)?,
-        limit: number(words, 3),
-    })
+fn report(words: Words<'_>, supply: &mut Supply) -> Command {
+    let [book, token, limit, _] = words;
+    Command::Report {
+        book: supply.text(book),
+        token: supply.text(if token == "-" { "" } else { token }),
+        limit: number(limit),
+    }
 }
 
 /// `import BOOK KEY BODY`
-fn import(alloc: Global, words: &[&str]) -> Result<Command, NoMemory> {
-    let body = octets(alloc, words, 3)?;
-    let (book, key) = book_and_uid(alloc, words)?;
-    Ok(Command::Import { book, key, body })
+fn import(words: Words<'_>, supply: &mut Supply) -> Command {
+    let [book, key, body, _] = words;
+    Command::Import {
+        book: supply.text(book),
+        key: supply.text(key),
+        body: octets(body, supply),
+    }
 }
 
-/// `forget BOOK UPTO`
-fn forget(alloc: Global, words: &[&str]) -> Result<Command, NoMemory> {
-    Ok(Command::Forget {
-        book: text_of(alloc, words, 1)?,
-        upto: number(words, 2).unwrap_or(0),
-    })
-}
-
-/// `export BOOK FORM`, where the form is `cards`, or `columns` for any other word.
-fn export(alloc: Global, words: &[&str]) -> Result<Command, NoMemory> {
-    let book = text_of(alloc, words, 1)?;
-    let form = match word(words, 2) {
-        "cards" => Form::Cards,
-        _ => Form::Columns,
-    };
-    Ok(Command::Export { book, form })
+/// `get BOOK UID`
+fn get(book: Text, uid: Text) -> Command {
+    Command::Get { book, uid }
 }
 
 /// `people BOOK UID`
-fn people(alloc: Global, words: &[&str]) -> Result<Command, NoMemory> {
-    let (book, uid) = book_and_uid(alloc, words)?;
-    Ok(Command::People { book, uid })
+fn people(book: Text, uid: Text) -> Command {
+    Command::People { book, uid }
 }
 
-/// `create BOOK` and `tally BOOK`; any other line is `books`.
-fn book_command(alloc: Global, words: &[&str]) -> Result<Command, NoMemory> {
-    let book = text_of(alloc, words, 1)?;
-    match word(words, 0) {
-        "create" => Ok(Command::CreateBook { book }),
-        "tally" => Ok(Command::TallyOf { book }),
-        _ => Ok(Command::Books),
+/// `forget BOOK UPTO`
+fn forget(book: Text, upto: Option<u64>) -> Command {
+    let upto = upto.unwrap_or(0);
+    Command::Forget { book, upto }
+}
+
+/// `export BOOK FORM`, where the form is `cards`, or `columns` for any other word.
+fn export(book: Text, form: &str) -> Command {
+    let form = if form == "cards" {
+        Form::Cards
+    } else {
+        Form::Columns
+    };
+    Command::Export { book, form }
+}
+
+/// What a line is read as.
+#[derive(Clone, Copy)]
+enum Kind {
+    Create,
+    Tally,
+    Books,
+    Get,
+    People,
+    Put,
+    Card,
+    Remove,
+    Move,
+    Report,
+    Import,
+    Forget,
+    Export,
+}
+
+const KINDS: [(&str, Kind); 12] = [
+    ("create", Kind::Create),
+    ("tally", Kind::Tally),
+    ("get", Kind::Get),
+    ("people", Kind::People),
+    ("put", Kind::Put),
+    ("card", Kind::Card),
+    ("remove", Kind::Remove),
+    ("move", Kind::Move),
+    ("report", Kind::Report),
+    ("import", Kind::Import),
+    ("forget", Kind::Forget),
+    ("export", Kind::Export),
+];
+
+/// The kind of that name; `Books` for any other word.
+fn kind_named(name: &str) -> Kind {
+    for (known, kind) in KINDS {
+        if known == name {
+            return kind;
+        }
+    }
+    Kind::Books
+}
+
+/// The words, of which the last may have spaces: that is the fourth or, of an import and a card,
+/// the third.
+fn words_in(line: &str, kind: Kind) -> Words<'_> {
+    let most = if matches!(kind, Kind::Import | Kind::Card) {
+        3
+    } else {
+        4
+    };
+    let mut words = line.splitn(most, ' ');
+    let first = words.next().unwrap_or_default();
+    let second = words.next().unwrap_or_default();
+    let third = words.next().unwrap_or_default();
+    [first, second, third, words.next().unwrap_or_default()]
+}
+
+/// A command that has no more than a book and a UID, a number or a form.
+fn short_command(kind: Kind, first: &str, second: &str, supply: &mut Supply) -> Command {
+    let book = supply.text(first);
+    match kind {
+        Kind::Create => Command::CreateBook { book },
+        Kind::Tally => Command::TallyOf { book },
+        Kind::Get => get(book, supply.text(second)),
+        Kind::People => people(book, supply.text(second)),
+        Kind::Forget => forget(book, number(second)),
+        Kind::Export => export(book, second),
+        _ => Command::Books,
     }
 }
 
-/// The words of a line, separated by spaces. The last one, a card's text or a body, may have
-/// spaces.
-fn words_in(alloc: Global, line: &str) -> Result<Vec<&str>, NoMemory> {
-    let has_four = line.starts_with("import ") || line.starts_with("card ");
-    let most = if has_four { 4 } else { 5 };
-    let mut words = Vec::new(alloc);
-    for word in line.splitn(most, ' ') {
-        words.push(word)?;
+/// The command of that kind with these words.
+fn command_of(kind: Kind, words: Words<'_>, supply: &mut Supply) -> Command {
+    match kind {
+        Kind::Put => put(words, supply),
+        Kind::Card => card(words, supply),
+        Kind::Remove => remove(words, supply),
+        Kind::Move => move_card(words, supply),
+        Kind::Report => report(words, supply),
+        Kind::Import => import(words, supply),
+        short => short_command(short, words[0], words[1], supply),
     }
-    Ok(words)
 }
 
 /// Parses a command, which is one of
@@ -174,20 +218,8 @@ fn words_in(alloc: Global, line: &str) -> Result<Vec<&str>, NoMemory> {
 /// Any other line is read as `books`. A word that isn't a number, such as `-`, is no EXPECT and no
 /// LIMIT, and 0 as UPTO. Further words are ignored. A token `-` is the empty text. A text, lines
 /// and a body may have spaces, and `\n` in them is a line feed.
-pub fn parse_command(alloc: Global, line: &str) -> Result<Command, NoMemory> {
-    let words = words_in(alloc, line)?;
-    let words = words.as_slice();
-    match word(words, 0) {
-        "get" => get(alloc, words),
-        "put" => put(alloc, words),
-        "card" => card(alloc, words),
-        "remove" => remove(alloc, words),
-        "move" => move_card(alloc, words),
-        "report" => report(alloc, words),
-        "import" => import(alloc, words),
-        "forget" => forget(alloc, words),
-        "export" => export(alloc, words),
-        "people" => people(alloc, words),
-        _ => book_command(alloc, words),
-    }
+pub fn parse_command(line: &str, supply: &mut Supply) -> Command {
+    let (name, rest) = line.split_once(' ').unwrap_or((line, ""));
+    let kind = kind_named(name);
+    command_of(kind, words_in(rest, kind), supply)
 }

@@ -1,5 +1,6 @@
 //! Runs a list of commands over a store.
 
+use crate::printout::Printout;
 use crate::scripts::commands::parse_command;
 use crate::scripts::replies::format_reply;
 use base_types::NoMemory;
@@ -39,38 +40,17 @@ pub fn mirror_of<S: BookStore>(
     mirror(alloc, store, book, limit, pages)
 }
 
-/// The store's reply to the command of the line. (`Command` and `Reply` are large types. They are
-/// dropped by calls, so that the prover need not split on their variants at each exit.)
-fn reply_to_line<S: BookStore>(
-    alloc: Global,
-    store: &mut S,
-    line: &str,
-) -> Result<String, NoMemory> {
-    let command = parse_command(alloc, line)?;
-    let reply = reply_to(alloc, store, &command);
-    drop(command);
-    let output = format_reply(alloc, &reply);
-    drop(reply);
-    output
+/// Performs the command, and prints the reply.
+pub fn print_reply_to<S: BookStore>(store: &mut S, command: &Command, out: &mut Printout) {
+    let reply = reply_to(out.alloc(), store, command);
+    format_reply(&reply, out);
 }
 
-/// Adds the line and a line feed.
-fn push_line(output: &mut String, line: String) -> Result<(), NoMemory> {
-    let mut line = line;
-    line.push_str("\n")?;
-    output.push_str(line.as_str())?;
-    Ok(())
-}
-
-/// Performs the commands of the script's lines in turn, and returns the replies, one a line.
-pub fn run_script<S: BookStore>(
-    alloc: Global,
-    store: &mut S,
-    script: &str,
-) -> Result<String, NoMemory> {
-    let mut output = String::new(alloc);
+/// Performs the commands of the script's lines in turn, and prints the replies, one a line.
+pub fn run_script<S: BookStore>(store: &mut S, script: &str, out: &mut Printout) {
     for line in script.lines() {
-        push_line(&mut output, reply_to_line(alloc, store, line)?)?;
+        let command = parse_command(line, &mut out.supply);
+        print_reply_to(store, &command, out);
+        out.add("\n");
     }
-    Ok(output)
 }

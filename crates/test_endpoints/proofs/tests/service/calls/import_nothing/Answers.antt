@@ -1,7 +1,0 @@
-use Rattle.std.specs.List.{IsDistinct}
-use Rattle.test_endpoints.proofs.tests.service.calls.import_nothing.Goals as goal
-
--- an empty list has no two cards with one UID
-pub import-requires : goal.import-requires
-unfolding IsDistinct
-import-requires g = record { distinct = tt }

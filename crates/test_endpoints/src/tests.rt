@@ -1,2 +1,0 @@
-mod endpoints;
-mod service;
